@@ -1,0 +1,53 @@
+-- Hex digits, found by subtraction modulo 256.
+use mathlib.Core.Path.{_≡_, refl}
+use mathlib.Core.Bool.{Bool, true, false, cond}
+use Prim.Native.Nat.{ℕ, zero, suc, _+_, _-_, _≤_, _<_, _%_}
+use native.Mathlib.Omega.{arith}
+use borrow.Author.Tests.{leb-true, le-leb, lt-leb}
+use lib.Dec.{leb}
+use Rattle.text.specs.Byte.{within, isDigit, hexValue}
+use Rattle.text.proofs.Tests.{and-left, and-right}
+
+within-true : (lo hi b : ℕ) → lo ≤ b → b ≤ hi → within lo hi b ≡ true
+within-true lo hi b h k = rw (le-leb lo b h, le-leb b hi k)
+
+within-below : (lo hi b : ℕ) → b < lo → within lo hi b ≡ false
+within-below lo hi b h = rw (lt-leb lo b h)
+
+within-above : (lo hi b : ℕ) → lo ≤ b → hi < b → within lo hi b ≡ false
+within-above lo hi b h k = rw (le-leb lo b h, lt-leb b hi k)
+
+-- d and l are b - 48 and b - 97 modulo 256
+module _ (b d : ℕ) (byte : b < 256) (small : d < 256) (wraps : (d + 48) % 256 ≡ b) where
+  pub digit-value : d < 10 → d ≡ hexValue b
+  digit-value h = let e : b ≡ d + 48 = omega arith in rw (within-true 48 57 b (omega arith) (omega arith)) (omega arith)
+
+  no-digit : 10 ≤ d → isDigit b ≡ false
+  no-digit h = go (48 - b) refl
+    where
+      go : (n : ℕ) → 48 - b ≡ n → isDigit b ≡ false
+      go zero e = within-above 48 57 b (omega arith) (omega arith)
+      go (suc n) e = within-below 48 57 b (omega arith)
+
+  module _ (l : ℕ) (little : l < 256) (turns : (l + 97) % 256 ≡ b) (h : 10 ≤ d) where
+    pub letter-value : l < 6 → l + 10 ≡ hexValue b
+    letter-value k = rw (no-digit h, within-true 97 102 b (omega arith) (omega arith)) (omega arith)
+
+    no-letter : 6 ≤ l → within 97 102 b ≡ false
+    no-letter k = go (97 - b) refl
+      where
+        go : (n : ℕ) → 97 - b ≡ n → within 97 102 b ≡ false
+        go zero e = within-above 97 102 b (omega arith) (omega arith)
+        go (suc n) e = within-below 97 102 b (omega arith)
+
+    pub no-value : 6 ≤ l → 16 ≡ hexValue b
+    no-value k = rw (no-digit h, no-letter k)
+
+-- a byte that is no digit has the value 16, and a digit less
+hex-cases : (b : ℕ) (t u : Bool) → isDigit b ≡ t → within 97 102 b ≡ u → cond t (b - 48) (cond u (b - 87) 16) ≤ 16
+hex-cases b true u e f = let h : b ≤ 57 = leb-true _ _ (and-right (leb 48 b) _ e) in omega arith
+hex-cases b false true e f = let h : b ≤ 102 = leb-true _ _ (and-right (leb 97 b) _ f) in omega arith
+hex-cases b false false e f = omega arith
+
+pub hexValue-small : (b : ℕ) → hexValue b ≤ 16
+hexValue-small b = hex-cases b (isDigit b) (within 97 102 b) refl refl

@@ -1,0 +1,5 @@
+pub mod Tests
+pub mod Bytes
+pub mod Scans
+pub mod Frames
+pub mod Filling

@@ -1,0 +1,58 @@
+-- Reading a frame: from a position on, a value and where it ends; or the frame is too short.
+use Prim.Native.Nat.{ℕ, zero, suc, _+_, _-_}
+use mathlib.Core.List.{List, [], _∷_}
+use lib.ListN.{length, take, drop, getD}
+use lib.Dec.{leb, ltb}
+use Rattle.text.specs.Test.{if_then_else_}
+use Rattle.text.specs.String.{Str}
+use Rattle.text.specs.declared.frame.End.{End}
+use Rattle.text.specs.declared.frame.End.the-variants.{At, Short}
+
+pub data Parsed (A : Type 0) : Type 0 where
+  got : A → ℕ → Parsed A
+  short : Parsed A
+
+-- the frame, and a position in it
+abbrev pub Reader : Type 0 → Type 0
+Reader A = List ℕ → ℕ → Parsed A
+
+abbrev pub andThen : {A B : Type 0} → Parsed A → (A → ℕ → Parsed B) → Parsed B
+andThen (got a p) k = k a p
+andThen short k = short
+
+infixl 10 _>>=_
+unfoldable pub _>>=_ : {A B : Type 0} → Reader A → (A → Reader B) → Reader B
+_>>=_ r k f at = andThen (r f at) (λ a p. k a f p)
+
+unfoldable pub ret : {A : Type 0} → A → Reader A
+ret a f at = got a at
+
+unfoldable pub byte : Reader ℕ
+byte f at = if ltb at (length f) then got (getD f at 0) (at + 1) else short
+
+-- the bytes of f from `from` up to, not including, `to`
+abbrev pub part : List ℕ → ℕ → ℕ → List ℕ
+part f from to = take (to - from) (drop from f)
+
+-- the next n bytes
+unfoldable pub run : ℕ → Reader Str
+run n f at = if leb n (length f - at) then got (part f at (at + n)) (at + n) else short
+
+-- "S is one length byte, then that many bytes"
+unfoldable pub string : Reader Str
+string = do
+  n ← byte
+  run n
+
+-- n readings, one after another
+unfoldable pub times : {A : Type 0} → ℕ → Reader A → Reader (List A)
+times zero r = ret []
+times (suc n) r = do
+  x ← r
+  xs ← times n r
+  ret (x ∷ xs)
+
+-- where a reading ends
+unfoldable pub endOf : {A : Type 0} → Parsed A → End
+endOf (got a t) = At t
+endOf short = Short

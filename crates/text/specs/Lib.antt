@@ -1,0 +1,6 @@
+pub mod Test
+pub mod Byte
+pub mod String
+pub mod Frame
+pub mod Fill
+pub mod Refusal

@@ -1,0 +1,4 @@
+pub mod byte;
+pub mod fill;
+pub mod frame;
+pub mod string;
