@@ -9,9 +9,9 @@ use lib.Dec.{ltb, leb}
 use lib.ListN.{length, take, drop, getD}
 use Rattle.text.specs.Test.{if_then_else_}
 use Rattle.text.specs.String.{Str}
-use Rattle.text.specs.Frame.{Parsed, got, short, andThen, Reader, _>>=_, ret, byte, part, run, string, times, endOf}
+use Rattle.text.specs.Frame.{Parsed, got, unread, andThen, Reader, _>>=_, ret, byte, part, run, string, times, endOf}
 use Rattle.text.specs.declared.frame.End.{End}
-use Rattle.text.specs.declared.frame.End.the-variants.{At, Short}
+use Rattle.text.specs.declared.frame.End.the-variants.{At, Unread}
 use Rattle.text.proofs.Tests.{by}
 
 module _ (f : List ℕ) (at : ℕ) where
@@ -19,27 +19,27 @@ module _ (f : List ℕ) (at : ℕ) where
   unfolding byte if_then_else_
   byte-got h = rw (lt-ltb _ _ h)
 
-  pub byte-short : length f ≤ at → byte f at ≡ short
+  pub byte-unread : length f ≤ at → byte f at ≡ unread
   unfolding byte if_then_else_
-  byte-short h = rw (le-ltb _ _ h)
+  byte-unread h = rw (le-ltb _ _ h)
 
   pub string-got : at < length f → getD f at 0 ≤ length f - (at + 1)
       → string f at ≡ got (part f (at + 1) (at + 1 + getD f at 0)) (at + 1 + getD f at 0)
   unfolding string _>>=_ run if_then_else_
   string-got h k = rw (byte-got h, le-leb _ _ k)
 
-  pub string-none : length f ≤ at → string f at ≡ short
+  pub string-none : length f ≤ at → string f at ≡ unread
   unfolding string _>>=_
-  string-none h = rw (byte-short h)
+  string-none h = rw (byte-unread h)
 
-  pub string-short : at < length f → length f - (at + 1) < getD f at 0 → string f at ≡ short
+  pub string-unread : at < length f → length f - (at + 1) < getD f at 0 → string f at ≡ unread
   unfolding string _>>=_ run if_then_else_
-  string-short h k = rw (byte-got h, lt-leb _ _ k)
+  string-unread h k = rw (byte-got h, lt-leb _ _ k)
 
 -- what is known of a string that was read
 abbrev Told : List ℕ → ℕ → Parsed Str → Type 0
 Told f at (got s t) = (s ≡ part f (at + 1) t) × (at + 1 ≤ t) × (t ≤ length f)
-Told f at short = Unit {0}
+Told f at unread = Unit {0}
 
 told : (f : List ℕ) (at : ℕ) → Told f at (string f at)
 told f at =
@@ -47,25 +47,25 @@ told f at =
     (λ u. let a : at < length f = ltb-true _ _ u in
     by (leb (getD f at 0) (length f - (at + 1)))
     (λ v. let b : getD f at 0 ≤ length f - (at + 1) = leb-true _ _ v in rw (string-got f at a b) (refl, omega arith, omega arith))
-    (λ v. rw (string-short f at a (leb-false _ _ v)) tt))
+    (λ v. rw (string-unread f at a (leb-false _ _ v)) tt))
     (λ u. rw (string-none f at (ltb-false _ _ u)) tt)
 
 ended : (f : List ℕ) (at : ℕ) (x : Parsed Str) (t : ℕ) → At t ≡ endOf x → Told f at x → (x ≡ got (part f (at + 1) t) t) × (at + 1 ≤ t) × (t ≤ length f)
 unfolding endOf
 ended f at (got s e) t g h = let i : t ≡ e = cc in rw i (ap (λ (z : Str). got z e) (h .0), h .1, h .2)
-ended f at short t g h = let x : _≡_ {A = ℕ} 0 1 = cc in absurd (omega arith)
+ended f at unread t g h = let x : _≡_ {A = ℕ} 0 1 = cc in absurd (omega arith)
 
-missed : {A : Type 0} (x : Parsed A) → Short ≡ endOf x → x ≡ short
+missed : {A : Type 0} (x : Parsed A) → Unread ≡ endOf x → x ≡ unread
 unfolding endOf
 missed (got a t) g = let x : _≡_ {A = ℕ} 0 1 = cc in absurd (omega arith)
-missed short g = refl
+missed unread g = refl
 
 -- what an answer r of string_end tells
 module _ (f : List ℕ) (at : ℕ) (r : End) (e : r ≡ endOf (string f at)) where
   pub string-ends : (t : ℕ) → r ≡ At t → (string f at ≡ got (part f (at + 1) t) t) × (at + 1 ≤ t) × (t ≤ length f)
   string-ends t g = ended f at (string f at) t (sym g ∙ e) (told f at)
 
-  pub string-misses : r ≡ Short → string f at ≡ short
+  pub string-misses : r ≡ Unread → string f at ≡ unread
   string-misses g = missed (string f at) (sym g ∙ e)
 
 -- n readings, the first of which is known
@@ -75,10 +75,10 @@ module _ {A : Type 0} (r : Reader A) (f : List ℕ) (p : ℕ) where
   times-turn zero a q z g = absurd (omega arith)
   times-turn (suc n) a q z g = let i : suc n - 1 ≡ n = omega arith in rw (g, i)
 
-  pub times-short : (n : ℕ) → 0 < n → r f p ≡ short → times n r f p ≡ short
+  pub times-unread : (n : ℕ) → 0 < n → r f p ≡ unread → times n r f p ≡ unread
   unfolding times _>>=_
-  times-short zero z g = absurd (omega arith)
-  times-short (suc n) z g = rw g
+  times-unread zero z g = absurd (omega arith)
+  times-unread (suc n) z g = rw g
 
   pub times-done : (n : ℕ) → n ≤ 0 → times n r f p ≡ got [] p
   unfolding times ret

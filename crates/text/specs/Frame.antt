@@ -1,4 +1,4 @@
--- Reading a frame: from a position on, a value and where it ends; or the frame is too short.
+-- Reading: from a position of the bytes on, a value and where it ends; or the bytes do not read so.
 use Prim.Native.Nat.{ℕ, zero, suc, _+_, _-_}
 use mathlib.Core.List.{List, [], _∷_}
 use lib.ListN.{length, take, drop, getD}
@@ -6,19 +6,19 @@ use lib.Dec.{leb, ltb}
 use Rattle.text.specs.Test.{if_then_else_}
 use Rattle.text.specs.String.{Str}
 use Rattle.text.specs.declared.frame.End.{End}
-use Rattle.text.specs.declared.frame.End.the-variants.{At, Short}
+use Rattle.text.specs.declared.frame.End.the-variants.{At, Unread}
 
 pub data Parsed (A : Type 0) : Type 0 where
   got : A → ℕ → Parsed A
-  short : Parsed A
+  unread : Parsed A
 
--- the frame, and a position in it
+-- of the bytes, and a position in them
 abbrev pub Reader : Type 0 → Type 0
 Reader A = List ℕ → ℕ → Parsed A
 
 abbrev pub andThen : {A B : Type 0} → Parsed A → (A → ℕ → Parsed B) → Parsed B
 andThen (got a p) k = k a p
-andThen short k = short
+andThen unread k = unread
 
 infixl 10 _>>=_
 unfoldable pub _>>=_ : {A B : Type 0} → Reader A → (A → Reader B) → Reader B
@@ -28,7 +28,7 @@ unfoldable pub ret : {A : Type 0} → A → Reader A
 ret a f at = got a at
 
 unfoldable pub byte : Reader ℕ
-byte f at = if ltb at (length f) then got (getD f at 0) (at + 1) else short
+byte f at = if ltb at (length f) then got (getD f at 0) (at + 1) else unread
 
 -- the bytes of f from `from` up to, not including, `to`
 abbrev pub part : List ℕ → ℕ → ℕ → List ℕ
@@ -36,7 +36,7 @@ part f from to = take (to - from) (drop from f)
 
 -- the next n bytes
 unfoldable pub run : ℕ → Reader Str
-run n f at = if leb n (length f - at) then got (part f at (at + n)) (at + n) else short
+run n f at = if leb n (length f - at) then got (part f at (at + n)) (at + n) else unread
 
 -- "S is one length byte, then that many bytes"
 unfoldable pub string : Reader Str
@@ -55,4 +55,4 @@ times (suc n) r = do
 -- where a reading ends
 unfoldable pub endOf : {A : Type 0} → Parsed A → End
 endOf (got a t) = At t
-endOf short = Short
+endOf unread = Unread

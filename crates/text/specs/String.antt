@@ -3,7 +3,7 @@ use Prim.Native.Nat.{ℕ}
 use Prim.Native.Char.{code}
 use Prim.Native.String.{String, [] as []ˢ, _∷_ as _∷ˢ_}
 use mathlib.Core.Bool.{Bool, true, false}
-use mathlib.Core.List.{List, [], _∷_}
+use mathlib.Core.List.{List, [], _∷_, _++_}
 use lib.Dec.{eqb, ltb}
 use Rattle.text.specs.Test.{_and_, _or_}
 
@@ -14,6 +14,11 @@ Str = List ℕ
 abbrev pub bytes : String → Str
 bytes []ˢ = []
 bytes (c ∷ˢ s) = code c ∷ bytes s
+
+-- what f gives for each, one after another
+unfoldable pub joined : {A : Type 0} → (A → Str) → List A → Str
+joined f [] = []
+joined f (x ∷ xs) = f x ++ joined f xs
 
 -- "Strings are compared byte by byte."
 unfoldable pub same : Str → Str → Bool

@@ -5,7 +5,7 @@ ghost use Rattle.text.specs.Frame.{string, endOf};
 // Where what was read ends, which is where reading goes on; or the frame is too short.
 pub enum End {
     At(usize),
-    Short,
+    Unread,
 }
 
 // The string whose length byte stands at `at`: its bytes start at at + 1.
@@ -18,7 +18,7 @@ pub fn string_end(f: &[u8], at: usize) -> End
         if n <= f.len() - start {
             return End::At(start + n);
         }
-        return End::Short;
+        return End::Unread;
     }
-    End::Short
+    End::Unread
 }

@@ -2,7 +2,7 @@
 use borrow.Author.Needs.{needs}
 use native.Mathlib.Omega.{arith}
 use Rattle.text.specs.Frame.{endOf}
-use Rattle.text.proofs.Frames.{string-got, string-short, string-none}
+use Rattle.text.proofs.Frames.{string-got, string-unread, string-none}
 use Rattle.text.proofs.frame.string_end.Statement.{statement}
 use Rattle.text.proofs.frame.string_end.Tie as tie
 
@@ -38,7 +38,7 @@ returns-2 c =
     let at-if2 = c .if2 in
     let at-if1 = c .before .before .if1 in
     let at-start = c .before .before .before in
-    rw (string-short (at-start .args .f .now) (at-start .args .at) (at-if1 .taken) (at-if2 .left))
+    rw (string-unread (at-start .args .f .now) (at-start .args .at) (at-if1 .taken) (at-if2 .left))
 
 returns-3 : tie.Need-returns-3
 unfolding endOf
