@@ -1,0 +1,45 @@
+-- Path bytes: how a path is read from a frame, and the bytes that stand for it.
+use Prim.Native.Nat.{ℕ}
+use mathlib.Core.List.{List, _∷_, _++_}
+use lib.ListN.{length}
+use Rattle.text.specs.String.{Str, joined}
+use Rattle.text.specs.Frame.{Reader, _>>=_, ret, byte, string, times}
+use Rattle.path.specs.Path.{Key, Elem, Path}
+
+-- ---- reading
+
+-- "S name, S value"
+unfoldable pub key : Reader Key
+key = do
+  name ← string
+  value ← string
+  ret (record { name = name; value = value })
+
+-- "S name, a count of keys, and for each key .."
+unfoldable pub element : Reader Elem
+element = do
+  name ← string
+  count ← byte
+  keys ← times count key
+  ret (record { name = name; keys = keys })
+
+-- "A path is a count of elements, then for each: .."
+unfoldable pub path : Reader Path
+path = do
+  count ← byte
+  times count element
+
+-- ---- writing
+
+-- "S is one length byte, then that many bytes"
+unfoldable pub stringBytes : Str → Str
+stringBytes s = length s ∷ s
+
+unfoldable pub keyBytes : Key → Str
+keyBytes k = stringBytes (k .name) ++ stringBytes (k .value)
+
+unfoldable pub elemBytes : Elem → Str
+elemBytes e = stringBytes (e .name) ++ length (e .keys) ∷ joined keyBytes (e .keys)
+
+unfoldable pub pathBytes : Path → Str
+pathBytes p = length p ∷ joined elemBytes p

@@ -1,0 +1,86 @@
+-- What a path may not hold: a predicate for each of the refusal numbers 5 to 8.
+use Prim.Native.Nat.{ℕ}
+use mathlib.Core.Bool.{Bool, _||_, not}
+use mathlib.Core.List.{List}
+use lib.ListN.{length}
+use lib.Dec.{ltb, eqb}
+use Rattle.text.specs.Test.{_and_, _or_, any, twice}
+use Rattle.text.specs.Byte.{isName, isPrint, isStar}
+use Rattle.text.specs.String.{Str, bytes, same}
+use Rattle.text.specs.Refusal.{_when_else_, clear}
+use Rattle.path.specs.Path.{Key, Elem, Path}
+
+-- ---- 5: "a limit passed, or an empty string that may not be"
+
+-- "other strings 64; only origin may be empty"
+unfoldable pub unsized : Str → Bool
+unsized s = eqb (length s) 0 or ltb 64 (length s)
+
+unfoldable pub keyOver : Key → Bool
+keyOver k = unsized (k .name) or unsized (k .value)
+
+-- "4 keys an element"
+unfoldable pub elemOver : Elem → Bool
+elemOver e = unsized (e .name) or ltb 4 (length (e .keys)) or any keyOver (e .keys)
+
+-- "16 elements"
+unfoldable pub overLimit : Path → Bool
+overLimit p = ltb 16 (length p) or any elemOver p
+
+-- ---- 6: "a byte outside its set (an * in an element or key name is 7)"
+
+-- a byte outside a name's set or, for a value, outside 0x20 to 0x7E
+unfoldable pub outsideName : ℕ → Bool
+outsideName b = not (isName b || isStar b)
+
+unfoldable pub outsideValue : ℕ → Bool
+outsideValue b = not (isPrint b)
+
+unfoldable pub keyStray : Key → Bool
+keyStray k = any outsideName (k .name) or any outsideValue (k .value)
+
+unfoldable pub elemStray : Elem → Bool
+elemStray e = any outsideName (e .name) or any keyStray (e .keys)
+
+unfoldable pub strayByte : Path → Bool
+strayByte p = any elemStray p
+
+-- ---- 7: "wildcard misplaced, or `...`"
+
+abbrev pub starred : Str → Bool
+starred s = any isStar s
+
+-- "A value that is exactly `*` is a wildcard; any other value holds no `*`."
+unfoldable pub halfWild : Str → Bool
+halfWild s = starred s and not (same s (bytes "*"))
+
+unfoldable pub keyMisplaced : Key → Bool
+keyMisplaced k = starred (k .name) or halfWild (k .value)
+
+-- "An element named `...` is refused."
+unfoldable pub elemMisplaced : Elem → Bool
+elemMisplaced e = (starred (e .name) or same (e .name) (bytes "...")) or any keyMisplaced (e .keys)
+
+unfoldable pub misplaced : Path → Bool
+misplaced p = any elemMisplaced p
+
+-- ---- 8: "key in an element twice"
+
+unfoldable pub sameName : Key → Key → Bool
+sameName j k = same (j .name) (k .name)
+
+unfoldable pub keyTwice : Path → Bool
+keyTwice p = any (λ (e : Elem). twice sameName (e .keys)) p
+
+-- ---- the smallest of them, and none
+
+-- the smallest of 5 to 8 that holds
+unfoldable pub grade : Bool → Bool → Bool → Bool → ℕ
+grade five six seven eight = 5 when five else 6 when six else 7 when seven else 8 when eight else clear
+
+unfoldable pub pathRefusal : Path → ℕ
+pathRefusal p = grade (overLimit p) (strayByte p) (misplaced p) (keyTwice p)
+
+-- a path that no rule table refuses
+unfoldable pub goodPath : Path → Bool
+goodPath p = not (overLimit p or strayByte p or misplaced p or keyTwice p)

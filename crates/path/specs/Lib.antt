@@ -1,0 +1,4 @@
+pub mod Path
+pub mod Bytes
+pub mod Faults
+pub mod Walk

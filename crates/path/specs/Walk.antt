@@ -1,0 +1,60 @@
+-- The answers of the programs that walk over path bytes, said of what is read there.
+use Prim.Native.Nat.{ℕ}
+use mathlib.Core.Bool.{Bool, true, false, _||_}
+use mathlib.Core.List.{List}
+use lib.ListN.{length}
+use lib.Dec.{eqb, ltb}
+use Rattle.text.specs.Test.{_and_, _or_, any, twice}
+use Rattle.text.specs.Byte.{isStar}
+use Rattle.text.specs.String.{Str, bytes, same}
+use Rattle.text.specs.Frame.{Parsed, got, unread}
+use Rattle.path.specs.Path.{Key, Elem, Path}
+use Rattle.path.specs.Bytes.{path}
+use Rattle.path.specs.Faults.{unsized, keyOver, elemOver, overLimit, outsideName, outsideValue, keyStray, elemStray, starred, halfWild, keyMisplaced, elemMisplaced, sameName, grade, pathRefusal, goodPath}
+use Rattle.path.specs.declared.frame.Walk.{Walk}
+use Rattle.path.specs.declared.frame.Walk.the-variants.{To, Unread}
+
+abbrev pub unsizedBy : ℕ → Bool
+unsizedBy n = eqb n 0 || ltb 64 n
+
+-- the smallest number that each part of a path gets, or `clear`
+unfoldable pub nameGrade : Str → ℕ
+nameGrade s = grade (unsized s) (any outsideName s) (starred s) false
+
+unfoldable pub elemNameGrade : Str → ℕ
+elemNameGrade s = grade (unsized s) (any outsideName s) (starred s or same s (bytes "...")) false
+
+unfoldable pub valueGrade : Str → ℕ
+valueGrade s = grade (unsized s) (any outsideValue s) (halfWild s) false
+
+-- `again`: a later key of the element has the name
+unfoldable pub keyGrade : Str → Str → Bool → ℕ
+keyGrade name value again =
+    grade (unsized name or unsized value) (any outsideName name or any outsideValue value) (starred name or halfWild value) again
+
+unfoldable pub keysGrade : List Key → ℕ
+keysGrade ks = grade (any keyOver ks) (any keyStray ks) (any keyMisplaced ks) (twice sameName ks)
+
+unfoldable pub elemGrade : Elem → ℕ
+elemGrade e = grade (elemOver e) (elemStray e) (elemMisplaced e) (twice sameName (e .keys))
+
+unfoldable pub elemsGrade : List Elem → ℕ
+elemsGrade es = grade (any elemOver es) (any elemStray es) (any elemMisplaced es) (any (λ (e : Elem). twice sameName (e .keys)) es)
+
+-- the number, and where reading goes on
+unfoldable pub walked : {A : Type 0} → (A → ℕ) → Parsed A → Walk
+walked g (got a t) = To (g a) t
+walked g unread = Unread
+
+-- a later key has the name
+unfoldable pub named : Str → Parsed (List Key) → Bool
+named n (got ks t) = any (λ (k : Key). same n (k .name)) ks
+named n unread = false
+
+-- the bytes are those of a good path, and nothing more
+unfoldable pub isPathIn : List ℕ → Parsed Path → Bool
+isPathIn f (got p t) = eqb t (length f) and goodPath p
+isPathIn f unread = false
+
+unfoldable pub isPath : List ℕ → Bool
+isPath f = isPathIn f (path f 0)

@@ -1,0 +1,97 @@
+// What the strings of a path may not hold: refusal numbers 5 to 8, the smallest first, and 255 for none.
+ghost use mathlib.Core.Path.{_≡_};
+ghost use mathlib.Core.Bool.{true};
+ghost use Prim.Native.Nat.{min};
+ghost use Rattle.text.specs.Byte.{isStar};
+ghost use Rattle.text.specs.Test.{any, if_then_else_};
+ghost use Rattle.path.specs.Faults.{outsideName, outsideValue};
+ghost use Rattle.path.specs.Walk.{nameGrade, elemNameGrade, valueGrade};
+
+pub fn smaller(a: u8, b: u8) -> u8
+    ensures { λ r. ⌜ r ≡ min a b ⌝ }
+{
+    if a < b { a } else { b }
+}
+
+pub fn grade(five: bool, six: bool, seven: bool, eight: bool) -> u8
+    ensures { λ r. ⌜ r ≡ Rattle.path.specs.Faults.grade five six seven eight ⌝ }
+{
+    if five {
+        return 5;
+    }
+    if six {
+        return 6;
+    }
+    if seven {
+        return 7;
+    }
+    if eight {
+        return 8;
+    }
+    255
+}
+
+// What a string holds.
+pub struct Seen {
+    // a byte outside its set
+    pub stray: bool,
+    pub star: bool,
+}
+
+// The set is that of names (with *, which has a number of its own) or that of values.
+pub fn scan(s: &[u8], name: bool) -> Seen
+    ensures { λ r. ⌜ (r .stray ≡ any (if name then outsideName else outsideValue) (now (s .entry))) × (r .star ≡ any isStar (now (s .entry))) ⌝ }
+{
+    let mut stray = false;
+    let mut star = false;
+    let mut i = 0;
+    while i < s.len() {
+        let b = s[i];
+        let inside = (name & (text::byte::is_name(b) | (b == 42)))
+            | (!name & text::byte::is_print(b));
+        stray = stray | !inside;
+        star = star | (b == 42);
+        i += 1;
+    }
+    Seen {
+        stray: stray,
+        star: star,
+    }
+}
+
+fn is_unsized(n: usize) -> bool
+    ensures { λ r. ⌜ r ≡ Rattle.path.specs.Walk.unsizedBy n ⌝ }
+{
+    (n == 0) | (64 < n)
+}
+
+// A key's name.
+pub fn name_fault(s: &[u8]) -> u8
+    ensures { λ r. ⌜ r ≡ nameGrade (now (s .entry)) ⌝ }
+{
+    let seen = scan(s, true);
+    grade(is_unsized(s.len()), seen.stray, seen.star, false)
+}
+
+pub fn elem_name_fault(s: &[u8]) -> u8
+    ensures { λ r. ⌜ r ≡ elemNameGrade (now (s .entry)) ⌝ }
+{
+    let seen = scan(s, true);
+    let dots = [46u8, 46, 46];
+    let is_dots = text::string::is_same(s, &dots);
+    grade(is_unsized(s.len()), seen.stray, seen.star | is_dots, false)
+}
+
+pub fn value_fault(s: &[u8]) -> u8
+    ensures { λ r. ⌜ r ≡ valueGrade (now (s .entry)) ⌝ }
+{
+    let seen = scan(s, false);
+    let wildcard = [42u8];
+    let is_wildcard = text::string::is_same(s, &wildcard);
+    grade(
+        is_unsized(s.len()),
+        seen.stray,
+        seen.star & !is_wildcard,
+        false,
+    )
+}

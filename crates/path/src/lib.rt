@@ -1,0 +1,3 @@
+// Paths in their bytes.
+pub mod fault;
+pub mod frame;
