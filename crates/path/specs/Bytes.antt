@@ -3,7 +3,7 @@ use Prim.Native.Nat.{ℕ}
 use mathlib.Core.List.{List, _∷_, _++_}
 use lib.ListN.{length}
 use Rattle.text.specs.String.{Str, joined}
-use Rattle.text.specs.Frame.{Reader, _>>=_, ret, byte, string, times}
+use Rattle.text.specs.Frame.{Parsed, got, unread, Reader, _>>=_, ret, byte, string, stringBytes, times}
 use Rattle.path.specs.Path.{Key, Elem, Path}
 
 -- ---- reading
@@ -30,10 +30,6 @@ path = do
   times count element
 
 -- ---- writing
-
--- "S is one length byte, then that many bytes"
-unfoldable pub stringBytes : Str → Str
-stringBytes s = length s ∷ s
 
 unfoldable pub keyBytes : Key → Str
 keyBytes k = stringBytes (k .name) ++ stringBytes (k .value)
