@@ -16,7 +16,7 @@ use Rattle.text.proofs.Tests.{by, and-l, and-r, both, clash}
 use Rattle.text.proofs.Frames.{times-length}
 use Rattle.text.proofs.Codec.{then-got, got-move, Took, took-both, byte-took, string-took, times-took, Gives, then-gives, byte-gives, string-gives, times-gives}
 use Rattle.path.specs.Path.{Key, Elem, Path}
-use Rattle.path.specs.Bytes.{key, element, path, keyBytes, elemBytes, pathBytes}
+use Rattle.path.specs.Bytes.{key, element, path, counted, keyBytes, elemBytes, pathBytes}
 use Rattle.path.specs.Faults.{goodPath}
 use Rattle.path.specs.Spells.{Spells, Reads, whole, readBytes}
 
@@ -46,7 +46,7 @@ module _ (f : List ℕ) where
 
   parts : (at p q t n : ℕ) (name : Str) (ks : List Key) → Took f at (stringBytes name) p → Took f p (n ∷ []) q → length ks ≡ n
       → Took f q (joined keyBytes ks) t → Took f at (elemBytes (record { name = name; keys = ks })) t
-  unfolding elemBytes
+  unfolding elemBytes counted
   parts at p q t n name ks h i l j = rw l (took-both f at p t (stringBytes name) _ h (took-both f p q t (n ∷ []) _ i j))
 
   element-took : (at : ℕ) (x : Elem) (t : ℕ) → element f at ≡ got x t → Took f at (elemBytes x) t
@@ -61,7 +61,7 @@ module _ (f : List ℕ) where
 
   -- path bytes that were read are the bytes of that path
   pub path-took : (at : ℕ) (p : Path) (t : ℕ) → path f at ≡ got p t → Took f at (pathBytes p) t
-  unfolding pathBytes
+  unfolding pathBytes counted
   path-took at p t e =
       let a = then-got (byte f at) _ (sym (path-open f at) ∙ e) in
       let w = byte-took f at (a .0) (a .1) (a .2) in
@@ -79,7 +79,7 @@ module _ (f : List ℕ) where
       (λ p i. then-gives (string f p) _ f (k .value) _ _ _ (string-gives f p (k .value) _ i) (λ t j. (t, refl, j))))
 
   element-gives : (at : ℕ) (x : Elem) (rest : Str) → drop at f ≡ elemBytes x ++ rest → Gives (element f at) f x rest
-  unfolding elemBytes
+  unfolding elemBytes counted
   element-gives at x rest e =
       rw (element-open f at)
       (then-gives (string f at) _ f (x .name) _ _ _ (string-gives f at (x .name) _ (e ∙ simp append-assoc))
@@ -88,7 +88,7 @@ module _ (f : List ℕ) where
 
   -- the bytes of a path are read to that path
   pub path-gives : (at : ℕ) (p : Path) (rest : Str) → drop at f ≡ pathBytes p ++ rest → Gives (path f at) f p rest
-  unfolding pathBytes
+  unfolding pathBytes counted
   path-gives at p rest e =
       rw (path-open f at)
       (then-gives (byte f at) _ f (length p) _ _ _ (byte-gives f at _ _ e) (λ q i. times-gives element elemBytes f element-gives p q rest i))
@@ -119,7 +119,7 @@ whole-only read write s p h e = go (read s) h e
     go (got q t) h e = let w = whole-got s p q t e in record { good = w .2; text = h q t refl (w .1) ∙ ap write (w .0) }
     go unread h e = absurd (whole-unread s e)
 
-whole-good : (s : Str) (p : Path) → goodPath p ≡ true → whole s (got p (length s)) ≡ some p
+pub whole-good : (s : Str) (p : Path) → goodPath p ≡ true → whole s (got p (length s)) ≡ some p
 unfolding whole if_then_else_ _and_
 whole-good s p g = rw (eq-eqb (length s) (length s) refl, g)
 

@@ -31,11 +31,15 @@ path = do
 
 -- ---- writing
 
+-- a count, then each
+unfoldable pub counted : {A : Type 0} → (A → Str) → List A → Str
+counted w xs = length xs ∷ joined w xs
+
 unfoldable pub keyBytes : Key → Str
 keyBytes k = stringBytes (k .name) ++ stringBytes (k .value)
 
 unfoldable pub elemBytes : Elem → Str
-elemBytes e = stringBytes (e .name) ++ length (e .keys) ∷ joined keyBytes (e .keys)
+elemBytes e = stringBytes (e .name) ++ counted keyBytes (e .keys)
 
 unfoldable pub pathBytes : Path → Str
-pathBytes p = length p ∷ joined elemBytes p
+pathBytes p = counted elemBytes p

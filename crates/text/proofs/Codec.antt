@@ -77,13 +77,17 @@ times-suc : {A : Type 0} (r : Reader A) (f : List ℕ) (n at : ℕ) → times (s
 unfolding times _>>=_ ret
 times-suc r f n at = refl
 
-joined-cons : {A : Type 0} (w : A → Str) (x : A) (xs : List A) → joined w (x ∷ xs) ≡ w x ++ joined w xs
-unfolding joined
-joined-cons w x xs = refl
-
-joined-nil : {A : Type 0} (w : A → Str) → joined w [] ≡ []
+pub joined-nil : {A : Type 0} (w : A → Str) → joined w [] ≡ []
 unfolding joined
 joined-nil w = refl
+
+pub joined-cons : {A : Type 0} (w : A → Str) (x : A) (xs : List A) (r : Str) → joined w (x ∷ xs) ++ r ≡ w x ++ (joined w xs ++ r)
+unfolding joined
+joined-cons w x xs r = append-assoc (w x) (joined w xs) r
+
+pub took-cons : {A : Type 0} (w : A → Str) (f : List ℕ) (at p t : ℕ) (x : A) (xs : List A) → Took f at (w x) p → Took f p (joined w xs) t → Took f at (joined w (x ∷ xs)) t
+unfolding joined
+took-cons w f at p t x xs h k = took-both f at p t (w x) (joined w xs) h k
 
 -- a reader of what w writes
 module _ {A : Type 0} (r : Reader A) (w : A → Str) (f : List ℕ) where
@@ -96,7 +100,7 @@ module _ {A : Type 0} (r : Reader A) (w : A → Str) (f : List ℕ) where
       let b = then-got (times n r f (a .1)) _ (a .3) in
       let k = h at (a .0) (a .1) (a .2) in
       got-move (λ ys q. Took f at (joined w ys) q) (b .3)
-      (rw (joined-cons w (a .0) (b .0)) (took-both f at (a .1) (b .1) (w (a .0)) (joined w (b .0)) k (times-took h n (a .1) (b .0) (b .1) (k .fits) (b .2))))
+      (took-cons w f at (a .1) (b .1) (a .0) (b .0) k (times-took h n (a .1) (b .0) (b .1) (k .fits) (b .2)))
 
 -- ---- written, then read
 
@@ -143,5 +147,5 @@ module _ {A : Type 0} (r : Reader A) (w : A → Str) (f : List ℕ) where
   times-gives h [] at rest e = (at, times-zero r f at, e ∙ rw (joined-nil w))
   times-gives h (x ∷ xs) at rest e =
       rw (times-suc r f (length xs) at)
-      (then-gives (r f at) _ f x _ _ _ (h at x (joined w xs ++ rest) (e ∙ rw (joined-cons w x xs) (append-assoc (w x) (joined w xs) rest)))
+      (then-gives (r f at) _ f x _ _ _ (h at x (joined w xs ++ rest) (e ∙ joined-cons w x xs rest))
       (λ p i. then-gives (times (length xs) r f p) _ f xs _ _ _ (times-gives h xs p rest i) (λ t j. (t, refl, j))))

@@ -1,0 +1,4 @@
+pub mod Examples
+pub mod Sound
+pub mod Complete
+pub mod RoundTrip
