@@ -135,5 +135,6 @@ bytes-reader = record { reads = reads; only = only }
         let l : length s - g .0 ≡ 0 = sym (length-drop (g .0) s) ∙ ap length (g .2) in
         let t : g .0 ≡ length s = omega (arith, w .fits) in
         rw (g .1, t) (whole-good s p (h .good))
+
     only : (s : Str) (p : Path) → whole s (path s 0) ≡ some p → Spells pathBytes s p
     only s p e = whole-only (λ z. path z 0) pathBytes s p (λ q t i j. took-whole pathBytes s q t j (path-took s 0 q t i)) e

@@ -84,12 +84,12 @@ module _ (s : Str) (at b : ℕ) (rest : Str) where
   item-gives : drop at s ≡ escaped b ++ rest → (eqb (getD s at 0) 93 ≡ false) × Gives (item s at) s b rest
   item-gives e = by (isMark b) (λ m. mark-gives m (e ∙ rw (escaped-mark b m))) (λ m. plain-gives m (e ∙ rw (escaped-plain b m)))
 
-value-closed : (n : ℕ) (s : Str) (at : ℕ) → eqb (getD s at 0) 93 ≡ true → value n s at ≡ got [] (at + 1)
+pub value-closed : (n : ℕ) (s : Str) (at : ℕ) → eqb (getD s at 0) 93 ≡ true → value n s at ≡ got [] (at + 1)
 unfolding value if_then_else_
 value-closed zero s at e = rw e
 value-closed (suc n) s at e = rw e
 
-value-open : (n : ℕ) (s : Str) (at : ℕ) → eqb (getD s at 0) 93 ≡ false → value (suc n) s at ≡ andThen (item s at) (λ b p. andThen (value n s p) (λ v t. got (b ∷ v) t))
+pub value-open : (n : ℕ) (s : Str) (at : ℕ) → eqb (getD s at 0) 93 ≡ false → value (suc n) s at ≡ andThen (item s at) (λ b p. andThen (value n s p) (λ v t. got (b ∷ v) t))
 unfolding value if_then_else_ _>>=_ ret
 value-open n s at e = rw e
 
@@ -105,12 +105,16 @@ value-gives (b ∷ v) (suc n) s at rest h e =
 
 -- ---- lists
 
-each-open : {A : Type 0} (b n : ℕ) (r : Reader A) (s : Str) (at : ℕ) → eqb (getD s at 0) b ≡ true
+pub each-open : {A : Type 0} (b n : ℕ) (r : Reader A) (s : Str) (at : ℕ) → eqb (getD s at 0) b ≡ true
     → each b (suc n) r s at ≡ andThen (r s (at + 1)) (λ x p. andThen (each b n r s p) (λ xs t. got (x ∷ xs) t))
 unfolding each if_then_else_ _>>=_ ret
 each-open b n r s at e = rw e
 
-each-end : {A : Type 0} (b n : ℕ) (r : Reader A) (s : Str) (at : ℕ) → eqb (getD s at 0) b ≡ false → each b n r s at ≡ got [] at
+pub each-none : {A : Type 0} (b : ℕ) (r : Reader A) (s : Str) (at : ℕ) → each b 0 r s at ≡ got [] at
+unfolding each
+each-none b r s at = refl
+
+pub each-end : {A : Type 0} (b n : ℕ) (r : Reader A) (s : Str) (at : ℕ) → eqb (getD s at 0) b ≡ false → each b n r s at ≡ got [] at
 unfolding each if_then_else_
 each-end b zero r s at e = refl
 each-end b (suc n) r s at e = rw e
@@ -173,12 +177,13 @@ module _ (s : Str) where
       let f = first-byte s at 91 _ e in
       let over = good .0 in
       let stray = good .1 in
-      let v = joined escaped (k .value) in
-      (eq-eqb _ _ (f .1),
-      then-gives (name 61 61 s (at + 1)) _ s (k .name) _ _ _
-        (name-gives s (at + 1) 61 61 (k .name) (61 ∷ (v ++ 93 ∷ rest)) refl refl (or-false-l _ _ stray) (or-false-l _ _ over) (stops (v ++ 93 ∷ rest)) (f .2 ∙ key-tail (k .name) v rest))
-      (λ p i. then-gives (literal 61 s p) _ s 61 _ _ _ (literal-gives s p 61 _ i)
-      (λ q j. then-gives (value 64 s q) _ s (k .value) _ _ _ (value-gives (k .value) 64 s q rest (sized (k .value) (or-false-r _ _ over)) j) (λ t l. (t, refl, l)))))
+      let v = joined escaped (k .value) in (
+        eq-eqb _ _ (f .1),
+        then-gives (name 61 61 s (at + 1)) _ s (k .name) _ _ _
+            (name-gives s (at + 1) 61 61 (k .name) (61 ∷ (v ++ 93 ∷ rest)) refl refl (or-false-l _ _ stray) (or-false-l _ _ over) (stops (v ++ 93 ∷ rest)) (f .2 ∙ key-tail (k .name) v rest))
+            (λ p i. then-gives (literal 61 s p) _ s 61 _ _ _ (literal-gives s p 61 _ i)
+            (λ q j. then-gives (value 64 s q) _ s (k .value) _ _ _ (value-gives (k .value) 64 s q rest (sized (k .value) (or-false-r _ _ over)) j) (λ t l. (t, refl, l)))),
+      )
 
 -- what may follow an element: nothing, or the next
 abbrev Next : Str → Type 0
@@ -202,14 +207,15 @@ module _ (s : Str) where
       let stray = good .1 in
       let many = or-false-r (unsized (x .name)) _ over in
       let keys-over = or-false-r (ltb 4 (length (x .keys))) _ many in
-      let keys-stray = or-false-r (any outsideName (x .name)) _ stray in
-      (eq-eqb _ _ (f .1),
-      then-gives (name 47 91 s (at + 1)) _ s (x .name) _ _ _
-        (name-gives s (at + 1) 47 91 (x .name) _ refl refl (or-false-l _ _ stray) (or-false-l _ _ over) (keys-next (x .keys) rest (next .0)) (f .2 ∙ append-assoc (x .name) (joined keyText (x .keys)) rest))
-      (λ p i. then-gives (each 91 4 key s p) _ s (x .keys) _ _ _
-        (each-gives 91 key keyText s GoodKey Anything (omega arith) (key-gives s) (λ k r. tt) 4 (x .keys) p rest
-          (λ k m. (none-any keyOver _ keys-over m, none-any keyStray _ keys-stray m)) (ltb-false 4 (length (x .keys)) (or-false-l _ _ many)) tt (next .1) i)
-      (λ t l. (t, refl, l))))
+      let keys-stray = or-false-r (any outsideName (x .name)) _ stray in (
+        eq-eqb _ _ (f .1),
+        then-gives (name 47 91 s (at + 1)) _ s (x .name) _ _ _
+            (name-gives s (at + 1) 47 91 (x .name) _ refl refl (or-false-l _ _ stray) (or-false-l _ _ over) (keys-next (x .keys) rest (next .0)) (f .2 ∙ append-assoc (x .name) (joined keyText (x .keys)) rest))
+            (λ p i. then-gives (each 91 4 key s p) _ s (x .keys) _ _ _
+            (each-gives 91 key keyText s GoodKey Anything (omega arith) (key-gives s) (λ k r. tt) 4 (x .keys) p rest
+            (λ k m. (none-any keyOver _ keys-over m, none-any keyStray _ keys-stray m)) (ltb-false 4 (length (x .keys)) (or-false-l _ _ many)) tt (next .1) i)
+            (λ t l. (t, refl, l))),
+      )
 
 -- the text of the elements of a good path
 pub elements-gives : (p : Path) → overLimit p ≡ false → strayByte p ≡ false → Gives (elements (joined elemText p) 0) (joined elemText p) p []
@@ -221,5 +227,6 @@ elements-gives p over stray =
   where
     nothing-next : Next []
     nothing-next = unfold upTo starts in (refl, refl)
+
     nothing-starts : starts 47 [] ≡ false
     nothing-starts = unfold starts in refl

@@ -2,3 +2,5 @@ pub mod Examples
 pub mod Sound
 pub mod Complete
 pub mod RoundTrip
+pub mod Storing
+pub mod Reading

@@ -49,11 +49,11 @@ unfolding readText if_then_else_
 text-only s p e =
     by (same s (bytes "/"))
     (λ u. let e′ = rw u at e in
-        let i : [] ≡ p = cc in
-        record { good = rw i at root-good; text = same→≡ s (bytes "/") u ∙ sym root-text ∙ ap pathText i })
+    let i : [] ≡ p = cc in
+    record { good = rw i at root-good; text = same→≡ s (bytes "/") u ∙ sym root-text ∙ ap pathText i })
     (λ u. by (eqb (length s) 0)
-        (λ v. let e′ = rw (u, v) at e in let z : _≡_ {A = ℕ} 0 1 = cc in absurd (omega arith))
-        (λ v. let e′ = rw (u, v) at e in whole-only (λ z. elements z 0) pathText s p (λ q t i j. taken s q t v i j) e′))
+    (λ v. let e′ = rw (u, v) at e in let z : _≡_ {A = ℕ} 0 1 = cc in absurd (omega arith))
+    (λ v. let e′ = rw (u, v) at e in whole-only (λ z. elements z 0) pathText s p (λ q t i j. taken s q t v i j) e′))
 
 -- ---- and that text is
 

@@ -71,8 +71,8 @@ mark-inside : (s : Str) (at : ℕ) → isMark (getD s at 0) ≡ true → at < le
 mark-inside s at e =
     by (ltb at (length s)) (λ u. ltb-true _ _ u)
     (λ u. let z : getD s at 0 ≡ 0 = List·getD-eq-default s 0 (ltb-false _ _ u) in
-        let w : isMark 0 ≡ true = rw z at e in
-        let x : _≡_ {A = ℕ} 0 1 = cc in absurd (omega arith))
+    let w : isMark 0 ≡ true = rw z at e in
+    let x : _≡_ {A = ℕ} 0 1 = cc in absurd (omega arith))
 
 -- \ and a mark
 pair-took : (s : Str) (at : ℕ) → getD s at 0 ≡ 92 → isMark (getD s (at + 1) 0) ≡ true → Took s at (escaped (getD s (at + 1) 0)) (at + 2)
@@ -86,11 +86,11 @@ unfolding item if_then_else_
 item-took s at b t n e =
     by (ltb at (length s))
     (λ u. let h : at < length s = ltb-true _ _ u in
-        by (eqb (getD s at 0) 92)
-        (λ v. by (isMark (getD s (at + 1) 0))
-            (λ w. let e′ = rw (u, v, w) at e in got-move (λ x q. Took s at (escaped x) q) e′ (pair-took s at (eqb-true _ _ v) w))
-            (λ w. let e′ = rw (u, v, w) at e in never-got refl e′))
-        (λ v. let e′ = rw (u, v) at e in got-move (λ x q. Took s at (escaped x) q) e′ (rw (escaped-plain (getD s at 0) (no-mark (getD s at 0) n v)) (one-took s at h))))
+    by (eqb (getD s at 0) 92)
+    (λ v. by (isMark (getD s (at + 1) 0))
+    (λ w. let e′ = rw (u, v, w) at e in got-move (λ x q. Took s at (escaped x) q) e′ (pair-took s at (eqb-true _ _ v) w))
+    (λ w. let e′ = rw (u, v, w) at e in never-got refl e′))
+    (λ v. let e′ = rw (u, v) at e in got-move (λ x q. Took s at (escaped x) q) e′ (rw (escaped-plain (getD s at 0) (no-mark (getD s at 0) n v)) (one-took s at h))))
     (λ u. let e′ = rw u at e in never-got refl e′)
 
 closed : (s : Str) (at : ℕ) → eqb (getD s at 0) 93 ≡ true → Took s at (joined escaped [] ++ 93 ∷ []) (at + 1)
@@ -106,11 +106,11 @@ value-took (suc n) s at v t e =
     by (eqb (getD s at 0) 93)
     (λ u. let e′ = rw u at e in got-move (λ x q. Took s at (joined escaped x ++ 93 ∷ []) q) e′ (closed s at u))
     (λ u. let e′ = rw u at e in
-        let a = then-got (item s at) _ e′ in
-        let b = then-got (value n s (a .1)) _ (a .3) in
-        got-move (λ x q. Took s at (joined escaped x ++ 93 ∷ []) q) (b .3)
-        (rw (joined-cons escaped (a .0) (b .0) (93 ∷ []))
-        (took-both s at (a .1) (b .1) _ _ (item-took s at (a .0) (a .1) u (a .2)) (value-took n s (a .1) (b .0) (b .1) (b .2)))))
+    let a = then-got (item s at) _ e′ in
+    let b = then-got (value n s (a .1)) _ (a .3) in
+    got-move (λ x q. Took s at (joined escaped x ++ 93 ∷ []) q) (b .3)
+    (rw (joined-cons escaped (a .0) (b .0) (93 ∷ []))
+    (took-both s at (a .1) (b .1) _ _ (item-took s at (a .0) (a .1) u (a .2)) (value-took n s (a .1) (b .0) (b .1) (b .2)))))
 
 -- things that each start with the byte b, and are read after it
 module _ {A : Type 0} (b : ℕ) (r : Reader A) (w : A → Str) (s : Str) where
@@ -121,11 +121,11 @@ module _ {A : Type 0} (b : ℕ) (r : Reader A) (w : A → Str) (s : Str) where
   each-took h (suc n) at xs t fits e =
       by (eqb (getD s at 0) b)
       (λ u. let e′ = rw u at e in
-          let a = then-got (r s (at + 1)) _ e′ in
-          let c = then-got (each b n r s (a .1)) _ (a .3) in
-          let k = h at (a .0) (a .1) (eqb-true _ _ u) (a .2) in
-          got-move (λ ys q. Took s at (joined w ys) q) (c .3)
-          (took-cons w s at (a .1) (c .1) (a .0) (c .0) k (each-took h n (a .1) (c .0) (c .1) (k .fits) (c .2))))
+      let a = then-got (r s (at + 1)) _ e′ in
+      let c = then-got (each b n r s (a .1)) _ (a .3) in
+      let k = h at (a .0) (a .1) (eqb-true _ _ u) (a .2) in
+      got-move (λ ys q. Took s at (joined w ys) q) (c .3)
+      (took-cons w s at (a .1) (c .1) (a .0) (c .0) k (each-took h n (a .1) (c .0) (c .1) (k .fits) (c .2))))
       (λ u. let e′ = rw u at e in got-move (λ ys q. Took s at (joined w ys) q) e′ (rw (joined-nil w) (took-none s at fits)))
 
 module _ (s : Str) where

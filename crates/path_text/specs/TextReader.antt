@@ -31,9 +31,9 @@ name a b s at =
 unfoldable pub item : Reader ℕ
 item s at =
     if ltb at (length s) then
-      (if eqb (getD s at 0) 92 then
-        (if isMark (getD s (at + 1) 0) then got (getD s (at + 1) 0) (at + 2) else unread)
-      else got (getD s at 0) (at + 1))
+    (if eqb (getD s at 0) 92 then
+    (if isMark (getD s (at + 1) 0) then got (getD s (at + 1) 0) (at + 2) else unread)
+    else got (getD s at 0) (at + 1))
     else unread
 
 -- a value of at most n bytes, and its ]

@@ -46,8 +46,8 @@ pub byte-took : (f : List ℕ) (at n t : ℕ) → byte f at ≡ got n t → Took
 byte-took f at n t e =
     by (ltb at (length f))
     (λ u. let h : at < length f = ltb-true _ _ u in
-        got-move (λ m q. Took f at (m ∷ []) q) (sym (byte-got f at h) ∙ e)
-        (record { same = rw add-one (drop-cons f at 0 h); fits = omega arith }))
+    got-move (λ m q. Took f at (m ∷ []) q) (sym (byte-got f at h) ∙ e)
+    (record { same = rw add-one (drop-cons f at 0 h); fits = omega arith }))
     (λ u. never-got (byte-unread f at (ltb-false _ _ u)) e)
 
 module _ (f : List ℕ) (at n : ℕ) (h : at < length f) (m : n ≤ length f - (at + 1)) (e : drop at f ≡ n ∷ drop (at + 1) f) where
@@ -62,11 +62,11 @@ pub string-took : (f : List ℕ) (at : ℕ) (s : Str) (t : ℕ) → string f at 
 string-took f at s t e =
     by (ltb at (length f))
     (λ u. let h : at < length f = ltb-true _ _ u in
-        by (leb (getD f at 0) (length f - (at + 1)))
-        (λ v. let m : getD f at 0 ≤ length f - (at + 1) = leb-true _ _ v in
-            got-move (λ z q. Took f at (stringBytes z) q) (sym (string-got f at h m) ∙ e)
-            (found f at (getD f at 0) h m (rw add-one (drop-cons f at 0 h))))
-        (λ v. never-got (string-unread f at h (leb-false _ _ v)) e))
+    by (leb (getD f at 0) (length f - (at + 1)))
+    (λ v. let m : getD f at 0 ≤ length f - (at + 1) = leb-true _ _ v in
+    got-move (λ z q. Took f at (stringBytes z) q) (sym (string-got f at h m) ∙ e)
+    (found f at (getD f at 0) h m (rw add-one (drop-cons f at 0 h))))
+    (λ v. never-got (string-unread f at h (leb-false _ _ v)) e))
     (λ u. never-got (string-none f at (ltb-false _ _ u)) e)
 
 times-zero : {A : Type 0} (r : Reader A) (f : List ℕ) (at : ℕ) → times 0 r f at ≡ got [] at
