@@ -26,10 +26,10 @@ unfolding answer lent if_then_else_ put
 filled s out n out′ e f =
     by (leb (length s) (length out))
     (λ u. let e′ = rw u at e in
-        let f′ = rw u at f in
-        let l : n ≡ length s = cc in
-        let h : length s ≤ length out = leb-true _ _ u in
-        (s, refl, omega arith, rw f′ (take-at s _ n (sym l))))
+    let f′ = rw u at f in
+    let l : n ≡ length s = cc in
+    let h : length s ≤ length out = leb-true _ _ u in
+    (s, refl, omega arith, rw f′ (take-at s _ n (sym l))))
     (λ u. let e′ = rw u at e in let z : _≡_ {A = ℕ} 0 1 = cc in absurd (omega arith))
 
 never : (out : List ℕ) (n : ℕ) → Length n ≡ answer out none → ⊥
