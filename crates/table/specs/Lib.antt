@@ -1,0 +1,5 @@
+pub mod Table
+pub mod Frame
+pub mod Refusal
+pub mod Text
+pub mod Group
