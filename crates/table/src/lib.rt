@@ -1,4 +1,5 @@
 // Rule tables: the answers of the calls on a table text, and its frames.
+pub mod frame;
 
 // A group's number and a rule's number, counted from 0 in text order. They never stand for each other.
 pub struct GroupNumber(pub u8);
