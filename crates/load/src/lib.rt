@@ -1,12 +1,21 @@
 // A table text, decoded once and checked: its bytes, and where groups, members and rules stand in them.
 pub mod row;
+
+use crate::row::Counts;
 use line::Line;
 use table::Checked;
-use crate::row::Counts;
 
 pub enum Loaded {
-    Held { used: usize, groups: usize, members: usize, rules: usize },
-    Refused { number: u8, line: usize },
+    Held {
+        used: usize,
+        groups: usize,
+        members: usize,
+        rules: usize,
+    },
+    Refused {
+        number: u8,
+        line: usize,
+    },
 }
 
 pub fn load(
@@ -39,7 +48,10 @@ pub fn load(
     while from < text.len() {
         let l = line::read_line(text, from, buf, used);
         let Line::Frame { len, next } = l else {
-            return Loaded::Refused { number: 2, line: line };
+            return Loaded::Refused {
+                number: 2,
+                line: line,
+            };
         };
         let end = used + len;
         let number = crate::row::take_row(
@@ -93,7 +105,12 @@ pub fn check_table(text: &[u8]) -> Checked {
         &mut holders,
     );
     match l {
-        Loaded::Held { used: _, groups: _, members: _, rules: _ } => Checked::Accepted,
+        Loaded::Held {
+            used: _,
+            groups: _,
+            members: _,
+            rules: _,
+        } => Checked::Accepted,
         Loaded::Refused { number, line } => Checked::Refused {
             number: number,
             line: line,

@@ -1,6 +1,6 @@
 // One row of the table: judged against the rows before it, and kept.
-use text::frame::End;
 use table::frame::RuleFrame;
+use text::frame::End;
 
 // What the rows so far are: the kind of the last, and how many groups, members and rules.
 pub struct Counts {
@@ -12,15 +12,35 @@ pub struct Counts {
 
 pub fn after(c: Counts, kind: u8) -> Counts {
     if kind == 2 {
-        return Counts { kind: 2, groups: c.groups + 1, members: c.members, rules: c.rules };
+        return Counts {
+            kind: 2,
+            groups: c.groups + 1,
+            members: c.members,
+            rules: c.rules,
+        };
     }
     if kind == 3 {
-        return Counts { kind: 3, groups: c.groups, members: c.members + 1, rules: c.rules };
+        return Counts {
+            kind: 3,
+            groups: c.groups,
+            members: c.members + 1,
+            rules: c.rules,
+        };
     }
     if kind == 4 {
-        return Counts { kind: 4, groups: c.groups, members: c.members, rules: c.rules + 1 };
+        return Counts {
+            kind: 4,
+            groups: c.groups,
+            members: c.members,
+            rules: c.rules + 1,
+        };
     }
-    Counts { kind: kind, groups: c.groups, members: c.members, rules: c.rules }
+    Counts {
+        kind: kind,
+        groups: c.groups,
+        members: c.members,
+        rules: c.rules,
+    }
 }
 
 pub fn take_group(old: &[u8], f: &[u8], last: u8, starts: &mut [u16; 64], n: usize) -> u8 {
@@ -46,7 +66,15 @@ pub fn take_group(old: &[u8], f: &[u8], last: u8, starts: &mut [u16; 64], n: usi
     255
 }
 
-fn has_member(old: &[u8], users: &[u16], owners: &[u8], n: usize, seen: u8, g: usize, user: &[u8]) -> bool {
+fn has_member(
+    old: &[u8],
+    users: &[u16],
+    owners: &[u8],
+    n: usize,
+    seen: u8,
+    g: usize,
+    user: &[u8],
+) -> bool {
     if seen == 0 {
         return false;
     }
@@ -85,7 +113,9 @@ pub fn take_member(
     let g = rows::find(old, groups, ng, group);
     let h = rows::hash(user, g);
     let again = has_member(old, users, owners, n, seen[h], g, user);
-    let five = table::frame::is_unsized(group.len(), 64) | table::frame::is_unsized(user.len(), 64) | (512 <= n);
+    let five = table::frame::is_unsized(group.len(), 64)
+        | table::frame::is_unsized(user.len(), 64)
+        | (512 <= n);
     let six = !text::string::all_print(group) | !text::string::all_print(user);
     let number = table::frame::number(255, five, six, again, g == ng);
     if number != 255 {
@@ -124,7 +154,13 @@ pub fn take_rule(
     seen: &mut [u8; 8192],
 ) -> u8 {
     let r = table::frame::read_rule(f);
-    let RuleFrame::Is { subject: s, id: i, origin: o, fault } = r else {
+    let RuleFrame::Is {
+        subject: s,
+        id: i,
+        origin: o,
+        fault,
+    } = r
+    else {
         return 3;
     };
     if table::frame::is_out_of_order(last, 4) {
@@ -140,8 +176,13 @@ pub fn take_rule(
     let g = group_of(old, groups, ng, by_group, subject);
     let h = rows::hash(id, 0);
     let again = has_id(old, ids, n, seen[h], id);
-    let five = table::frame::is_unsized(subject.len(), 64) | table::frame::is_unsized(id.len(), 32) | (32 < origin.len()) | (256 <= n);
-    let six = !text::string::all_print(subject) | !text::string::all_print(id) | !text::string::all_print(origin);
+    let five = table::frame::is_unsized(subject.len(), 64)
+        | table::frame::is_unsized(id.len(), 32)
+        | (32 < origin.len())
+        | (256 <= n);
+    let six = !text::string::all_print(subject)
+        | !text::string::all_print(id)
+        | !text::string::all_print(origin);
     let number = table::frame::number(fault, five, six, again, by_group & (g == ng));
     if number != 255 {
         return number;
@@ -174,10 +215,31 @@ pub fn take_row(
         return take_group(old, f, c.kind, groups, c.groups);
     }
     if k == 3 {
-        return take_member(old, f, c.kind, groups, c.groups, users, owners, c.members, members_seen);
+        return take_member(
+            old,
+            f,
+            c.kind,
+            groups,
+            c.groups,
+            users,
+            owners,
+            c.members,
+            members_seen,
+        );
     }
     if k == 4 {
-        return take_rule(old, f, c.kind, groups, c.groups, ids, starts, holders, c.rules, ids_seen);
+        return take_rule(
+            old,
+            f,
+            c.kind,
+            groups,
+            c.groups,
+            ids,
+            starts,
+            holders,
+            c.rules,
+            ids_seen,
+        );
     }
     3
 }

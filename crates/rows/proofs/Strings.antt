@@ -20,7 +20,6 @@ module _ (f : List ℕ) (at : ℕ) (h : past f at ≤ length f) where
   unfolding past
   room = (omega arith, h)
 
-
 -- ---- find
 
 module _ (f starts : List ℕ) (n : ℕ) (name : Str) (i : ℕ) where

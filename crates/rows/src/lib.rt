@@ -55,14 +55,7 @@ pub fn has_pair(
 }
 
 // Number i has that owner and that name. The owner is compared first.
-fn is_pair(
-    f: &[u8],
-    starts: &[u16],
-    owners: &[u8],
-    i: usize,
-    owner: usize,
-    name: &[u8],
-) -> bool
+fn is_pair(f: &[u8], starts: &[u16], owners: &[u8], i: usize, owner: usize, name: &[u8]) -> bool
     requires { ⌜ (i < length (now starts)) × (i < length (now owners)) × (past (now f) (getD (now starts) i 0) ≤ length (now f)) ⌝ }
     ensures { λ r. ⌜ r ≡ isPair owner (now (name .entry)) (now (f .entry)) (now (starts .entry)) (now (owners .entry)) i ⌝ }
 {

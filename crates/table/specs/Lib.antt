@@ -3,3 +3,4 @@ pub mod Frame
 pub mod Refusal
 pub mod Text
 pub mod Group
+pub mod Walk

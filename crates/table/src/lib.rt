@@ -3,6 +3,7 @@ pub mod frame;
 
 // A group's number and a rule's number, counted from 0 in text order. They never stand for each other.
 pub struct GroupNumber(pub u8);
+
 pub struct RuleNumber(pub u16);
 
 // Of a table check.

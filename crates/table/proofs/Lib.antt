@@ -1,0 +1,5 @@
+pub mod Numbers
+pub mod Frames
+pub mod Rules
+pub mod Versions
+pub mod Examples
