@@ -11,7 +11,7 @@ use Rattle.text.specs.Test.{_and_, _or_, if_then_else_, all, any}
 use Rattle.text.specs.Byte.{isPrint}
 use Rattle.text.specs.String.{Str}
 use Rattle.text.specs.Refusal.{_when_else_, clear}
-use Rattle.text.proofs.Tests.{by, or-none, neither}
+use Rattle.text.proofs.Tests.{or-false-l}
 use Rattle.path.specs.Faults.{unsized, overLimit, strayByte, misplaced, keyTwice, grade, pathRefusal}
 use Rattle.table.specs.Table.{Rule}
 use Rattle.table.specs.Frame.{Entry, version, group, member, rule}
@@ -105,3 +105,20 @@ module _ (b : Earlier) where
       ∙ ap (λ (q : ℕ). merged q five six eight nine) k
       ∙ merged-path five six eight nine (overLimit (x .path)) (strayByte (x .path)) (misplaced (x .path)) (keyTwice (x .path))
       ∙ rw (c, d, e, n) (sym (tail-is (rule x) h))
+
+-- ---- no number
+
+when-clear : (n m : ℕ) (t : Bool) → n < 255 → (n when t else m) ≡ 255 → (t ≡ false) × (m ≡ 255)
+unfolding if_then_else_
+when-clear n m true h e = absurd (omega arith)
+when-clear n m false h e = (refl, e)
+
+pub merged-clear : (p : ℕ) (five six eight nine : Bool) → merged p five six eight nine ≡ 255 → (five ≡ false) × (nine ≡ false)
+unfolding merged
+merged-clear p five six eight nine e =
+    let a = when-clear 5 _ (five || eqb p 5) (omega arith) e in
+    let b = when-clear 6 _ (six || eqb p 6) (omega arith) (a .1) in
+    let c = when-clear 7 _ (eqb p 7) (omega arith) (b .1) in
+    let d = when-clear 8 _ (eight || eqb p 8) (omega arith) (c .1) in
+    let n = when-clear 9 _ nine (omega arith) (d .1) in
+    (or-false-l five (eqb p 5) (sym (or-is five (eqb p 5)) ∙ a .0), n .0)

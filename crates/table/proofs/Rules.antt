@@ -1,5 +1,5 @@
 -- The frame of a rule, read step by step.
-use mathlib.Core.Path.{_≡_, refl, sym, ap, _∙_}
+use mathlib.Core.Path.{_≡_, refl, sym, ap, _∙_, subst}
 use mathlib.Core.Bool.{Bool, true, false, _||_, _&&_, not}
 use mathlib.Core.List.{List, [], _∷_}
 use mathlib.Core.Option.{Option, none, some}
@@ -184,8 +184,19 @@ module _ (f : Str) (pre : (0 < length f) × (getD f 0 0 ≡ 4)) where
                     body = z .1 ∙ ap (λ (j : ℕ). got (ruleOf (z .0)) j) n;
                     subject = refl;
                     id = refl;
+                    stands = string-ends f s u c i d .0;
                     origin = refl;
                     byGroup = refl;
                     path = z .2;
                     long = (string-ends f 4 q a s b .1, string-ends f s u c i d .1, string-ends f i v g o j .1, string-ends f i v g o j .2);
                   }
+
+-- what an answer of read_rule tells
+module _ (f : Str) (r : RuleFrame) (h : RuleRead f r) where
+  pub rule-told : (s i o p : ℕ) → r ≡ Is s i o p → RuleAt f s i o p
+  unfolding RuleRead
+  rule-told s i o p e = subst (RuleRead f) e h
+
+  pub rule-untold : r ≡ Unread → entryOf f ≡ none
+  unfolding RuleRead
+  rule-untold e = subst (RuleRead f) e h

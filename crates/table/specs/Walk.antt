@@ -9,7 +9,7 @@ use lib.ListN.{length, getD}
 use Rattle.text.specs.Test.{if_then_else_}
 use Rattle.text.specs.String.{Str}
 use Rattle.text.specs.Refusal.{_when_else_, clear}
-use Rattle.text.specs.Frame.{got, part}
+use Rattle.text.specs.Frame.{got, part, string}
 use Rattle.path.specs.Faults.{pathRefusal}
 use Rattle.table.specs.Table.{Rule}
 use Rattle.table.specs.Frame.{ruleBody, entryOf}
@@ -35,6 +35,7 @@ pub record RuleAt (f : Str) (s i o p : ℕ) : Type 0 where
   pub body : ruleBody f 1 ≡ got rule (length f)
   pub subject : rule .subject ≡ part f 5 s
   pub id : rule .id ≡ part f (s + 1) i
+  pub stands : string f s ≡ got (rule .id) i
   pub origin : rule .origin ≡ part f (i + 1) o
   pub byGroup : rule .byGroup ≡ eqb (getD f 3 0) 1
   pub path : p ≡ pathRefusal (rule .path)
