@@ -102,9 +102,9 @@ module _ (f g starts : List ℕ) (n v : ℕ) (laid : Laid f starts n) (long : n 
       by (eqb j n)
       (λ t. let i : j ≡ n = eqb-true _ _ t in rw (i, new-start) e)
       (λ t.
-        let k : j ≡ n → ⊥ = eqb-false _ _ t in
-        let l : j < n = omega arith in
-        rw (old-start j l, past-front f g (getD starts j 0) (laid j l)) (omega (arith, laid j l, length-append f g)))
+      let k : j ≡ n → ⊥ = eqb-false _ _ t in
+      let l : j < n = omega arith in
+      rw (old-start j l, past-front f g (getD starts j 0) (laid j l)) (omega (arith, laid j l, length-append f g)))
 
 -- the bytes grow alone
 module _ (f g starts : List ℕ) (n : ℕ) (laid : Laid f starts n) where
@@ -136,8 +136,8 @@ place-test name (x ∷ xs) zero d h = by (same name x) (λ e. rw e) (λ e. rw e 
 place-test name (x ∷ xs) (suc o) d h =
     by (same name x)
     (λ e.
-      let i : name ≡ x = same→≡ _ _ e in
-      rw e (ap (λ (n : Str). same n (getD xs o [])) i ∙ at-member xs o (same x) (omega arith) (or-false-l _ _ d) ∙ sym (eqb·suc-zero o)))
+    let i : name ≡ x = same→≡ _ _ e in
+    rw e (ap (λ (n : Str). same n (getD xs o [])) i ∙ at-member xs o (same x) (omega arith) (or-false-l _ _ d) ∙ sym (eqb·suc-zero o)))
     (λ e. rw e (place-test name xs o (or-false-r _ _ d) (omega arith) ∙ sym (eqb·suc-suc o (place name xs))))
 
 -- a name that has no place is none of them

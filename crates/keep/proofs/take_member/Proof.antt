@@ -3,9 +3,9 @@ use borrow.Author.Needs.{needs}
 use native.Mathlib.Omega.{arith}
 use mathlib.Core.Path.{_≡_, refl, sym, ap, _∙_}
 use Rattle.text.proofs.Frames.{string-ends}
-use Rattle.load.proofs.Members.{hash-room, place-small, member-short, member-half, member-long, member-four, member-graded, member-room, member-kept}
-use Rattle.load.proofs.row.take_member.Statement.{statement}
-use Rattle.load.proofs.row.take_member.Tie as tie
+use Rattle.keep.proofs.Members.{hash-room, place-small, member-short, member-half, member-long, member-four, member-graded, member-room, member-kept}
+use Rattle.keep.proofs.take_member.Statement.{statement}
+use Rattle.keep.proofs.take_member.Tie as tie
 
 string-end-requires : tie.Need-string-end-requires
 string-end-requires c κs = search needs

@@ -2,8 +2,8 @@
 use borrow.Author.Needs.{needs}
 use mathlib.Core.Path.{_≡_, refl, sym, ap, _∙_}
 use Rattle.text.specs.Test.{if_then_else_}
-use Rattle.load.proofs.row.holder_of.Statement.{statement}
-use Rattle.load.proofs.row.holder_of.Tie as tie
+use Rattle.keep.proofs.holder_of.Statement.{statement}
+use Rattle.keep.proofs.holder_of.Tie as tie
 
 find-requires : tie.Need-find-requires
 find-requires c κs = search needs

@@ -1,19 +1,16 @@
--- What the arrays of a loaded table hold, said of the entries of its text.
-use Prim.Native.Nat.{ℕ, zero, suc, _+_, _≤_, _<_}
+-- Rows that are kept, by arrays of positions and of group numbers.
+use Prim.Native.Nat.{ℕ, _+_, _<_}
 use mathlib.Core.Path.{_≡_}
-use mathlib.Core.Bool.{Bool, true, false}
-use mathlib.Core.List.{List, [], _∷_}
+use mathlib.Core.Bool.{true}
+use mathlib.Core.List.{List, []}
 use mathlib.Core.Option.{some}
 use lib.ListN.{length, getD, set}
-use Rattle.text.specs.Test.{twice}
-use Rattle.text.specs.String.{Str, same}
+use Rattle.text.specs.String.{Str}
 use Rattle.text.specs.Frame.{got, string}
-use Rattle.rows.specs.Strings.{past, stringAt, stringsIn, Laid, place, hashFrom}
+use Rattle.rows.specs.Strings.{stringAt, place, hashFrom}
 use Rattle.rows.proofs.Grow.{rowsOf}
 use Rattle.table.specs.Table.{Member, Rule}
-use Rattle.table.specs.Frame.{Entry, member, rule, ruleBody, entryOf}
-use Rattle.table.specs.Refusal.{Earlier, first, with}
-use Rattle.load.specs.declared.row.Counts.{Counts}
+use Rattle.table.specs.Frame.{group, member, rule, ruleBody, entryOf}
 
 -- ---- members: each has the number of its group, and its user stands in the bytes
 
@@ -37,6 +34,14 @@ abbrev pub idPlace : List ℕ → List ℕ → ℕ → ℕ
 idPlace f ids i = hashFrom 0 (stringAt f (getD ids i 0))
 
 -- ---- what a row that is kept changes
+
+-- a group
+pub record GroupKept (old f starts : List ℕ) (n : ℕ) (starts′ : List ℕ) : Type 0 where
+  pub name : Str
+  pub reads : entryOf f ≡ some (group name)
+  pub stands : string f 1 ≡ got name (length f)
+  pub room : n < 64
+  pub starts-set : starts′ ≡ set starts n (length old + 1)
 
 -- a member: the user's string stands at `at` of its frame
 pub record MemberKept (groups : List Str) (old f users owners seen : List ℕ) (n : ℕ) (users′ owners′ seen′ : List ℕ) : Type 0 where

@@ -1,31 +1,23 @@
-// One row of the table: judged against the rows before it, and kept.
+// A row of the table, judged against the rows before it, and kept: its place is stored where it is not refused.
 ghost use mathlib.Core.Path.{_≡_};
 ghost use mathlib.Core.Bool.{false};
 ghost use Prim.Native.Nat.{_+_, _≤_, _<_};
-ghost use lib.ListN.{length, getD, set};
+ghost use lib.ListN.{length, getD};
 ghost use Rattle.text.specs.Test.{if_then_else_, any, twice};
 ghost use Rattle.text.specs.String.{same};
 ghost use Rattle.rows.specs.Strings.{stringsIn, Laid, place, hasPair};
 ghost use Rattle.table.specs.Frame.{entryOf};
 ghost use Rattle.table.specs.Refusal.{Earlier, framed, refusal};
-ghost use Rattle.load.specs.Held.{membersIn, Owned, Marked, memberPlace, idPlace, MemberKept, RuleKept};
-use text::frame::End;
+ghost use Rattle.keep.specs.Held.{membersIn, Owned, Marked, memberPlace, idPlace, GroupKept, MemberKept, RuleKept};
 use table::frame::RuleFrame;
-
-// What the rows so far are: the kind of the last, and how many groups, members and rules.
-pub struct Counts {
-    pub kind: u8,
-    pub groups: usize,
-    pub members: usize,
-    pub rules: usize,
-}
+use text::frame::End;
 
 // A frame of kind 2. It is kept where the number is 255.
 pub fn take_group(old: &[u8], f: &[u8], last: u8, starts: &mut [u16; 64], n: usize) -> u8
     requires { ⌜ (0 < length (now f)) × (getD (now f) 0 0 ≡ 2) ⌝ }
     requires { ⌜ (length (now old) < 16384) × Laid (now old) (now starts) n × (n ≤ 64) ⌝ }
     ensures { λ r. ⌜ ((b : Earlier) → b .kind ≡ last → b .groups ≡ stringsIn (now (old .entry)) (now (starts .entry)) n 0 → r ≡ refusal b (framed (entryOf (now (f .entry))))) ⌝ }
-    ensures { λ r. ⌜ (r ≡ 255 → (n < 64) × (now (starts .exit) ≡ set (now (starts .entry)) n (length (now (old .entry)) + 1))) ⌝ }
+    ensures { λ r. ⌜ (r ≡ 255 → GroupKept (now (old .entry)) (now (f .entry)) (now (starts .entry)) n (now (starts .exit))) ⌝ }
 {
     let e = text::frame::string_end(f, 1);
     let End::At(end) = e else {
@@ -168,7 +160,8 @@ pub fn take_rule(
         id: i,
         origin: o,
         fault,
-    } = r else {
+    } = r
+    else {
         return 3;
     };
     if table::frame::is_out_of_order(last, 4) {

@@ -1,8 +1,8 @@
 -- `has_member` equals its definition.
 use borrow.Author.Needs.{needs}
 use mathlib.Core.Path.{_≡_, refl, sym, ap, _∙_}
-use Rattle.load.proofs.row.has_member.Statement.{statement}
-use Rattle.load.proofs.row.has_member.Tie as tie
+use Rattle.keep.proofs.has_member.Statement.{statement}
+use Rattle.keep.proofs.has_member.Tie as tie
 
 returns : tie.Need-returns
 returns c =

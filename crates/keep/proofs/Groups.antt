@@ -7,11 +7,11 @@ use Prim.Native.Nat.{ℕ, _+_, _-_, _≤_, _<_}
 use native.Mathlib.Omega.{arith}
 use borrow.Author.Tests.{leb-false}
 use lib.Dec.{ltb, leb}
-use lib.ListN.{length, getD}
+use lib.ListN.{length, getD, set}
 use Rattle.text.specs.Test.{_or_, any, all}
 use Rattle.text.specs.Byte.{isPrint}
 use Rattle.text.specs.String.{Str, same}
-use Rattle.text.specs.Frame.{string, endOf, part}
+use Rattle.text.specs.Frame.{got, string, endOf, part}
 use Rattle.text.specs.declared.frame.End.{End}
 use Rattle.text.specs.declared.frame.End.the-variants.{At, Unread}
 use Rattle.text.proofs.Tests.{or-false-r}
@@ -25,6 +25,7 @@ use Rattle.table.specs.Walk.{merged, unsizedBy}
 use Rattle.table.proofs.Numbers.{or-is, long-is, stray-is, number-four, number-plain, merged-clear}
 use Rattle.table.proofs.Frames.{group-unread, group-off, group-read}
 use Rattle.table.proofs.Versions.{refused-unread, refused-read}
+use Rattle.keep.specs.Held.{GroupKept}
 
 -- a number that does not stand for the strings' count
 pub find-any : (f starts : List ℕ) (n : ℕ) (name : Str) (p : ℕ) → p ≡ place name (stringsIn f starts n 0) → ltb p n ≡ any (same name) (stringsIn f starts n 0)
@@ -64,3 +65,6 @@ module _ (f : Str) (pre : (0 < length f) × (getD f 0 0 ≡ 2)) (r : End) (i : r
           let eight : ltb z k ≡ any (same (part f 2 t)) (b .groups) = find-any old starts k (part f 2 t) z a ∙ ap (any (same (part f 2 t))) (sym e) in
           refused-read b f _ m reading
           (number-plain b _ (sym order ∙ h) m _ (not p) _ false x five (stray-is _ p v) refl eight refl)
+
+      pub group-kept : (old starts : List ℕ) (k : ℕ) → k < 64 → GroupKept old f starts k (set starts k (length old + 1))
+      group-kept old starts k l = record { name = part f 2 t; reads = reading; stands = string-ends f 1 r i t g .0 ∙ ap (λ (j : ℕ). got (part f 2 t) j) n; room = l; starts-set = refl }

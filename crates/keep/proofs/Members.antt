@@ -27,7 +27,7 @@ use Rattle.table.specs.Walk.{merged, unsizedBy}
 use Rattle.table.proofs.Numbers.{or-is, long-is, stray-is, number-four, number-plain, merged-clear}
 use Rattle.table.proofs.Frames.{member-unread, member-userless, member-off, member-read}
 use Rattle.table.proofs.Versions.{refused-unread, refused-read}
-use Rattle.load.specs.Held.{memberIn, membersIn, Owned, Marked, memberPlace, MemberKept}
+use Rattle.keep.specs.Held.{memberIn, membersIn, Owned, Marked, memberPlace, MemberKept}
 
 -- ---- the filter: a place that is not set proves that no earlier member is the same
 
@@ -44,12 +44,12 @@ module _ (g : ℕ) (u : Str) (f users owners : List ℕ) where
   pub member-filter : (seen : List ℕ) (n : ℕ) → Marked seen (memberPlace owners f users) n → getD seen (hashFrom g u) 0 ≡ 0 → hasPair g u f users owners n 0 ≡ false
   member-filter seen n m z =
       no-pair n 0 (λ j a b.
-        by (isPair g u f users owners j)
-        (λ t.
-          let o : getD seen (memberPlace owners f users j) 0 ≡ 1 = m j (omega arith) in
-          let s : getD seen (memberPlace owners f users j) 0 ≡ 0 = ap (λ (p : ℕ). getD seen p 0) (same-place j t) ∙ z in
-          absurd (omega arith))
-        (λ t. t))
+      by (isPair g u f users owners j)
+      (λ t.
+      let o : getD seen (memberPlace owners f users j) 0 ≡ 1 = m j (omega arith) in
+      let s : getD seen (memberPlace owners f users j) 0 ≡ 0 = ap (λ (p : ℕ). getD seen p 0) (same-place j t) ∙ z in
+      absurd (omega arith))
+      (λ t. t))
 
 -- ---- pairs are members
 
@@ -144,7 +144,7 @@ module _ (f : Str) (pre : (0 < length f) × (getD f 0 0 ≡ 3)) (r : End) (i : r
                 let members : b .members ≡ membersIn (stringsIn old starts count 0) owners old users k = bb ∙ ap (λ (l : List Str). membersIn l owners old users k) gg in
                 let long : length (b .members) ≡ k = ap length members ∙ rows-length _ k 0 in
                 let five : ((u || v) || leb 512 k) ≡ ((unsized name or unsized user) or leb 512 (length (b .members))) =
-                    rw (long, uu, vv, long-is name (length name) refl, long-is user (length user) refl, or-is (unsized name) (unsized user)) (or-is (unsized name or unsized user) (leb 512 k)) in
+                rw (long, uu, vv, long-is name (length name) refl, long-is user (length user) refl, or-is (unsized name) (unsized user)) (or-is (unsized name or unsized user) (leb 512 k)) in
                 let six : (not x || not y) ≡ (stray name or stray user) = rw (stray-is name x xx, stray-is user y yy) (or-is (stray name) (stray user)) in
                 let eight : again ≡ any (sameMember this) (b .members) = again-is ∙ ap (any (sameMember this)) (sym members) in
                 let nine : eqb place′ count ≡ not (listed (b .groups) name) = unlisted-is name (stringsIn old starts count 0) place′ count pp (sym (strings-length old starts count)) ∙ ap (λ (l : List Str). not (listed l name)) (sym gg) in

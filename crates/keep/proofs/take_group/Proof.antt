@@ -3,9 +3,10 @@ use borrow.Author.Needs.{needs}
 use native.Mathlib.Omega.{arith}
 use mathlib.Core.Path.{_≡_, refl, sym, ap, _∙_}
 use Rattle.text.proofs.Frames.{string-ends}
-use Rattle.load.proofs.Groups.{below, group-short, group-long, group-four, group-graded}
-use Rattle.load.proofs.row.take_group.Statement.{statement}
-use Rattle.load.proofs.row.take_group.Tie as tie
+use Rattle.keep.proofs.Groups.{below, group-short, group-long, group-four, group-graded, group-kept}
+use mathlib.Core.List.{[]}
+use Rattle.keep.proofs.take_group.Statement.{statement}
+use Rattle.keep.proofs.take_group.Tie as tie
 
 string-end-requires : tie.Need-string-end-requires
 string-end-requires c κs = search needs
@@ -124,7 +125,7 @@ returns-5 c =
     let at-e = c .before .before .before .before .before .before .before .before .before .before .before .before .e in
     let at-string-end = c .before .before .before .before .before .before .before .before .before .before .before .before .before .before .string-end in
     let at-start = c .before .before .before .before .before .before .before .before .before .before .before .before .before .before .before .before .before in
-    (λ b w g. sym (at-if3 .left) ∙ group-graded _ (at-start .pre .0) _ (at-string-end .ensures) b _ w _ (at-e .given .1) (at-if1 .left) _ (at-is-out-of-order .ensures) (at-if2 .left) _ _ _ g _ _ _ _ (at-number .ensures) (at-is-unsized .ensures) (at-all-print .ensures) (at-find .ensures), λ x. (below 255 64 (at-start .args .n) _ _ _ _ _ _ (at-is-unsized .ensures) (at-number .ensures) (at-if3 .left), refl))
+    (λ b w g. sym (at-if3 .left) ∙ group-graded _ (at-start .pre .0) _ (at-string-end .ensures) b _ w _ (at-e .given .1) (at-if1 .left) _ (at-is-out-of-order .ensures) (at-if2 .left) _ _ _ g _ _ _ _ (at-number .ensures) (at-is-unsized .ensures) (at-all-print .ensures) (at-find .ensures), λ x. group-kept _ (at-start .pre .0) _ (at-string-end .ensures) (record { kind = at-start .args .last; groups = []; members = []; ids = [] }) _ refl _ (at-e .given .1) (at-if1 .left) _ (at-is-out-of-order .ensures) _ _ _ (below 255 64 (at-start .args .n) _ _ _ _ _ _ (at-is-unsized .ensures) (at-number .ensures) (at-if3 .left)))
 
 pub take-group-spec : {M : Type 1} → statement M
 take-group-spec =

@@ -27,8 +27,8 @@ use Rattle.table.proofs.Numbers.{or-is, long-is, short-is, stray-is, number-fou
 use Rattle.table.proofs.Frames.{rule-read}
 use Rattle.table.proofs.Rules.{rule-told, rule-untold}
 use Rattle.table.proofs.Versions.{refused-unread, refused-read}
-use Rattle.load.specs.Held.{Marked, idPlace, RuleKept}
-use Rattle.load.proofs.Members.{unlisted-is, listed-is, place-small}
+use Rattle.keep.specs.Held.{Marked, idPlace, RuleKept}
+use Rattle.keep.proofs.Members.{unlisted-is, listed-is, place-small}
 
 -- ---- the filter: a place that is not set proves that no earlier id is the same
 
@@ -41,12 +41,12 @@ id-filter : (s : Str) (f ids seen : List ℕ) (n : ℕ) → Marked seen (idPlace
 id-filter s f ids seen n m z =
     ap (any (same s)) (strings-rows f ids n 0)
     ∙ no-rows s (λ j. stringAt f (getD ids j 0)) n 0 (λ j a b.
-      by (same s (stringAt f (getD ids j 0)))
-      (λ t.
-        let o : getD seen (idPlace f ids j) 0 ≡ 1 = m j (omega arith) in
-        let e : getD seen (idPlace f ids j) 0 ≡ 0 = ap (λ (x : Str). getD seen (hashFrom 0 x) 0) (sym (same→≡ _ _ t)) ∙ z in
-        absurd (omega arith))
-      (λ t. t))
+    by (same s (stringAt f (getD ids j 0)))
+    (λ t.
+    let o : getD seen (idPlace f ids j) 0 ≡ 1 = m j (omega arith) in
+    let e : getD seen (idPlace f ids j) 0 ≡ 0 = ap (λ (x : Str). getD seen (hashFrom 0 x) 0) (sym (same→≡ _ _ t)) ∙ z in
+    absurd (omega arith))
+    (λ t. t))
 
 -- ---- the holder
 
@@ -109,16 +109,26 @@ module _ (f : Str) (pre : (0 < length f) × (getD f 0 0 ≡ 4)) (r : RuleFrame) 
             let a = at in
             let long : length (b .ids) ≡ k = ap length d ∙ strings-length old ids k in
             let five : ((u || v) || (ltb 32 (length (part f (i + 1) o)) || leb 256 k))
-                ≡ ((unsized (a .rule .subject) or unsizedShort (a .rule .id)) or (ltb 32 (length (a .rule .origin)) or leb 256 (length (b .ids)))) =
-                rw (long, a .subject, a .id, a .origin, uu, vv, long-is (part f 5 s) (length (part f 5 s)) refl, short-is (part f (s + 1) i) (length (part f (s + 1) i)) refl,
-                or-is (unsized (part f 5 s)) (unsizedShort (part f (s + 1) i)), or-is (ltb 32 (length (part f (i + 1) o))) (leb 256 k))
-                (or-is (unsized (part f 5 s) or unsizedShort (part f (s + 1) i)) (ltb 32 (length (part f (i + 1) o)) or leb 256 k)) in
+            ≡ ((unsized (a .rule .subject) or unsizedShort (a .rule .id)) or (ltb 32 (length (a .rule .origin)) or leb 256 (length (b .ids)))) =
+            rw (
+              long,
+              a .subject,
+              a .id,
+              a .origin,
+              uu,
+              vv,
+              long-is (part f 5 s) (length (part f 5 s)) refl,
+              short-is (part f (s + 1) i) (length (part f (s + 1) i)) refl,
+              or-is (unsized (part f 5 s)) (unsizedShort (part f (s + 1) i)),
+              or-is (ltb 32 (length (part f (i + 1) o))) (leb 256 k),
+            )
+            (or-is (unsized (part f 5 s) or unsizedShort (part f (s + 1) i)) (ltb 32 (length (part f (i + 1) o)) or leb 256 k)) in
             let six : (not x || (not y || not z)) ≡ (stray (a .rule .subject) or (stray (a .rule .id) or stray (a .rule .origin))) =
-                rw (a .subject, a .id, a .origin, stray-is (part f 5 s) x xx, stray-is (part f (s + 1) i) y yy, stray-is (part f (i + 1) o) z zz, or-is (stray (part f (s + 1) i)) (stray (part f (i + 1) o)))
-                (or-is (stray (part f 5 s)) (stray (part f (s + 1) i) or stray (part f (i + 1) o))) in
+            rw (a .subject, a .id, a .origin, stray-is (part f 5 s) x xx, stray-is (part f (s + 1) i) y yy, stray-is (part f (i + 1) o) z zz, or-is (stray (part f (s + 1) i)) (stray (part f (i + 1) o)))
+            (or-is (stray (part f 5 s)) (stray (part f (s + 1) i) or stray (part f (i + 1) o))) in
             let eight : again ≡ any (same (a .rule .id)) (b .ids) = rw (a .id, d) again-is in
             let nine : (eqb (getD f 3 0) 1 && eqb g count) ≡ (a .rule .byGroup and not (listed (b .groups) (a .rule .subject))) =
-                rw (a .byGroup, a .subject, e) (holder-is (eqb (getD f 3 0) 1) (part f 5 s) (stringsIn old starts count 0) g count gg (sym (strings-length old starts count))) in
+            rw (a .byGroup, a .subject, e) (holder-is (eqb (getD f 3 0) 1) (part f 5 s) (stringsIn old starts count 0) g count gg (sym (strings-length old starts count))) in
             refused-read b f _ m reading
             (number-rule b (a .rule) (sym (order b w) ∙ h) m p _ _ again _ mm (a .path)
             (ap (λ (l : Bool). l or overLimit (a .rule .path)) five) (ap (λ (l : Bool). l or strayByte (a .rule .path)) six) (ap (λ (l : Bool). l or keyTwice (a .rule .path)) eight) nine)
