@@ -122,3 +122,16 @@ merged-clear p five six eight nine e =
     let d = when-clear 8 _ (eight || eqb p 8) (omega arith) (c .1) in
     let n = when-clear 9 _ nine (omega arith) (d .1) in
     (or-false-l five (eqb p 5) (sym (or-is five (eqb p 5)) ∙ a .0), n .0)
+
+-- a line that nothing refuses
+pub refusal-clear : (b : Earlier) (e : Entry) → refusal b (reads e) ≡ 255
+    → (outOfOrder (b .kind) (kindOf e) ≡ false) × (pastLimit b e ≡ false) × (strays e ≡ false) × (misplaces e ≡ false) × (repeats b e ≡ false) × (unlisted b e ≡ false)
+unfolding refusal
+refusal-clear b e h =
+    let a4 = when-clear 4 _ (outOfOrder (b .kind) (kindOf e)) (omega arith) h in
+    let a5 = when-clear 5 _ (pastLimit b e) (omega arith) (a4 .1) in
+    let a6 = when-clear 6 _ (strays e) (omega arith) (a5 .1) in
+    let a7 = when-clear 7 _ (misplaces e) (omega arith) (a6 .1) in
+    let a8 = when-clear 8 _ (repeats b e) (omega arith) (a7 .1) in
+    let a9 = when-clear 9 _ (unlisted b e) (omega arith) (a8 .1) in
+    (a4 .0, a5 .0, a6 .0, a7 .0, a8 .0, a9 .0)
