@@ -1,0 +1,28 @@
+-- A rule table as a mathematical value.
+use Prim.Native.Nat.{ℕ}
+use mathlib.Core.Bool.{Bool}
+use mathlib.Core.List.{List}
+use Rattle.text.specs.String.{Str}
+use Rattle.path.specs.Path.{Path}
+
+pub record Member : Type 0 where
+  pub group : Str
+  pub user : Str
+
+-- "action (0 deny, 1 permit), mode (1 read, 2 write), subject (0 user, 1 group), S subject name, S id, S origin, path"
+pub record Rule : Type 0 where
+  pub permit : Bool
+  pub mode : ℕ
+  pub byGroup : Bool
+  pub subject : Str
+  pub id : Str
+  pub origin : Str
+  pub path : Path
+
+-- "S version, 8 bytes creation time", then the groups, members and rules in text order
+pub record Table : Type 0 where
+  pub version : Str
+  pub time : Str
+  pub groups : List Str
+  pub members : List Member
+  pub rules : List Rule
