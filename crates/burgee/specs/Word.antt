@@ -1,9 +1,32 @@
--- The answer word: one 64-bit number for each answer. Bits 0 to 7 are the refusal number, or 0.
-use Prim.Native.Nat.{ℕ, _*_, _%_, _^_}
+-- The answer word: one 64-bit number for each answer.
+use Prim.Native.Nat.{ℕ, _+_, _*_, _%_, _^_}
 use Rattle.path_text.specs.declared.Filled.{Filled}
-use Rattle.path_text.specs.declared.Filled.the-variants.{Length, Refused}
+use Rattle.path_text.specs.declared.Filled.the-variants as filled
+use Rattle.table.specs.declared.Checked.{Checked}
+use Rattle.table.specs.declared.Checked.the-variants as checked
+use Rattle.table.specs.declared.Counted.{Counted}
+use Rattle.table.specs.declared.Counted.the-variants as counted
 
--- a path result: bits 8 to 39 are its length
+-- n from bit k on, where there are `bits` bits for it
+abbrev pub field : ℕ → ℕ → ℕ → ℕ
+field k bits n = n % 2 ^ bits * 2 ^ k
+
+-- a refusal: bits 0 to 7 its number, bits 8 to 39 its line, which is 0 for a number that carries none
+unfoldable pub refusalWord : ℕ → ℕ → ℕ
+refusalWord number line = number + field 8 32 line
+
+-- a path result: bits 8 to 39 its length
 unfoldable pub filledWord : Filled → ℕ
-filledWord (Length n) = n % 2 ^ 32 * 256
-filledWord (Refused number) = number
+filledWord (filled.Length n) = field 8 32 n
+filledWord (filled.Refused number) = refusalWord number 0
+
+-- a table check
+unfoldable pub checkedWord : Checked → ℕ
+checkedWord checked.Accepted = 0
+checkedWord (checked.Refused number line) = refusalWord number line
+
+-- a user's groups: bits 8 to 15 their count, bits 16 to 31 the first one's number + 1, which is 0 for none
+unfoldable pub countedWord : Counted → ℕ
+countedWord (counted.Count n g) = field 8 8 n + field 16 16 (g .0 + 1)
+countedWord counted.NoGroup = 0
+countedWord (counted.Declined number line) = refusalWord number line

@@ -3,7 +3,9 @@ mod word;
 
 ghost use mathlib.Core.Path.{_≡_};
 ghost use Rattle.path_text.specs.Calls.{bytesFor, textFor, answer, lent};
-ghost use Rattle.burgee.specs.Word.{filledWord};
+ghost use Rattle.table.specs.Text.{check};
+ghost use Rattle.table.specs.Group.{groupCount};
+ghost use Rattle.burgee.specs.Word.{filledWord, checkedWord, countedWord};
 
 // Path text to path bytes.
 #[no_mangle]
@@ -19,4 +21,20 @@ pub extern "C" fn burgee_path_write(bytes: &[u8], out: &mut [u8]) -> u64
     ensures { λ r. ⌜ (r ≡ filledWord (answer (now (out .entry)) (textFor (now (bytes .entry))))) × (now (out .exit) ≡ lent (now (out .entry)) (textFor (now (bytes .entry)))) ⌝ }
 {
     word::of_filled(path_text::writer::write_text(bytes, out))
+}
+
+// A rule table: accepted, or refused with its first faulty line.
+#[no_mangle]
+pub extern "C" fn burgee_table_check(table: &[u8]) -> u64
+    ensures { λ r. ⌜ r ≡ checkedWord (check (now (table .entry))) ⌝ }
+{
+    word::of_checked(groups::check_table(table))
+}
+
+// How many groups of the table list the user, and the first of them.
+#[no_mangle]
+pub extern "C" fn burgee_group_count(table: &[u8], user: &[u8]) -> u64
+    ensures { λ r. ⌜ r ≡ countedWord (groupCount (now (table .entry)) (now (user .entry))) ⌝ }
+{
+    word::of_counted(groups::count_groups(table, user))
 }

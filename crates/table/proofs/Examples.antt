@@ -1,7 +1,7 @@
 -- Texts of rule tables with their answers, by computation.
 use mathlib.Core.Path.{_≡_, refl}
 use mathlib.Core.List.{List, [], _∷_, _++_}
-use Prim.Native.Nat.{ℕ}
+use Prim.Native.Nat.{ℕ, _+_, _*_}
 use Prim.Native.String.{String}
 use Rattle.text.specs.Test.{_and_, _or_, if_then_else_, all, any, twice}
 use Rattle.text.specs.String.{Str, bytes, same}
@@ -11,8 +11,22 @@ use Rattle.path.specs.Faults.{unsized, keyOver, elemOver, overLimit, outsideNam
 use Rattle.line.specs.Lines.{onto, lines, pair, pairs, nonempty, frame}
 use Rattle.table.specs.Frame.{unknown, code, versionBody, groupBody, memberBody, ruleBody, ruleEntry, body, entry, whole, entryOf}
 use Rattle.table.specs.Refusal.{framed, decoded, lineOf, kindOf, outOfOrder, unsizedShort, pastLimit, stray, strays, misplaces, sameMember, repeats, listed, unlisted, refusal, first, with, after}
-use Rattle.table.specs.Text.{unless, judge, check, checkWord, maybe, collect, read, entries, asGroup, asMember, asRule, versionOf, timeOf, table, tableOf}
-use Rattle.table.specs.Group.{lists, numbered, memberships, groupsOf, counted, badUser, countFor, groupCount, countWord}
+use Rattle.table.specs.Text.{unless, judge, check, maybe, collect, read, entries, asGroup, asMember, asRule, versionOf, timeOf, table, tableOf}
+use Rattle.table.specs.Group.{lists, numbered, memberships, groupsOf, counted, badUser, countFor, groupCount}
+use Rattle.table.specs.declared.Checked.{Checked}
+use Rattle.table.specs.declared.Checked.the-variants.{Accepted, Refused}
+use Rattle.table.specs.declared.Counted.{Counted}
+use Rattle.table.specs.declared.Counted.the-variants.{Count, NoGroup, Declined}
+
+-- answers as numbers, to compare them in lists
+unfoldable checkWord : Checked → ℕ
+checkWord Accepted = 0
+checkWord (Refused n l) = n + 256 * l
+
+unfoldable countWord : Counted → ℕ
+countWord (Count n g) = 256 * n + 65536 * (g .0 + 1)
+countWord NoGroup = 0
+countWord (Declined n l) = n + 256 * l
 
 -- a text of whole lines
 abbrev rows : List String → Str

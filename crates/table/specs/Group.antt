@@ -1,5 +1,5 @@
 -- "One call answers how many groups a user belongs to; each user's memberships are a set over at most 64 groups."
-use Prim.Native.Nat.{ℕ, suc, _+_, _*_}
+use Prim.Native.Nat.{ℕ, suc}
 use mathlib.Core.Bool.{Bool, not}
 use mathlib.Core.List.{List, [], _∷_}
 use lib.ListN.{length}
@@ -47,9 +47,3 @@ countFor Accepted t user = if badUser user then Declined 20 0 else counted (grou
 
 unfoldable pub groupCount : Str → Str → Counted
 groupCount text user = countFor (check text) (tableOf text) user
-
--- the answer word: the count from bit 8 on, the first group's number + 1 from bit 16 on
-unfoldable pub countWord : Counted → ℕ
-countWord (Count n g) = 256 * n + 65536 * (g .0 + 1)
-countWord NoGroup = 0
-countWord (Declined n l) = n + 256 * l

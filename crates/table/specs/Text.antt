@@ -1,5 +1,5 @@
 -- A whole rule table text: refused at its first faulty line, or the table that it holds.
-use Prim.Native.Nat.{ℕ, _+_, _*_}
+use Prim.Native.Nat.{ℕ, _+_}
 use mathlib.Core.Bool.{Bool, true, false}
 use mathlib.Core.List.{List, [], _∷_}
 use mathlib.Core.Option.{Option, none, some}
@@ -38,11 +38,6 @@ isAccepted (Refused n l) = false
 
 unfoldable pub accepted : Str → Bool
 accepted text = isAccepted (check text)
-
--- the answer word: a refusal's number, and its line from bit 8 on; 0 where nothing is refused
-unfoldable pub checkWord : Checked → ℕ
-checkWord Accepted = 0
-checkWord (Refused n l) = n + 256 * l
 
 -- ---- the table
 
