@@ -30,7 +30,7 @@ fn byte_at(s: &[u8], at: usize) -> u8
 }
 
 // Where the first byte from `at` on stands that is a or b, or the end.
-fn find(text: &[u8], at: usize, a: u8, b: u8) -> usize
+pub fn find(text: &[u8], at: usize, a: u8, b: u8) -> usize
     requires { ⌜ at ≤ length (now text) ⌝ }
     ensures { λ r. ⌜ r ≡ at + upTo a b (drop at (now (text .entry))) ⌝ }
 {

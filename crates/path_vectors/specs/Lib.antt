@@ -1,0 +1,2 @@
+-- What the program reads of a vector.
+pub mod Vector
