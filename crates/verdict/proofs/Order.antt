@@ -3,16 +3,17 @@ use mathlib.Core.Path.{_≡_, refl, sym, ap, ap₂, _∙_}
 use mathlib.Core.Logic.{_⊎_, inl, inr}
 use mathlib.Core.Bool.{Bool, true, false}
 use mathlib.Core.List.{List, [], _∷_}
-use Prim.Native.Nat.{ℕ, suc, _<_, _≤_}
+use Prim.Native.Nat.{ℕ, suc, _+_, _*_, _<_, _≤_, zero-le}
+use lib.ListN.{length}
 use lib.Dec.{eqb, ltb}
 use borrow.Author.Tests.{ltb-true, eqb-true, lt-ltb, le-ltb, eq-eqb, ne-eqb}
 use native.Mathlib.Omega.{arith}
 use native.Mathlib.Decide.{decLt}
-use Rattle.text.specs.Test.{_and_, _or_}
+use Rattle.text.specs.Test.{_and_, _or_, if_then_else_}
 use Rattle.text.specs.String.{Str, more, before}
 use Rattle.text.proofs.Tests.{clash, by, ands, both, or-l, or-r, or-cases, or-none}
 use Rattle.table.specs.Table.{Rule}
-use Rattle.verdict.specs.Order.{better, earlier}
+use Rattle.verdict.specs.Order.{definites, unless, better, earlier, rankBy, rank}
 
 -- ---- `more`
 
@@ -135,3 +136,60 @@ more-same a b tie e = rw (le-ltb b a (omega arith), eq-eqb a b e)
 pub more-other : (a b : ℕ) (tie : Bool) → (a ≡ b → ⊥) → more a b tie ≡ ltb b a
 unfolding more _and_
 more-other a b tie n = rw (ne-eqb a b n) (or-none _)
+
+-- ---- the ranking as one number
+
+-- a and b compare as x and y do and, where these are equal, as u and v do
+nest : (x y u v a b : ℕ) (tie : Bool) → (x < y → a < b) → (y < x → b < a)
+    → (x ≡ y → u < v → a < b) → (x ≡ y → v < u → b < a) → (x ≡ y → u ≡ v → a ≡ b) → more x y (more u v tie) ≡ more a b tie
+nest x y u v a b tie l g ul ug ue = go (decLt x y) (decLt y x) (decLt u v) (decLt v u)
+  where
+    over : b < a → more a b tie ≡ true
+    over h = more-other a b tie (omega arith) ∙ lt-ltb b a h
+
+    go : Dec (x < y) → Dec (y < x) → Dec (u < v) → Dec (v < u) → more x y (more u v tie) ≡ more a b tie
+    go (yes p) q m n = more-less x y _ p ∙ sym (more-less a b tie (l p))
+    go (no p) (yes q) m n = more-other x y _ (omega arith) ∙ lt-ltb y x q ∙ sym (over (g q))
+    go (no p) (no q) (yes m) n = let e : x ≡ y = omega arith in more-same x y _ e ∙ more-less u v tie m ∙ sym (more-less a b tie (ul e m))
+    go (no p) (no q) (no m) (yes n) = let e : x ≡ y = omega arith in more-same x y _ e ∙ more-other u v tie (omega arith) ∙ lt-ltb v u n ∙ sym (over (ug e n))
+    go (no p) (no q) (no m) (no n) =
+        let e : x ≡ y = omega arith in
+        let i : u ≡ v = omega arith in
+        more-same x y _ e ∙ more-same u v tie i ∙ sym (more-same a b tie (ue e i))
+
+pub unless-small : (b : Bool) → unless b < 2
+unfolding if_then_else_
+unless-small true = omega arith
+unless-small false = omega arith
+
+-- one more two-valued step
+nest-2 : (x y u v : ℕ) (tie : Bool) → u < 2 → v < 2 → more x y (more u v tie) ≡ more (x * 2 + u) (y * 2 + v) tie
+nest-2 x y u v tie p q =
+    nest x y u v (x * 2 + u) (y * 2 + v) tie (λ h. omega arith) (λ h. omega arith) (λ e h. omega arith) (λ e h. omega arith) (λ e h. omega arith)
+
+nest-65536 : (x y u v : ℕ) (tie : Bool) → u < 65536 → v < 65536 → more x y (more u v tie) ≡ more (x * 65536 + u) (y * 65536 + v) tie
+nest-65536 x y u v tie p q =
+    nest x y u v (x * 65536 + u) (y * 65536 + v) tie (λ h. omega arith) (λ h. omega arith) (λ e h. omega arith) (λ e h. omega arith) (λ e h. omega arith)
+
+pub better-rank : (r s : Rule) → definites (r .path) < 65536 → definites (s .path) < 65536 → better r s ≡ more (rank r) (rank s) (before (r .id) (s .id))
+unfolding better rank rankBy
+better-rank r s p q =
+    nest-65536 (length (r .path)) (length (s .path)) (definites (r .path)) (definites (s .path)) _ p q
+    ∙ nest-2 (length (r .path) * 65536 + definites (r .path)) (length (s .path) * 65536 + definites (s .path)) (unless (r .byGroup)) (unless (s .byGroup)) _ (unless-small (r .byGroup)) (unless-small (s .byGroup))
+    ∙ nest-2 _ _ (unless (r .permit)) (unless (s .permit)) _ (unless-small (r .permit)) (unless-small (s .permit))
+
+-- two rules of which none is better have one action
+pub tied-permit : (r s : Rule) → better r s ≡ false → better s r ≡ false → r .permit ≡ s .permit
+unfolding better
+tied-permit r s e f =
+    let a = tied _ _ _ _ e f in
+    let b = tied _ _ _ _ (a .1) (a .2) in
+    let c = tied _ _ _ _ (b .1) (b .2) in
+    let d = tied _ _ _ _ (c .1) (c .2) in
+    unless-one (r .permit) (s .permit) (d .0)
+  where
+    unless-one : (x y : Bool) → unless x ≡ unless y → x ≡ y
+    unless-one true true h = refl
+    unless-one true false h = absurd (unfold if_then_else_ in omega arith)
+    unless-one false true h = absurd (unfold if_then_else_ in omega arith)
+    unless-one false false h = refl

@@ -10,7 +10,7 @@ use Rattle.text.proofs.Tests.{clash, by, bool-ext, and-l, and-r, ands, both, or
 use Rattle.path.specs.Path.{Key, Elem, Path}
 use Rattle.path.specs.Faults.{sameName, keyTwice}
 use Rattle.verdict.specs.Cover.{wild, given, definite, sameKey, holds, meets, covers}
-use Rattle.verdict.specs.Join.{conflict, agrees, agree, meld, join, meetsBoth, coversBoth}
+use Rattle.verdict.specs.Join.{conflict, clashes, agrees, agree, meld, join, meetsBoth, coversBoth}
 use Rattle.verdict.proofs.Twice.{→none, twice→, twice-only, twice-append}
 
 -- ---- keys
@@ -76,18 +76,18 @@ record Agrees (r p : Elem) : Type 0 where
   fit : (j k : Key) → j ∈ definite r → k ∈ definite p → j .name ≡ k .name → j ≡ k
 
 agrees→ : (r p : Elem) → agrees r p ≡ true → Agrees r p
-unfolding agrees
+unfolding agrees clashes
 agrees→ r p h =
     record {
       name = same→≡ _ _ (and-l _ _ h);
-      fit = λ j k m n. one-key j k (none-any (λ (i : Key). conflict i k) (definite r) (none-any (λ (i : Key). any (λ (x : Key). conflict x i) (definite r)) (definite p) (not-true _ (and-r _ _ h)) n) m);
+      fit = λ j k m n. one-key j k (none-any (λ (i : Key). conflict i k) (definite r) (none-any (clashes (definite r)) (definite p) (not-true _ (and-r _ _ h)) n) m);
     }
 
 →agrees : (r p : Elem) → Agrees r p → agrees r p ≡ true
-unfolding agrees
+unfolding agrees clashes
 →agrees r p h =
     both _ _ (≡→same (h .name))
-    (free (any (λ (k : Key). any (λ (j : Key). conflict j k) (definite r)) (definite p))
+    (free (any (clashes (definite r)) (definite p))
     (→none _ _ (λ k n. →none _ _ (λ j m. no-conflict j k (h .fit j k m n)))))
   where
     free : (b : Bool) → b ≡ false → not b ≡ true

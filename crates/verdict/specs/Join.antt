@@ -10,9 +10,13 @@ use Rattle.verdict.specs.Cover.{definite, holds, covers}
 unfoldable pub conflict : Key → Key → Bool
 conflict j k = same (j .name) (k .name) and not (same (j .value) (k .value))
 
+-- the keys give k's name another value
+unfoldable pub clashes : List Key → Key → Bool
+clashes ks k = any (λ (j : Key). conflict j k) ks
+
 -- "names agree .., and no key is given two definite values"
 unfoldable pub agrees : Elem → Elem → Bool
-agrees r p = same (r .name) (p .name) and not (any (λ (k : Key). any (λ (j : Key). conflict j k) (definite r)) (definite p))
+agrees r p = same (r .name) (p .name) and not (any (clashes (definite r)) (definite p))
 
 -- "as far as both go"
 unfoldable pub agree : Path → Path → Bool

@@ -1,15 +1,14 @@
 -- The orders of rules, and the best of a list.
-use Prim.Native.Nat.{ℕ, suc, _+_}
+use Prim.Native.Nat.{ℕ, suc, _+_, _*_}
 use mathlib.Core.Bool.{Bool}
 use mathlib.Core.List.{List, [], _∷_}
 use mathlib.Core.Option.{Option, none, some}
 use lib.ListN.{length}
 use Rattle.text.specs.Test.{if_then_else_}
-use Rattle.text.specs.String.{Str, more, before}
+use Rattle.text.specs.String.{more, before}
 use Rattle.path.specs.Path.{Path}
 use Rattle.table.specs.Table.{Rule}
 use Rattle.verdict.specs.Cover.{definite}
-use Rattle.verdict.specs.declared.Rank.{Rank}
 
 -- "definite keys, counted over the whole rule path"
 unfoldable pub definites : Path → ℕ
@@ -56,16 +55,11 @@ unfoldable pub choose : (Rule → Rule → Bool) → (Rule → Bool) → ℕ →
 choose over test i [] = none
 choose over test i (r ∷ rs) = prefer over (candidate test i r) (choose over test (suc i) rs)
 
--- ---- the ranking by what a program keeps of a rule
+-- ---- the ranking as one number, for programs
 
-unfoldable pub rankOf : Rule → Rank
-rankOf r = record { elements = length (r .path); keys = definites (r .path); group = r .byGroup; permit = r .permit }
+-- grows with each part, the first weighing most, where there are fewer than 65,536 keys
+unfoldable pub rankBy : ℕ → ℕ → Bool → Bool → ℕ
+rankBy elements keys group permit = ((elements * 65536 + keys) * 2 + unless group) * 2 + unless permit
 
--- `better` of two rules with these ranks and ids
-unfoldable pub betterBy : Rank → Rank → Str → Str → Bool
-betterBy a b x y =
-    more (a .elements) (b .elements)
-    (more (a .keys) (b .keys)
-    (more (unless (a .group)) (unless (b .group))
-    (more (unless (a .permit)) (unless (b .permit))
-    (before x y))))
+unfoldable pub rank : Rule → ℕ
+rank r = rankBy (length (r .path)) (definites (r .path)) (r .byGroup) (r .permit)
