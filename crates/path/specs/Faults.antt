@@ -66,7 +66,7 @@ misplaced p = any elemMisplaced p
 
 -- ---- 8: "key in an element twice"
 
-unfoldable pub sameName : Key → Key → Bool
+abbrev pub sameName : Key → Key → Bool
 sameName j k = same (j .name) (k .name)
 
 unfoldable pub keyTwice : Path → Bool

@@ -46,10 +46,10 @@ unfoldable pub walked : {A : Type 0} → (A → ℕ) → Parsed A → Walk
 walked g (got a t) = To (g a) t
 walked g unread = Unread
 
--- a later key has the name
-unfoldable pub named : Str → Parsed (List Key) → Bool
-named n (got ks t) = any (λ (k : Key). same n (k .name)) ks
-named n unread = false
+-- b, or one of the keys has the name
+unfoldable pub hasName : Bool → Str → Parsed (List Key) → Bool
+hasName b n (got ks t) = b or any (λ (k : Key). same n (k .name)) ks
+hasName b n unread = false
 
 -- the bytes are those of a good path, and nothing more
 unfoldable pub isPathIn : List ℕ → Parsed Path → Bool

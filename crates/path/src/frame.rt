@@ -1,9 +1,10 @@
 // A path inside a frame: where it ends, and the smallest refusal number that it gets. Limits are judged, not assumed: any count byte reads.
 ghost use mathlib.Core.Path.{_≡_};
+ghost use mathlib.Core.Bool.{false};
 ghost use Rattle.text.specs.Frame.{times};
 ghost use Rattle.path.specs.Bytes.{key, element, path};
 ghost use Rattle.path.specs.Faults.{pathRefusal};
-ghost use Rattle.path.specs.Walk.{keysGrade, elemGrade, elemsGrade, walked, named, isPath};
+ghost use Rattle.path.specs.Walk.{keysGrade, elemGrade, elemsGrade, walked, hasName, isPath};
 use text::frame::End;
 
 pub enum Walk {
@@ -14,7 +15,7 @@ pub enum Walk {
 
 // One of the `count` keys from `at` on has the name. (False where they do not read.)
 fn has_key(f: &[u8], at: usize, count: usize, name: &[u8]) -> bool
-    ensures { λ r. ⌜ r ≡ named (now (name .entry)) (times count key (now (f .entry)) at) ⌝ }
+    ensures { λ r. ⌜ r ≡ hasName false (now (name .entry)) (times count key (now (f .entry)) at) ⌝ }
 {
     let mut found = false;
     let mut p = at;

@@ -1,1 +1,6 @@
 pub mod Table
+pub mod Frame
+pub mod Refusal
+pub mod Text
+pub mod Group
+pub mod Walk

@@ -84,3 +84,19 @@ module _ {A : Type 0} (r : Reader A) (f : List ℕ) (p : ℕ) where
   unfolding times ret
   times-done zero z = refl
   times-done (suc n) z = absurd (omega arith)
+
+counted : {A : Type 0} (n : ℕ) (a : A) (x : Parsed (List A)) (xs : List A) (t : ℕ)
+    → ((ys : List A) (q : ℕ) → x ≡ got ys q → length ys ≡ n) → andThen x (λ ys q. got (a ∷ ys) q) ≡ got xs t → length xs ≡ suc n
+counted n a (got ys q) xs t h e = let i : a ∷ ys ≡ xs = cc in ap length (sym i) ∙ ap suc (h ys q refl)
+counted n a unread xs t h e = let x : _≡_ {A = ℕ} 0 1 = cc in absurd (omega arith)
+
+-- n readings give n things
+pub times-length : {A : Type 0} (r : Reader A) (f : List ℕ) (n p : ℕ) (xs : List A) (t : ℕ) → times n r f p ≡ got xs t → length xs ≡ n
+unfolding times _>>=_ ret
+times-length r f zero p xs t e = let i : [] ≡ xs = cc in ap length (sym i)
+times-length {A = A} r f (suc n) p xs t e = go (λ q ys u h. times-length r f n q ys u h) (r f p) e
+  where
+    go : ((q : ℕ) (ys : List A) (u : ℕ) → times n r f q ≡ got ys u → length ys ≡ n) → (x : Parsed A)
+        → andThen x (λ a q. andThen (times n r f q) (λ ys u. got (a ∷ ys) u)) ≡ got xs t → length xs ≡ suc n
+    go ih (got a q) h = counted n a (times n r f q) xs t (ih q) h
+    go ih unread h = let x : _≡_ {A = ℕ} 0 1 = cc in absurd (omega arith)

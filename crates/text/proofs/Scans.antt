@@ -1,6 +1,6 @@
 -- One turn of each scan of a string, and each way out of it.
 use mathlib.Core.Path.{_≡_, refl, sym, ap, _∙_}
-use mathlib.Core.Bool.{Bool, true, false}
+use mathlib.Core.Bool.{Bool, true, false, _||_}
 use mathlib.Core.List.{List, [], _∷_}
 use Prim.Native.Nat.{ℕ, zero, suc, _+_, _≤_, _<_}
 use native.Mathlib.Numerals.{add-one}
@@ -11,7 +11,7 @@ use lib.ListN.{length, drop, getD, drop-of-length-le}
 use lib.Seq.{drop-cons}
 use Rattle.text.specs.Test.{_and_, _or_, all, any}
 use Rattle.text.specs.String.{same, more, before}
-use Rattle.text.proofs.Tests.{or-assoc, or-none}
+use Rattle.text.proofs.Tests.{or-join, or-none}
 
 module _ (p : ℕ → Bool) (a : List ℕ) (i : ℕ) where
   pub all-pass : i < length a → p (getD a i 0) ≡ true → all p (drop i a) ≡ all p (drop (i + 1) a)
@@ -26,15 +26,15 @@ module _ (p : ℕ → Bool) (a : List ℕ) (i : ℕ) where
   unfolding all
   all-end h = rw drop-of-length-le
 
-  -- a flag that gathers whether some byte passes
-  pub any-turn : (whole flag : Bool) → i < length a → whole ≡ (flag or any p (drop i a))
-      → whole ≡ ((flag or p (getD a i 0)) or any p (drop (i + 1) a))
+  -- a flag gathers whether some byte passes
+  pub any-turn : (whole flag t : Bool) → i < length a → t ≡ p (getD a i 0) → whole ≡ (flag or any p (drop i a))
+      → whole ≡ ((flag || t) or any p (drop (i + 1) a))
   unfolding any
-  any-turn whole flag h e = e ∙ rw (add-one, drop-cons a i 0) (sym (or-assoc flag _ _))
+  any-turn whole flag t h j e = e ∙ rw (add-one, drop-cons a i 0, j) (or-join flag _ _)
 
-  pub any-end : (whole flag : Bool) → length a ≤ i → whole ≡ (flag or any p (drop i a)) → whole ≡ (flag or false)
+  pub any-end : (whole flag : Bool) → length a ≤ i → whole ≡ (flag or any p (drop i a)) → whole ≡ flag
   unfolding any
-  any-end whole flag h e = e ∙ rw (drop-of-length-le a h)
+  any-end whole flag h e = e ∙ rw (drop-of-length-le a h) (or-none flag)
 
 module _ (a b : List ℕ) (i : ℕ) where
   pub same-pass : i < length a → i < length b → getD a i 0 ≡ getD b i 0 → same (drop i a) (drop i b) ≡ same (drop (i + 1) a) (drop (i + 1) b)

@@ -1,7 +1,7 @@
 -- What the tests of specs/Test and specs/String decide, each as the fact that it stands for.
 use mathlib.Core.Path.{_≡_, refl, sym, ap, ap₂, _∙_, subst}
 use mathlib.Core.Logic.{_⊎_, inl, inr}
-use mathlib.Core.Bool.{Bool, true, false, not, _&&_}
+use mathlib.Core.Bool.{Bool, true, false, not, _&&_, _||_}
 use mathlib.Core.List.{List, [], _∷_, _++_, List·Memᴰ, List·Memᴰ·head, List·Memᴰ·tail, List·Memᴰ·not-nil}
 use Prim.Native.Nat.{ℕ}
 use borrow.Author.Tests.{eqb-true, eq-eqb, not-true}
@@ -80,7 +80,12 @@ unfolding _or_
 or-none true = refl
 or-none false = refl
 
--- the library's `&&`, of byte tests
+-- the library's `||` and `&&`, which byte tests and programs use
+pub or-join : (a b c : Bool) → (a or (b or c)) ≡ ((a || b) or c)
+unfolding _or_
+or-join true b c = refl
+or-join false b c = refl
+
 pub and-left : (s t : Bool) → (s && t) ≡ true → s ≡ true
 and-left true t e = refl
 and-left false t e = e

@@ -1,27 +1,47 @@
+-- `grade` equals its definition.
+use Rattle.text.specs.Test.{if_then_else_}
+use Rattle.path.specs.Faults.{grade}
 use Rattle.path.proofs.fault.grade.Statement.{statement}
 use Rattle.path.proofs.fault.grade.Tie as tie
-use Rattle.path.proofs.fault.grade.Reads as reads
-use Rattle.path.proofs.fault.grade.Lts as lts
 
--- src/fault.rt:20:9
 returns : tie.Need-returns
-returns c = ?
+unfolding grade if_then_else_
+returns c =
+    let at-if1 = c .if1 in
+    rw (at-if1 .taken)
 
--- src/fault.rt:23:9
 returns-2 : tie.Need-returns-2
-returns-2 c = ?
+unfolding grade if_then_else_
+returns-2 c =
+    let at-if2 = c .if2 in
+    let at-if1 = c .before .if1 in
+    rw (at-if1 .left, at-if2 .taken)
 
--- src/fault.rt:26:9
 returns-3 : tie.Need-returns-3
-returns-3 c = ?
+unfolding grade if_then_else_
+returns-3 c =
+    let at-if3 = c .if3 in
+    let at-if2 = c .before .if2 in
+    let at-if1 = c .before .before .if1 in
+    rw (at-if1 .left, at-if2 .left, at-if3 .taken)
 
--- src/fault.rt:29:9
 returns-4 : tie.Need-returns-4
-returns-4 c = ?
+unfolding grade if_then_else_
+returns-4 c =
+    let at-if4 = c .if4 in
+    let at-if3 = c .before .if3 in
+    let at-if2 = c .before .before .if2 in
+    let at-if1 = c .before .before .before .if1 in
+    rw (at-if1 .left, at-if2 .left, at-if3 .left, at-if4 .taken)
 
--- src/fault.rt:16:1
 returns-5 : tie.Need-returns-5
-returns-5 c = ?
+unfolding grade if_then_else_
+returns-5 c =
+    let at-if4 = c .if4 in
+    let at-if3 = c .before .if3 in
+    let at-if2 = c .before .before .if2 in
+    let at-if1 = c .before .before .before .if1 in
+    rw (at-if1 .left, at-if2 .left, at-if3 .left, at-if4 .left)
 
 pub grade-spec : {M : Type 1} → statement M
 grade-spec = tie.close (tie.spec returns returns-2 returns-3 returns-4 returns-5)

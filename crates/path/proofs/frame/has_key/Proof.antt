@@ -1,87 +1,114 @@
+-- `has_key` equals its definition: the flag gathers which names were met.
+use borrow.Author.Needs.{needs}
+use native.Mathlib.Omega.{arith}
+use mathlib.Core.Path.{_≡_, refl, sym, _∙_}
+use mathlib.Core.Bool.{false}
+use Rattle.text.specs.Frame.{times}
+use Rattle.text.proofs.Frames.{string-ends}
+use Rattle.path.specs.Bytes.{key}
+use Rattle.path.specs.Walk.{hasName}
+use Rattle.path.proofs.Walks.{has-turn, has-nameless, has-valueless, has-done}
 use Rattle.path.proofs.frame.has_key.Statement.{statement}
 use Rattle.path.proofs.frame.has_key.Tie as tie
-use Rattle.path.proofs.frame.has_key.Reads as reads
-use Rattle.path.proofs.frame.has_key.Lts as lts
-use Rattle.text.proofs.frame.string_end.Reads as string-end-reads
-use Rattle.text.proofs.string.is_same.Reads as is-same-reads
 
 abbrev Inv-loop : tie.InvT-loop
-Inv-loop f at count name found₀ p₀ left₀ found p left = ?
+Inv-loop f at count name found₀ p₀ left₀ found p left = hasName false name (times count key f at) ≡ hasName found name (times left key f p)
 
 abbrev μ-loop : tie.MeasureT-loop
-μ-loop f at count name found₀ p₀ left₀ found p left = ?
+μ-loop f at count name found₀ p₀ left₀ found p left = left
 
--- src/frame.rt:22:5
 loop-holds : tie.Need-loop-holds Inv-loop μ-loop
-loop-holds c = ?
+loop-holds c = refl
 
--- src/frame.rt:23:13
 string-end-requires : tie.Need-string-end-requires Inv-loop μ-loop
-string-end-requires c κs = ?
+string-end-requires c κs = search needs
 
--- src/frame.rt:24:21
 enum-known-n : tie.Need-enum-known-n Inv-loop μ-loop
-enum-known-n c = ?
+enum-known-n c = search needs
 
--- src/frame.rt:25:13
 enum-told : tie.Need-enum-told Inv-loop μ-loop
-enum-told c = ?
+enum-told c = search needs
 
--- src/frame.rt:25:13
 returns : tie.Need-returns Inv-loop μ-loop
-returns c = ?
+returns c =
+    let at-enum-told = c .enum-told in
+    let at-string-end = c .before .before .string-end in
+    let at-loop-test = c .before .before .before .loop-test in
+    let at-loop = c .before .before .before .before .loop in
+    let at-start = c .before .before .before .before .before .before .before in
+    sym (at-loop .inv ∙ has-nameless (at-start .args .f .now) (at-loop .p) _ (at-string-end .ensures) (at-loop .found) (at-start .args .name .now) (at-loop .left) (at-loop-test .taken) (at-enum-told .given .1))
 
--- src/frame.rt:27:13
 string-end-requires-2 : tie.Need-string-end-requires-2 Inv-loop μ-loop
-string-end-requires-2 c κs = ?
+string-end-requires-2 c κs = search needs
 
--- src/frame.rt:28:21
 enum-known-v : tie.Need-enum-known-v Inv-loop μ-loop
-enum-known-v c = ?
+enum-known-v c = search needs
 
--- src/frame.rt:29:13
 enum-told-2 : tie.Need-enum-told-2 Inv-loop μ-loop
-enum-told-2 c = ?
+enum-told-2 c = search needs
 
--- src/frame.rt:29:13
 returns-2 : tie.Need-returns-2 Inv-loop μ-loop
-returns-2 c = ?
+returns-2 c =
+    let at-enum-told2 = c .enum-told2 in
+    let at-string-end2 = c .before .before .string-end2 in
+    let at-n = c .before .before .before .before .n in
+    let at-string-end = c .before .before .before .before .before .before .string-end in
+    let at-loop-test = c .before .before .before .before .before .before .before .loop-test in
+    let at-loop = c .before .before .before .before .before .before .before .before .loop in
+    let at-start = c .before .before .before .before .before .before .before .before .before .before .before in
+    sym (at-loop .inv ∙ has-valueless (at-start .args .f .now) (at-loop .p) _ (at-string-end .ensures) (at-loop .found) (at-start .args .name .now) (at-loop .left) _ _ (at-loop-test .taken) (at-n .given .1) (at-string-end2 .ensures) (at-enum-told2 .given .1))
 
--- src/frame.rt:31:21
 add-start : tie.Need-add-start Inv-loop μ-loop
-add-start c = ?
+add-start c =
+    let at-n = c .before .before .before .before .before .n in
+    let at-string-end = c .before .before .before .before .before .before .before .string-end in
+    let t = string-ends _ _ _ (at-string-end .ensures) _ (at-n .given .1) in omega (arith, t .1, t .2)
 
--- src/frame.rt:32:53
 sub-is-same : tie.Need-sub-is-same Inv-loop μ-loop
-sub-is-same c = ?
+sub-is-same c =
+    let at-n = c .before .before .before .before .before .n in
+    let at-string-end = c .before .before .before .before .before .before .before .string-end in
+    string-ends _ _ _ (at-string-end .ensures) _ (at-n .given .1) .1
 
--- src/frame.rt:32:53
 part-is-same-start : tie.Need-part-is-same-start Inv-loop μ-loop
-part-is-same-start c = ?
+part-is-same-start c =
+    let at-n = c .before .before .before .before .before .n in
+    let at-string-end = c .before .before .before .before .before .before .before .string-end in
+    string-ends _ _ _ (at-string-end .ensures) _ (at-n .given .1) .1
 
--- src/frame.rt:32:53
 part-is-same-end : tie.Need-part-is-same-end Inv-loop μ-loop
-part-is-same-end c = ?
+part-is-same-end c =
+    let at-n = c .before .before .before .before .before .n in
+    let at-string-end = c .before .before .before .before .before .before .before .string-end in
+    string-ends _ _ _ (at-string-end .ensures) _ (at-n .given .1) .2
 
--- src/frame.rt:32:25
 is-same-requires : tie.Need-is-same-requires Inv-loop μ-loop
-is-same-requires c κs = ?
+is-same-requires c κs = search needs
 
--- src/frame.rt:34:9
 sub-left : tie.Need-sub-left Inv-loop μ-loop
-sub-left c = ?
+sub-left c = search needs
 
--- src/frame.rt:22:5
 loop-less : tie.Need-loop-less Inv-loop μ-loop
-loop-less c = ?
+loop-less c = search needs
 
--- src/frame.rt:22:5
 loop-again : tie.Need-loop-again Inv-loop μ-loop
-loop-again c = ?
+loop-again c =
+    let at-is-same = c .is-same in
+    let at-v = c .before .before .before .v in
+    let at-string-end2 = c .before .before .before .before .before .string-end2 in
+    let at-n = c .before .before .before .before .before .before .before .n in
+    let at-string-end = c .before .before .before .before .before .before .before .before .before .string-end in
+    let at-loop-test = c .before .before .before .before .before .before .before .before .before .before .loop-test in
+    let at-loop = c .before .before .before .before .before .before .before .before .before .before .before .loop in
+    let at-start = c .before .before .before .before .before .before .before .before .before .before .before .before .before .before in
+    at-loop .inv ∙ has-turn (at-start .args .f .now) (at-loop .p) _ (at-string-end .ensures) (at-loop .found) (at-start .args .name .now) (at-loop .left) _ _ _ _ (at-loop-test .taken) (at-n .given .1) (at-string-end2 .ensures) (at-v .given .1) (at-is-same .ensures)
 
--- src/frame.rt:16:1
 returns-3 : tie.Need-returns-3 Inv-loop μ-loop
-returns-3 c = ?
+returns-3 c =
+    let at-loop-test = c .loop-test in
+    let at-loop = c .before .loop in
+    let at-start = c .before .before .before .before in
+    sym (at-loop .inv ∙ has-done (at-start .args .f .now) (at-loop .p) (at-loop .found) (at-start .args .name .now) (at-loop .left) (at-loop-test .left))
 
 pub has-key-spec : {M : Type 1} → statement M
 has-key-spec =

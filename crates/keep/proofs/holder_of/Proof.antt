@@ -1,0 +1,25 @@
+-- `holder_of` equals its definition.
+use borrow.Author.Needs.{needs}
+use mathlib.Core.Path.{_≡_, refl, sym, ap, _∙_}
+use Rattle.text.specs.Test.{if_then_else_}
+use Rattle.keep.proofs.holder_of.Statement.{statement}
+use Rattle.keep.proofs.holder_of.Tie as tie
+
+find-requires : tie.Need-find-requires
+find-requires c κs = search needs
+
+returns : tie.Need-returns
+unfolding if_then_else_
+returns c =
+    let at-find = c .find in
+    let at-if1 = c .before .if1 in
+    rw (at-if1 .taken) (at-find .ensures)
+
+returns-2 : tie.Need-returns-2
+unfolding if_then_else_
+returns-2 c =
+    let at-if1 = c .if1 in
+    rw (at-if1 .left)
+
+pub holder-of-spec : {M : Type 1} → statement M
+holder-of-spec = tie.close (tie.spec find-requires returns returns-2)

@@ -1,0 +1,150 @@
+-- `decode` stores the bytes of the leading pairs of digits. The invariant: those of the rest are pending.
+use borrow.Author.Needs.{needs}
+use native.Mathlib.Omega.{arith}
+use mathlib.Core.Path.{_≡_, refl, sym, ap, _∙_}
+use Prim.Native.Nat.{_+_, _-_, _*_, _/_, _≤_}
+use lib.ListN.{length, drop, length-drop}
+use Rattle.text.proofs.Filling.{Pending, fill-start, fill-set, fill-byte, fill-done}
+use Rattle.text.proofs.Bytes.{hexValue-small}
+use Rattle.line.specs.Lines.{digits}
+use Rattle.line.proofs.Digits.{digits-turn, digits-stop, digits-end, digits-half, decode-start, decode-turn, decode-room, decode-done, value-fits}
+use Rattle.line.proofs.decode.Statement.{statement}
+use Rattle.line.proofs.decode.Tie as tie
+
+abbrev Inv-loop : tie.InvT-loop
+Inv-loop text from out₀ at i₀ k₀ out i k = (from ≤ i) × (i ≤ length text) × (at ≤ k) × Pending out₀ at (digits (drop from text)) out k (digits (drop i text))
+
+abbrev μ-loop : tie.MeasureT-loop
+μ-loop text from out₀ at i₀ k₀ out i k = length text - i
+
+loop-holds : tie.Need-loop-holds Inv-loop μ-loop
+loop-holds c =
+    let at-start = c .before .before in
+    (omega arith, at-start .pre .0, omega arith, decode-start (at-start .args .text .now) _ (at-start .args .from) _ (at-start .pre .1))
+
+add-loop : tie.Need-add-loop Inv-loop μ-loop
+add-loop c = omega arith
+
+shared-slice-read-hex-value : tie.Need-shared-slice-read-hex-value Inv-loop μ-loop
+shared-slice-read-hex-value c = search needs
+
+hex-value-requires : tie.Need-hex-value-requires Inv-loop μ-loop
+hex-value-requires c κs = search needs
+
+add-hex-value : tie.Need-add-hex-value Inv-loop μ-loop
+add-hex-value c = omega arith
+
+shared-slice-read-hex-value-2 : tie.Need-shared-slice-read-hex-value-2 Inv-loop μ-loop
+shared-slice-read-hex-value-2 c = search needs
+
+hex-value-requires-2 : tie.Need-hex-value-requires-2 Inv-loop μ-loop
+hex-value-requires-2 c κs = search needs
+
+sub-result : tie.Need-sub-result Inv-loop μ-loop
+sub-result c =
+    let at-loop = c .before .before .before .before .before .before .loop in
+    at-loop .inv .2
+
+same-length : tie.Need-same-length Inv-loop μ-loop
+same-length c =
+    let at-loop = c .before .before .before .before .before .before .loop in
+    at-loop .inv .3 .long
+
+returns : tie.Need-returns Inv-loop μ-loop
+returns c =
+    let at-if1 = c .if1 in
+    let at-hex-value2 = c .before .hex-value2 in
+    let at-hex-value = c .before .before .before .hex-value in
+    let at-loop-test = c .before .before .before .before .before .loop-test in
+    let at-loop = c .before .before .before .before .before .before .loop in
+    decode-done _ _ _ _ _ _ (at-loop .inv .2) (at-loop .inv .3) (digits-stop _ _ _ _ (at-loop-test .taken) (at-hex-value .ensures) (at-hex-value2 .ensures) (at-if1 .taken))
+
+mul-out : tie.Need-mul-out Inv-loop μ-loop
+mul-out c =
+    let at-if1 = c .if1 in
+    let at-hex-value2 = c .before .hex-value2 in
+    let at-hex-value = c .before .before .before .hex-value in
+    let v = value-fits _ _ _ _ (at-hex-value .ensures) (at-hex-value2 .ensures) (at-if1 .left) in omega arith
+
+add-out : tie.Need-add-out Inv-loop μ-loop
+add-out c =
+    let at-if1 = c .if1 in
+    let at-hex-value2 = c .before .hex-value2 in
+    let at-hex-value = c .before .before .before .hex-value in
+    let v = value-fits _ _ _ _ (at-hex-value .ensures) (at-hex-value2 .ensures) (at-if1 .left) in omega arith
+
+slice-write-out : tie.Need-slice-write-out Inv-loop μ-loop
+slice-write-out c =
+    let at-if1 = c .if1 in
+    let at-hex-value2 = c .before .hex-value2 in
+    let at-hex-value = c .before .before .before .hex-value in
+    let at-loop-test = c .before .before .before .before .before .loop-test in
+    let at-loop = c .before .before .before .before .before .before .loop in
+    decode-room _ _ _ _ _ _ _ _ (at-loop .inv .3) (digits-turn _ _ _ _ (at-loop-test .taken) (at-hex-value .ensures) (at-hex-value2 .ensures) (at-if1 .left))
+
+add-k : tie.Need-add-k Inv-loop μ-loop
+add-k c =
+    let at-if1 = c .if1 in
+    let at-hex-value2 = c .before .hex-value2 in
+    let at-hex-value = c .before .before .before .hex-value in
+    let at-loop-test = c .before .before .before .before .before .loop-test in
+    let at-loop = c .before .before .before .before .before .before .loop in
+    let v = decode-room _ _ _ _ _ _ _ _ (at-loop .inv .3) (digits-turn _ _ _ _ (at-loop-test .taken) (at-hex-value .ensures) (at-hex-value2 .ensures) (at-if1 .left)) in omega arith
+
+add-i : tie.Need-add-i Inv-loop μ-loop
+add-i c = omega arith
+
+loop-less : tie.Need-loop-less Inv-loop μ-loop
+loop-less c = omega arith
+
+loop-again : tie.Need-loop-again Inv-loop μ-loop
+loop-again c =
+    let at-if1 = c .if1 in
+    let at-hex-value2 = c .before .hex-value2 in
+    let at-hex-value = c .before .before .before .hex-value in
+    let at-loop-test = c .before .before .before .before .before .loop-test in
+    let at-loop = c .before .before .before .before .before .before .loop in
+    (omega arith, omega arith, omega arith, decode-turn _ _ _ _ _ _ _ _ (at-loop .inv .3) (digits-turn _ _ _ _ (at-loop-test .taken) (at-hex-value .ensures) (at-hex-value2 .ensures) (at-if1 .left)))
+
+sub-result-2 : tie.Need-sub-result-2 Inv-loop μ-loop
+sub-result-2 c =
+    let at-loop = c .before .loop in
+    at-loop .inv .2
+
+same-length-2 : tie.Need-same-length-2 Inv-loop μ-loop
+same-length-2 c =
+    let at-loop = c .before .loop in
+    at-loop .inv .3 .long
+
+returns-2 : tie.Need-returns-2 Inv-loop μ-loop
+returns-2 c =
+    let at-loop-test = c .loop-test in
+    let at-loop = c .before .loop in
+    decode-done _ _ _ _ _ _ (at-loop .inv .2) (at-loop .inv .3) (digits-end _ _ (at-loop-test .left))
+
+pub decode-spec : {M : Type 1} → statement M
+decode-spec =
+    tie.close
+    (tie.spec
+    Inv-loop
+    μ-loop
+    loop-holds
+    add-loop
+    shared-slice-read-hex-value
+    hex-value-requires
+    add-hex-value
+    shared-slice-read-hex-value-2
+    hex-value-requires-2
+    sub-result
+    same-length
+    returns
+    mul-out
+    add-out
+    slice-write-out
+    add-k
+    add-i
+    loop-less
+    loop-again
+    sub-result-2
+    same-length-2
+    returns-2)

@@ -1,0 +1,43 @@
+-- What the scan of a string and the numbers of its parts stand for.
+use mathlib.Core.Path.{_≡_, refl}
+use mathlib.Core.Bool.{Bool, true, false, not, _&&_, _||_}
+use Prim.Native.Nat.{ℕ}
+use mathlib.Core.List.{[], _∷_}
+use lib.Dec.{eqb, ltb}
+use lib.ListN.{length}
+use Rattle.text.specs.Test.{_or_, _and_, if_then_else_, any}
+use Rattle.text.specs.Byte.{isName, isPrint, isStar}
+use Rattle.text.specs.String.{Str, bytes, same}
+use Rattle.path.specs.Faults.{unsized, outsideName, outsideValue, starred, halfWild, grade}
+use Rattle.path.specs.Walk.{unsizedBy, nameGrade, elemNameGrade, valueGrade}
+
+-- the test of a byte, as the program makes it
+pub outside : (name : Bool) (b : ℕ) (p q : Bool) → p ≡ isName b → q ≡ isPrint b
+    → not ((name && (p || eqb b 42)) || (not name && q)) ≡ (if name then outsideName else outsideValue) b
+unfolding if_then_else_ outsideName outsideValue
+outside true b p q e f = rw e (or-ends (isName b || eqb b 42))
+  where
+    or-ends : (t : Bool) → not (t || false) ≡ not t
+    or-ends true = refl
+    or-ends false = refl
+outside false b p q e f = rw f
+
+size : (s : Str) → unsizedBy (length s) ≡ unsized s
+unfolding unsized _or_
+size s = refl
+
+-- r is the number, u whether the length is wrong, and the flags are what a scan of s saw
+module _ (s : Str) (r : ℕ) (u stray star : Bool) (i : u ≡ unsizedBy (length s)) where
+  pub name-graded : r ≡ grade u stray star false → stray ≡ any outsideName s → star ≡ any isStar s → r ≡ nameGrade s
+  unfolding nameGrade unsized _or_
+  name-graded e f g = rw (e, i, f, g)
+
+  pub elem-name-graded : (dots : Bool) → r ≡ grade u stray (star || dots) false → stray ≡ any outsideName s → star ≡ any isStar s
+      → dots ≡ same s (46 ∷ 46 ∷ 46 ∷ []) → r ≡ elemNameGrade s
+  unfolding elemNameGrade unsized _or_
+  elem-name-graded dots e f g h = rw (e, i, f, g, h)
+
+  pub value-graded : (wild : Bool) → r ≡ grade u stray (star && not wild) false → stray ≡ any outsideValue s → star ≡ any isStar s
+      → wild ≡ same s (42 ∷ []) → r ≡ valueGrade s
+  unfolding valueGrade unsized halfWild _or_ _and_
+  value-graded wild e f g h = rw (e, i, f, g, h)

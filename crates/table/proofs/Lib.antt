@@ -1,0 +1,6 @@
+pub mod Numbers
+pub mod Frames
+pub mod Rules
+pub mod Versions
+pub mod Inside
+pub mod Examples

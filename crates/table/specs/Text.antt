@@ -1,0 +1,112 @@
+-- A whole rule table text: refused at its first faulty line, or the table that it holds.
+use Prim.Native.Nat.{ℕ, _+_, _*_}
+use mathlib.Core.Bool.{Bool, true, false}
+use mathlib.Core.List.{List, [], _∷_}
+use mathlib.Core.Option.{Option, none, some}
+use lib.Dec.{eqb, ltb}
+use lib.ListN.{length}
+use Rattle.text.specs.Test.{if_then_else_}
+use Rattle.text.specs.String.{Str}
+use Rattle.text.specs.Refusal.{clear}
+use Rattle.line.specs.Lines.{lines}
+use Rattle.table.specs.Table.{Member, Rule, Table}
+use Rattle.table.specs.Frame.{Entry, version, group, member, rule}
+use Rattle.table.specs.Refusal.{Line, notHex, unreadable, reads, lineOf, Earlier, refusal, first, after}
+use Rattle.table.specs.declared.Checked.{Checked}
+use Rattle.table.specs.declared.Checked.the-variants.{Accepted, Refused}
+
+-- ---- the answer
+
+unfoldable pub unless : ℕ → ℕ → Checked → Checked
+unless number line next = if eqb number clear then next else Refused number line
+
+-- "the first faulty line, and in it the smallest number"; the lines count from `number`
+unfoldable pub judge : ℕ → Earlier → List Str → Checked
+judge number before [] = Accepted
+judge number before (l ∷ ls) = unless (refusal before (lineOf l)) number (judge (number + 1) (after before (lineOf l)) ls)
+
+-- "table text over 32,768 bytes (line 0)"; "empty text counts here, at line 1"
+unfoldable pub check : Str → Checked
+check text =
+    if ltb 32768 (length text) then Refused 1 0
+    else if eqb (length text) 0 then Refused 4 1
+    else judge 1 first (lines text)
+
+unfoldable pub isAccepted : Checked → Bool
+isAccepted Accepted = true
+isAccepted (Refused n l) = false
+
+unfoldable pub accepted : Str → Bool
+accepted text = isAccepted (check text)
+
+-- the answer word: a refusal's number, and its line from bit 8 on; 0 where nothing is refused
+unfoldable pub checkWord : Checked → ℕ
+checkWord Accepted = 0
+checkWord (Refused n l) = n + 256 * l
+
+-- ---- the table
+
+unfoldable pub maybe : {A : Type 0} → Option A → List A → List A
+maybe none xs = xs
+maybe (some x) xs = x ∷ xs
+
+-- what f finds, in order
+unfoldable pub collect : {A B : Type 0} → (A → Option B) → List A → List B
+collect f [] = []
+collect f (x ∷ xs) = maybe (f x) (collect f xs)
+
+unfoldable pub read : Line → Option Entry
+read notHex = none
+read unreadable = none
+read (reads e) = some e
+
+-- the frames of the lines that read
+unfoldable pub entries : List Str → List Entry
+entries ls = collect (λ (l : Str). read (lineOf l)) ls
+
+unfoldable pub asVersion : Entry → Option Entry
+asVersion (version v t) = some (version v t)
+asVersion (group n) = none
+asVersion (member m) = none
+asVersion (rule r) = none
+
+unfoldable pub asGroup : Entry → Option Str
+asGroup (version v t) = none
+asGroup (group n) = some n
+asGroup (member m) = none
+asGroup (rule r) = none
+
+unfoldable pub asMember : Entry → Option Member
+asMember (version v t) = none
+asMember (group n) = none
+asMember (member m) = some m
+asMember (rule r) = none
+
+unfoldable pub asRule : Entry → Option Rule
+asRule (version v t) = none
+asRule (group n) = none
+asRule (member m) = none
+asRule (rule r) = some r
+
+-- of the first line's frame
+unfoldable pub versionOf : List Entry → Str
+versionOf [] = []
+versionOf (version v t ∷ es) = v
+versionOf (group n ∷ es) = []
+versionOf (member m ∷ es) = []
+versionOf (rule r ∷ es) = []
+
+unfoldable pub timeOf : List Entry → Str
+timeOf [] = []
+timeOf (version v t ∷ es) = t
+timeOf (group n ∷ es) = []
+timeOf (member m ∷ es) = []
+timeOf (rule r ∷ es) = []
+
+-- "Rules and groups are numbered from 0 in text order."
+unfoldable pub table : List Entry → Table
+table es = record { version = versionOf es; time = timeOf es; groups = collect asGroup es; members = collect asMember es; rules = collect asRule es }
+
+-- the table that an accepted text holds
+unfoldable pub tableOf : Str → Table
+tableOf text = table (entries (lines text))

@@ -1,0 +1,46 @@
+-- The answers of the programs over a frame, said of what is read there.
+use Prim.Native.Nat.{ℕ, _+_, _≤_}
+use mathlib.Core.Path.{_≡_}
+use mathlib.Core.Bool.{Bool, _||_}
+use mathlib.Core.List.{List}
+use mathlib.Core.Option.{Option, none}
+use lib.Dec.{eqb, ltb}
+use lib.ListN.{length, getD}
+use Rattle.text.specs.Test.{if_then_else_}
+use Rattle.text.specs.String.{Str}
+use Rattle.text.specs.Refusal.{_when_else_, clear}
+use Rattle.text.specs.Frame.{got, part, string}
+use Rattle.path.specs.Faults.{pathRefusal}
+use Rattle.table.specs.Table.{Rule}
+use Rattle.table.specs.Frame.{ruleBody, entryOf}
+use Rattle.table.specs.declared.frame.RuleFrame.{RuleFrame}
+use Rattle.table.specs.declared.frame.RuleFrame.the-variants.{Is, Unread}
+
+-- the smallest number from 5 on, where p is that of a path
+unfoldable pub merged : ℕ → Bool → Bool → Bool → Bool → ℕ
+merged p five six eight nine =
+    5 when (five || eqb p 5)
+    else 6 when (six || eqb p 6)
+    else 7 when eqb p 7
+    else 8 when (eight || eqb p 8)
+    else 9 when nine
+    else clear
+
+abbrev pub unsizedBy : ℕ → ℕ → Bool
+unsizedBy limit n = eqb n 0 || ltb limit n
+
+-- the rule of a frame, whose strings end at s, i and o, and whose path gets the number p
+pub record RuleAt (f : Str) (s i o p : ℕ) : Type 0 where
+  pub rule : Rule
+  pub body : ruleBody f 1 ≡ got rule (length f)
+  pub subject : rule .subject ≡ part f 5 s
+  pub id : rule .id ≡ part f (s + 1) i
+  pub stands : string f s ≡ got (rule .id) i
+  pub origin : rule .origin ≡ part f (i + 1) o
+  pub byGroup : rule .byGroup ≡ eqb (getD f 3 0) 1
+  pub path : p ≡ pathRefusal (rule .path)
+  pub long : (5 ≤ s) × (s + 1 ≤ i) × (i + 1 ≤ o) × (o ≤ length f)
+
+unfoldable pub RuleRead : Str → RuleFrame → Type 0
+RuleRead f (Is s i o p) = RuleAt f s i o p
+RuleRead f Unread = entryOf f ≡ none
