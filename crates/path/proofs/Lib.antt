@@ -1,3 +1,4 @@
 pub mod Grades
 pub mod Classes
 pub mod Walks
+pub mod Bytes

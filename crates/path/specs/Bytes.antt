@@ -3,7 +3,7 @@ use Prim.Native.Nat.{ℕ}
 use mathlib.Core.List.{List, _∷_, _++_}
 use lib.ListN.{length}
 use Rattle.text.specs.String.{Str, joined}
-use Rattle.text.specs.Frame.{Reader, _>>=_, ret, byte, string, times}
+use Rattle.text.specs.Frame.{Parsed, got, unread, Reader, _>>=_, ret, byte, string, stringBytes, times}
 use Rattle.path.specs.Path.{Key, Elem, Path}
 
 -- ---- reading
@@ -31,15 +31,15 @@ path = do
 
 -- ---- writing
 
--- "S is one length byte, then that many bytes"
-unfoldable pub stringBytes : Str → Str
-stringBytes s = length s ∷ s
+-- a count, then each
+unfoldable pub counted : {A : Type 0} → (A → Str) → List A → Str
+counted w xs = length xs ∷ joined w xs
 
 unfoldable pub keyBytes : Key → Str
 keyBytes k = stringBytes (k .name) ++ stringBytes (k .value)
 
 unfoldable pub elemBytes : Elem → Str
-elemBytes e = stringBytes (e .name) ++ length (e .keys) ∷ joined keyBytes (e .keys)
+elemBytes e = stringBytes (e .name) ++ counted keyBytes (e .keys)
 
 unfoldable pub pathBytes : Path → Str
-pathBytes p = length p ∷ joined elemBytes p
+pathBytes p = counted elemBytes p

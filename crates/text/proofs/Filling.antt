@@ -1,11 +1,11 @@
 -- Filling a buffer piece by piece: what is still to be stored.
 use mathlib.Core.Path.{_≡_, refl, sym, ap, _∙_}
 use mathlib.Core.List.{List, [], _∷_, _++_, append-assoc}
-use Prim.Native.Nat.{ℕ, _+_, _≤_, _<_}
+use Prim.Native.Nat.{ℕ, suc, _+_, _≤_, _<_}
 use native.Mathlib.Numerals.{add-one}
 use native.Mathlib.Omega.{arith}
 use lib.ListN.{length, take, drop, getD, set, length-append, length-drop, take-append-drop, drop-of-length-le}
-use lib.Seq.{length-take-le, set-split, take-at, drop-at, drop-drop, drop-cons}
+use lib.Seq.{length-take-le, set-split, take-at, drop-at, drop-drop, drop-cons, take-set-lt, take-suc-set, set-append-left}
 use Rattle.text.specs.Fill.{put, Wrote}
 
 put-open : (d : List ℕ) (at : ℕ) (s : List ℕ) → put d at s ≡ take at d ++ (s ++ drop (at + length s) d)
@@ -104,3 +104,35 @@ module _ (d : List ℕ) (at : ℕ) (s out : List ℕ) (i : ℕ) (g : Pending d a
 
   pub copy-done : length s ≤ i → out ≡ put d at s
   copy-done h = fill-done d at s out (at + i) (rw (drop-of-length-le s h) at g) .1
+
+-- ---- one thing after another
+
+module _ (d : List ℕ) (to : ℕ) (s d′ : List ℕ) (e : ℕ) (w : Wrote d to s d′ e) (h : to + length s ≤ length d) where
+  pub wrote-long : length d′ ≡ length d
+  wrote-long = ap length (w .same) ∙ put-length d to s h
+
+  pub wrote-more : (t d″ : List ℕ) (e′ : ℕ) → Wrote d′ e t d″ e′ → Wrote d to (s ++ t) d″ e′
+  wrote-more t d″ e′ v = record {
+    ends = omega (arith, v .ends, w .ends, length-append s t);
+    same = v .same ∙ rw (w .same, w .ends) (put-append d to s h t);
+  }
+
+pub wrote-nothing : (d : List ℕ) (to : ℕ) → Wrote d to [] d to
+wrote-nothing d to = record { ends = omega arith; same = sym (put-nil d to) }
+
+-- a byte in front of what was stored, and stored after it
+pub wrote-before : (d : List ℕ) (to b : ℕ) (s d′ : List ℕ) (e : ℕ) → to + 1 + length s ≤ length d → Wrote d (to + 1) s d′ e → Wrote d to (b ∷ s) (set d′ to b) e
+wrote-before d to b s d′ e h w = record { ends = omega (arith, w .ends); same = rw (w .same) front }
+  where
+    head : set (take (suc to) d) to b ≡ take to d ++ (b ∷ [])
+    head = sym (take-set-lt (suc to) d to b (omega arith)) ∙ take-suc-set d to b (omega arith)
+
+    front : set (put d (to + 1) s) to b ≡ put d to (b ∷ s)
+    front =
+        let l : to + length (b ∷ s) ≡ to + 1 + length s = omega arith in
+        let m : to < length (take (suc to) d) = let k = length-take-le (suc to) d (omega arith) in omega arith in
+        rw (put-open d (to + 1) s, put-open d to (b ∷ s), l, add-one to)
+        (set-append-left (take (suc to) d) _ to b m ∙ rw head (append-assoc (take to d) (b ∷ []) _))
+
+pub wrote-byte : (d : List ℕ) (to b : ℕ) → to < length d → Wrote d to (b ∷ []) (set d to b) (to + 1)
+wrote-byte d to b h = record { ends = refl; same = set-put d to b h }

@@ -3,3 +3,4 @@ pub mod Bytes
 pub mod Scans
 pub mod Frames
 pub mod Filling
+pub mod Codec

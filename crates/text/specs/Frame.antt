@@ -44,6 +44,10 @@ string = do
   n ← byte
   run n
 
+-- the bytes that such a string stands in
+unfoldable pub stringBytes : Str → Str
+stringBytes s = length s ∷ s
+
 -- n readings, one after another
 unfoldable pub times : {A : Type 0} → ℕ → Reader A → Reader (List A)
 times zero r = ret []

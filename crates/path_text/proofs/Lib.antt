@@ -1,0 +1,6 @@
+pub mod Examples
+pub mod Sound
+pub mod Complete
+pub mod RoundTrip
+pub mod Storing
+pub mod Reading

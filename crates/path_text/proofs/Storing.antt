@@ -1,0 +1,91 @@
+-- Storing what is read, one thing after another.
+use mathlib.Core.Path.{_≡_, refl, sym, ap, _∙_}
+use mathlib.Core.List.{List, [], _∷_, _++_, append-assoc, append-nil}
+use Prim.Native.Nat.{ℕ, _+_, _-_, _≤_, _<_}
+use native.Mathlib.Omega.{arith}
+use lib.ListN.{length, set, length-append}
+use Rattle.text.specs.String.{Str, joined}
+use Rattle.text.specs.Frame.{Parsed, got, unread, andThen}
+use Rattle.text.specs.Fill.{put, Wrote}
+use Rattle.text.proofs.Filling.{wrote-long, wrote-more, wrote-nothing}
+use Rattle.path_text.specs.Steps.{Stores, stores, nothing}
+use Rattle.path_text.specs.declared.reader.Stored.{Stored}
+use Rattle.path_text.specs.declared.reader.Stored.the-variants.{To, Unread}
+
+-- ---- what an answer tells, and how it is told
+
+module _ {A : Type 0} {most : ℕ} {w : A → Str} {d : List ℕ} {to : ℕ} {d′ : List ℕ} where
+  pub stores-to : {x : Parsed A} {a : A} {t end : ℕ} → x ≡ got a t → Wrote d to (w a) d′ end → end ≤ to + most → Stores most w x d to d′ (To t end)
+  stores-to e v b = rw e (stores v b)
+
+  pub stores-not : {x : Parsed A} → x ≡ unread → Stores most w x d to d′ Unread
+  stores-not e = rw e nothing
+
+  pub stored-to : {x : Parsed A} {r : Stored} {next end : ℕ} → Stores most w x d to d′ r → r ≡ To next end → (a : A) × (x ≡ got a next) × Wrote d to (w a) d′ end × (end ≤ to + most)
+  stored-to {next = next} {end = end} (stores {a = a} {t = t} {end = e} v b) i =
+      let j : t ≡ next = cc in
+      let k : e ≡ end = cc in
+      (a, ap (got a) j, rw k at v, rw k at b)
+  stored-to nothing i = let z : _≡_ {A = ℕ} 0 1 = cc in absurd (omega arith)
+
+  pub stored-not : {x : Parsed A} {r : Stored} → Stores most w x d to d′ r → r ≡ Unread → x ≡ unread
+  stored-not (stores v b) i = let z : _≡_ {A = ℕ} 0 1 = cc in absurd (omega arith)
+  stored-not nothing i = refl
+
+-- ---- a list of things
+
+abbrev after : {A : Type 0} → List A → Parsed (List A) → Parsed (List A)
+after xs (got ys t) = got (xs ++ ys) t
+after xs unread = unread
+
+after-none : {A : Type 0} (y : Parsed (List A)) → after [] y ≡ y
+after-none (got ys t) = refl
+after-none unread = refl
+
+after-cons : {A : Type 0} (xs : List A) (a : A) (y : Parsed (List A)) → after xs (andThen y (λ l t. got (a ∷ l) t)) ≡ after (xs ++ a ∷ []) y
+after-cons {A = A} xs a (got ys t) = ap (λ (l : List A). got l t) (sym (append-assoc xs (a ∷ []) ys))
+after-cons xs a unread = refl
+
+pub joined-append : {A : Type 0} (w : A → Str) (xs ys : List A) → joined w (xs ++ ys) ≡ joined w xs ++ joined w ys
+unfolding joined
+joined-append w [] ys = refl
+joined-append w (x ∷ xs) ys = ap (λ (s : Str). w x ++ s) (joined-append w xs ys) ∙ sym (append-assoc (w x) (joined w xs) (joined w ys))
+
+joined-one : {A : Type 0} (w : A → Str) (a : A) → joined w (a ∷ []) ≡ w a
+unfolding joined
+joined-one w a = append-nil (w a)
+
+-- of x, n things were stored into d from `to` on, up to q, which made it `out`; what is left to read is y
+pub record Storing {A : Type 0} (w : A → Str) (d : List ℕ) (to : ℕ) (x : Parsed (List A)) (n : ℕ) (out : List ℕ) (q : ℕ) (y : Parsed (List A)) : Type 0 where
+  pub so-far : List A
+  pub count : length so-far ≡ n
+  pub same : x ≡ after so-far y
+  pub wrote : Wrote d to (joined w so-far) out q
+  pub room : to + length (joined w so-far) ≤ length d
+
+module _ {A : Type 0} (w : A → Str) (d : List ℕ) (to : ℕ) (x : Parsed (List A)) where
+  pub storing-start : to ≤ length d → Storing w d to x 0 d to x
+  unfolding joined
+  storing-start h = record { so-far = []; count = refl; same = sym (after-none x); wrote = wrote-nothing d to; room = omega arith }
+
+  module _ (n : ℕ) (out : List ℕ) (q : ℕ) (y : Parsed (List A)) (s : Storing w d to x n out q y) where
+    pub storing-long : length out ≡ length d
+    storing-long = wrote-long d to (joined w (s .so-far)) out q (s .wrote) (s .room)
+
+    pub storing-none : y ≡ unread → x ≡ unread
+    storing-none e = s .same ∙ ap (after (s .so-far)) e
+
+    pub storing-done : (t : ℕ) → y ≡ got [] t → x ≡ got (s .so-far) t
+    storing-done t e = s .same ∙ ap (after (s .so-far)) e ∙ ap (λ (l : List A). got l t) (append-nil (s .so-far))
+
+    pub storing-turn : (a : A) (z : Parsed (List A)) (out′ : List ℕ) (q′ m : ℕ) → y ≡ andThen z (λ l t. got (a ∷ l) t) → Wrote out q (w a) out′ q′
+        → q + length (w a) ≤ length out → m ≡ n + 1 → Storing w d to x m out′ q′ z
+    storing-turn a z out′ q′ m e v r i =
+        let j : joined w (s .so-far ++ a ∷ []) ≡ joined w (s .so-far) ++ w a = joined-append w (s .so-far) (a ∷ []) ∙ ap (λ (t : Str). joined w (s .so-far) ++ t) (joined-one w a) in
+        record {
+          so-far = s .so-far ++ a ∷ [];
+          count = length-append (s .so-far) (a ∷ []) ∙ (let k : length (s .so-far) + 1 ≡ m = omega (arith, s .count) in k);
+          same = s .same ∙ ap (after (s .so-far)) e ∙ after-cons (s .so-far) a z;
+          wrote = rw j (wrote-more d to (joined w (s .so-far)) out q (s .wrote) (s .room) (w a) out′ q′ v);
+          room = rw j (let l = storing-long in omega (arith, length-append (joined w (s .so-far)) (w a), s .wrote .ends));
+        }

@@ -1,0 +1,150 @@
+-- `read_elements` stores the elements, and then their count.
+use borrow.Author.Needs.{needs}
+use native.Mathlib.Omega.{arith}
+use mathlib.Core.Path.{_≡_, refl, sym, _∙_}
+use Prim.Native.Nat.{_+_, _*_, _-_, _≤_}
+use lib.ListN.{length-set}
+use Rattle.path.specs.Bytes.{elemBytes}
+use Rattle.path_text.specs.TextReader.{each, element}
+use Rattle.path_text.proofs.Storing.{Storing, storing-start, storing-long, storing-none, storing-done, storing-turn, stores-to, stores-not, stored-to, stored-not}
+use Rattle.path_text.proofs.Reading.{some-left, next-inside, each-turn, each-unread, each-done, wrote-counted}
+use Rattle.path_text.proofs.reader.read_elements.Statement.{statement}
+use Rattle.path_text.proofs.reader.read_elements.Tie as tie
+
+abbrev Inv-loop : tie.InvT-loop
+Inv-loop text out₀ p₀ q₀ left₀ out p q left = Storing elemBytes out₀ 1 (each 47 16 element text 0) (16 - left) out q (each 47 left element text p) × (left ≤ 16) × (q + 586 * left ≤ 9377)
+
+abbrev μ-loop : tie.MeasureT-loop
+μ-loop text out₀ p₀ q₀ left₀ out p q left = left
+
+loop-holds : tie.Need-loop-holds Inv-loop μ-loop
+loop-holds c =
+    let at-start = c .before .before in
+    (storing-start elemBytes _ _ _ (omega (arith, at-start .pre)), omega arith, omega arith)
+
+byte-at-requires : tie.Need-byte-at-requires Inv-loop μ-loop
+byte-at-requires c κs = search needs
+
+add-read-element : tie.Need-add-read-element Inv-loop μ-loop
+add-read-element c =
+    let at-if1 = c .if1 in
+    let at-byte-at = c .before .byte-at in
+    let at-loop = c .before .before .loop in
+    let at-start = c .before .before .before .before .before in
+    omega (arith, next-inside 47 (at-loop .left) (at-start .args .text .now) (at-loop .p) _ (at-byte-at .ensures) (at-if1 .taken) (omega arith))
+
+read-element-requires : tie.Need-read-element-requires Inv-loop μ-loop
+read-element-requires c κs =
+    let at-if1 = c .before .if1 in
+    let at-byte-at = c .before .before .byte-at in
+    let at-loop = c .before .before .before .loop in
+    let at-start = c .before .before .before .before .before .before in (
+      omega (arith, next-inside 47 (at-loop .left) (at-start .args .text .now) (at-loop .p) _ (at-byte-at .ensures) (at-if1 .taken) (omega arith)),
+      omega (arith, storing-long _ _ _ _ _ _ _ _ (at-loop .inv .0), some-left 47 (at-loop .left) (at-start .args .text .now) (at-loop .p) _ (at-byte-at .ensures) (at-if1 .taken), at-loop .inv .2, at-start .pre),
+    )
+
+enum-known-e : tie.Need-enum-known-e Inv-loop μ-loop
+enum-known-e c = search needs
+
+enum-told : tie.Need-enum-told Inv-loop μ-loop
+enum-told c = search needs
+
+same-length : tie.Need-same-length Inv-loop μ-loop
+same-length c =
+    let at-read-element = c .before .before .before .before .read-element in
+    let at-loop = c .before .before .before .before .before .before .before .before .loop in
+    omega (arith, at-read-element .kept .1 .1 .0, storing-long _ _ _ _ _ _ _ _ (at-loop .inv .0))
+
+returns : tie.Need-returns Inv-loop μ-loop
+returns c =
+    let at-enum-told = c .enum-told in
+    let at-read-element = c .before .before .before .before .read-element in
+    let at-if1 = c .before .before .before .before .before .before .if1 in
+    let at-byte-at = c .before .before .before .before .before .before .before .byte-at in
+    let at-loop = c .before .before .before .before .before .before .before .before .loop in
+    let at-start = c .before .before .before .before .before .before .before .before .before .before .before in
+    stores-not (storing-none _ _ _ _ _ _ _ _ (at-loop .inv .0) (each-unread 47 (at-loop .left) (at-start .args .text .now) (at-loop .p) _ (at-byte-at .ensures) (at-if1 .taken) element (stored-not (at-read-element .ensures) (at-enum-told .given .1))))
+
+sub-left : tie.Need-sub-left Inv-loop μ-loop
+sub-left c =
+    let at-if1 = c .before .before .before .before .before .before .before .if1 in
+    let at-byte-at = c .before .before .before .before .before .before .before .before .byte-at in
+    let at-loop = c .before .before .before .before .before .before .before .before .before .loop in
+    let at-start = c .before .before .before .before .before .before .before .before .before .before .before .before in
+    some-left 47 (at-loop .left) (at-start .args .text .now) (at-loop .p) _ (at-byte-at .ensures) (at-if1 .taken)
+
+loop-less : tie.Need-loop-less Inv-loop μ-loop
+loop-less c =
+    let at-if1 = c .before .before .before .before .before .before .before .if1 in
+    let at-byte-at = c .before .before .before .before .before .before .before .before .byte-at in
+    let at-loop = c .before .before .before .before .before .before .before .before .before .loop in
+    let at-start = c .before .before .before .before .before .before .before .before .before .before .before .before in
+    omega (arith, some-left 47 (at-loop .left) (at-start .args .text .now) (at-loop .p) _ (at-byte-at .ensures) (at-if1 .taken))
+
+loop-again : tie.Need-loop-again Inv-loop μ-loop
+loop-again c =
+    let at-e = c .before .e in
+    let at-read-element = c .before .before .before .before .before .read-element in
+    let at-if1 = c .before .before .before .before .before .before .before .if1 in
+    let at-byte-at = c .before .before .before .before .before .before .before .before .byte-at in
+    let at-loop = c .before .before .before .before .before .before .before .before .before .loop in
+    let at-start = c .before .before .before .before .before .before .before .before .before .before .before .before in
+    let u = stored-to (at-read-element .ensures) (at-e .given .1) in
+    let z = some-left 47 (at-loop .left) (at-start .args .text .now) (at-loop .p) _ (at-byte-at .ensures) (at-if1 .taken) in
+    let l = storing-long _ _ _ _ _ _ _ _ (at-loop .inv .0) in (
+      storing-turn _ _ _ _ _ _ _ _ (at-loop .inv .0) (u .0) _ _ _ _ (each-turn 47 (at-loop .left) (at-start .args .text .now) (at-loop .p) _ (at-byte-at .ensures) (at-if1 .taken) element (u .0) _ (u .1)) (u .2)
+          (omega (arith, u .2 .ends, u .3, l, z, at-loop .inv .2, at-start .pre)) (omega (arith, z, at-loop .inv .1)),
+      omega (arith, at-loop .inv .1),
+      omega (arith, u .3, z, at-loop .inv .2),
+    )
+
+sub-count : tie.Need-sub-count Inv-loop μ-loop
+sub-count c =
+    let at-loop = c .before .before .loop in
+    at-loop .inv .1
+
+cast-out : tie.Need-cast-out Inv-loop μ-loop
+cast-out c = omega arith
+
+slice-write-out : tie.Need-slice-write-out Inv-loop μ-loop
+slice-write-out c =
+    let at-loop = c .before .before .loop in
+    let at-start = c .before .before .before .before .before in
+    omega (arith, storing-long _ _ _ _ _ _ _ _ (at-loop .inv .0), at-start .pre)
+
+same-length-2 : tie.Need-same-length-2 Inv-loop μ-loop
+same-length-2 c =
+    let at-loop = c .before .before .loop in
+    simp length-set (storing-long _ _ _ _ _ _ _ _ (at-loop .inv .0))
+
+returns-2 : tie.Need-returns-2 Inv-loop μ-loop
+returns-2 c =
+    let at-if1 = c .if1 in
+    let at-byte-at = c .before .byte-at in
+    let at-loop = c .before .before .loop in
+    let at-start = c .before .before .before .before .before in
+    stores-to (storing-done _ _ _ _ _ _ _ _ (at-loop .inv .0) _ (each-done 47 (at-loop .left) (at-start .args .text .now) (at-loop .p) _ (at-byte-at .ensures) (at-if1 .left) element))
+    (wrote-counted elemBytes _ _ _ _ _ _ (at-loop .inv .0 .count) (at-loop .inv .0 .room) (at-loop .inv .0 .wrote)) (omega (arith, at-loop .inv .2))
+
+pub read-elements-spec : {M : Type 1} → statement M
+read-elements-spec =
+    tie.close
+    (tie.spec
+    Inv-loop
+    μ-loop
+    loop-holds
+    byte-at-requires
+    add-read-element
+    read-element-requires
+    enum-known-e
+    enum-told
+    same-length
+    returns
+    sub-left
+    loop-less
+    loop-again
+    sub-count
+    cast-out
+    slice-write-out
+    same-length-2
+    returns-2)

@@ -1,0 +1,90 @@
+-- `read_key` stores the name, and then the value.
+use borrow.Author.Needs.{needs}
+use native.Mathlib.Omega.{arith}
+use mathlib.Core.Path.{sym, _∙_}
+use Rattle.text.proofs.Filling.{wrote-long}
+use Rattle.path_text.proofs.Sound.{inside}
+use Rattle.path_text.proofs.Storing.{stores-not, stored-to, stored-not}
+use Rattle.path_text.proofs.Reading.{key-nameless, key-unequal, key-stores}
+use Rattle.path_text.proofs.reader.read_key.Statement.{statement}
+use Rattle.path_text.proofs.reader.read_key.Tie as tie
+
+read-name-requires : tie.Need-read-name-requires
+read-name-requires c κs =
+    let at-start = c .before .before .before in
+    (at-start .pre .0, omega (arith, at-start .pre .1))
+
+enum-known-n : tie.Need-enum-known-n
+enum-known-n c = search needs
+
+enum-told : tie.Need-enum-told
+enum-told c = search needs
+
+same-length : tie.Need-same-length
+same-length c = search needs
+
+returns : tie.Need-returns
+returns c =
+    let at-enum-told = c .enum-told in
+    let at-read-name = c .before .before .before .before .read-name in
+    stores-not (key-nameless _ _ (stored-not (at-read-name .ensures) (at-enum-told .given .1)))
+
+byte-at-requires : tie.Need-byte-at-requires
+byte-at-requires c κs = search needs
+
+same-length-2 : tie.Need-same-length-2
+same-length-2 c = search needs
+
+returns-2 : tie.Need-returns-2
+returns-2 c =
+    let at-if1 = c .if1 in
+    let at-byte-at = c .before .byte-at in
+    let at-n = c .before .before .before .n in
+    let at-read-name = c .before .before .before .before .before .before .before .read-name in
+    let u = stored-to (at-read-name .ensures) (at-n .given .1) in stores-not (key-unequal _ _ _ _ (u .1) (λ z. at-if1 .taken (at-byte-at .ensures ∙ z)))
+
+add-read-value : tie.Need-add-read-value
+add-read-value c =
+    let at-if1 = c .if1 in
+    let at-byte-at = c .before .byte-at in
+    let at-n = c .before .before .before .n in
+    let at-start = c .before .before .before .before .before .before .before .before .before .before .before in
+    omega (arith, inside (at-start .args .text .now) (at-n .given .0 .0) 61 (omega arith) (sym (at-byte-at .ensures) ∙ at-if1 .left))
+
+read-value-requires : tie.Need-read-value-requires
+read-value-requires c κs =
+    let at-n = c .before .before .before .before .n in
+    let at-read-name = c .before .before .before .before .before .before .before .before .read-name in
+    let at-start = c .before .before .before .before .before .before .before .before .before .before .before .before in
+    let u = stored-to (at-read-name .ensures) (at-n .given .1) in
+    omega (arith, wrote-long _ _ _ _ _ (u .2) (omega (arith, u .2 .ends, u .3, at-start .pre .1)), u .3, at-start .pre .1)
+
+same-length-3 : tie.Need-same-length-3
+same-length-3 c = search needs
+
+returns-3 : tie.Need-returns-3
+returns-3 c =
+    let at-read-value = c .before .before .read-value in
+    let at-if1 = c .before .before .before .before .if1 in
+    let at-byte-at = c .before .before .before .before .before .byte-at in
+    let at-n = c .before .before .before .before .before .before .before .n in
+    let at-read-name = c .before .before .before .before .before .before .before .before .before .before .before .read-name in
+    let at-start = c .before .before .before .before .before .before .before .before .before .before .before .before .before .before .before in
+    let u = stored-to (at-read-name .ensures) (at-n .given .1) in key-stores _ _ _ _ _ _ _ _ _ _ (u .1) (sym (at-byte-at .ensures) ∙ at-if1 .left) (u .2) (u .3) (at-start .pre .1) (at-read-value .ensures)
+
+pub read-key-spec : {M : Type 1} → statement M
+read-key-spec =
+    tie.close
+    (tie.spec
+    read-name-requires
+    enum-known-n
+    enum-told
+    same-length
+    returns
+    byte-at-requires
+    same-length-2
+    returns-2
+    add-read-value
+    read-value-requires
+    same-length-3
+    returns-3)

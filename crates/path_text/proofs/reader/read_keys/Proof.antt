@@ -1,0 +1,154 @@
+-- `read_keys` stores the keys, and then their count.
+use borrow.Author.Needs.{needs}
+use native.Mathlib.Omega.{arith}
+use mathlib.Core.Path.{_≡_, refl, sym, _∙_}
+use Prim.Native.Nat.{_+_, _*_, _-_, _≤_}
+use lib.ListN.{length-set}
+use Rattle.path.specs.Bytes.{keyBytes}
+use Rattle.path_text.specs.TextReader.{each, key}
+use Rattle.path_text.proofs.Storing.{Storing, storing-start, storing-long, storing-none, storing-done, storing-turn, stores-to, stores-not, stored-to, stored-not}
+use Rattle.path_text.proofs.Reading.{some-left, next-inside, each-turn, each-unread, each-done, wrote-counted}
+use Rattle.path_text.proofs.reader.read_keys.Statement.{statement}
+use Rattle.path_text.proofs.reader.read_keys.Tie as tie
+
+abbrev Inv-loop : tie.InvT-loop
+Inv-loop text at out₀ to p₀ q₀ left₀ out p q left = Storing keyBytes out₀ (to + 1) (each 91 4 key text at) (4 - left) out q (each 91 left key text p) × (left ≤ 4) × (q + 130 * left ≤ to + 521)
+
+abbrev μ-loop : tie.MeasureT-loop
+μ-loop text at out₀ to p₀ q₀ left₀ out p q left = left
+
+add-q : tie.Need-add-q Inv-loop μ-loop
+add-q c = search needs
+
+loop-holds : tie.Need-loop-holds Inv-loop μ-loop
+loop-holds c =
+    let at-start = c .before .before in
+    (storing-start keyBytes _ _ _ (omega (arith, at-start .pre)), omega arith, omega arith)
+
+byte-at-requires : tie.Need-byte-at-requires Inv-loop μ-loop
+byte-at-requires c κs = search needs
+
+add-read-key : tie.Need-add-read-key Inv-loop μ-loop
+add-read-key c =
+    let at-if1 = c .if1 in
+    let at-byte-at = c .before .byte-at in
+    let at-loop = c .before .before .loop in
+    let at-start = c .before .before .before .before .before in
+    omega (arith, next-inside 91 (at-loop .left) (at-start .args .text .now) (at-loop .p) _ (at-byte-at .ensures) (at-if1 .taken) (omega arith))
+
+read-key-requires : tie.Need-read-key-requires Inv-loop μ-loop
+read-key-requires c κs =
+    let at-if1 = c .before .if1 in
+    let at-byte-at = c .before .before .byte-at in
+    let at-loop = c .before .before .before .loop in
+    let at-start = c .before .before .before .before .before .before in (
+      omega (arith, next-inside 91 (at-loop .left) (at-start .args .text .now) (at-loop .p) _ (at-byte-at .ensures) (at-if1 .taken) (omega arith)),
+      omega (arith, storing-long _ _ _ _ _ _ _ _ (at-loop .inv .0), some-left 91 (at-loop .left) (at-start .args .text .now) (at-loop .p) _ (at-byte-at .ensures) (at-if1 .taken), at-loop .inv .2, at-start .pre),
+    )
+
+enum-known-k : tie.Need-enum-known-k Inv-loop μ-loop
+enum-known-k c = search needs
+
+enum-told : tie.Need-enum-told Inv-loop μ-loop
+enum-told c = search needs
+
+same-length : tie.Need-same-length Inv-loop μ-loop
+same-length c =
+    let at-read-key = c .before .before .before .before .read-key in
+    let at-loop = c .before .before .before .before .before .before .before .before .loop in
+    omega (arith, at-read-key .kept .1 .1 .0, storing-long _ _ _ _ _ _ _ _ (at-loop .inv .0))
+
+returns : tie.Need-returns Inv-loop μ-loop
+returns c =
+    let at-enum-told = c .enum-told in
+    let at-read-key = c .before .before .before .before .read-key in
+    let at-if1 = c .before .before .before .before .before .before .if1 in
+    let at-byte-at = c .before .before .before .before .before .before .before .byte-at in
+    let at-loop = c .before .before .before .before .before .before .before .before .loop in
+    let at-start = c .before .before .before .before .before .before .before .before .before .before .before in
+    stores-not (storing-none _ _ _ _ _ _ _ _ (at-loop .inv .0) (each-unread 91 (at-loop .left) (at-start .args .text .now) (at-loop .p) _ (at-byte-at .ensures) (at-if1 .taken) key (stored-not (at-read-key .ensures) (at-enum-told .given .1))))
+
+sub-left : tie.Need-sub-left Inv-loop μ-loop
+sub-left c =
+    let at-if1 = c .before .before .before .before .before .before .before .if1 in
+    let at-byte-at = c .before .before .before .before .before .before .before .before .byte-at in
+    let at-loop = c .before .before .before .before .before .before .before .before .before .loop in
+    let at-start = c .before .before .before .before .before .before .before .before .before .before .before .before in
+    some-left 91 (at-loop .left) (at-start .args .text .now) (at-loop .p) _ (at-byte-at .ensures) (at-if1 .taken)
+
+loop-less : tie.Need-loop-less Inv-loop μ-loop
+loop-less c =
+    let at-if1 = c .before .before .before .before .before .before .before .if1 in
+    let at-byte-at = c .before .before .before .before .before .before .before .before .byte-at in
+    let at-loop = c .before .before .before .before .before .before .before .before .before .loop in
+    let at-start = c .before .before .before .before .before .before .before .before .before .before .before .before in
+    omega (arith, some-left 91 (at-loop .left) (at-start .args .text .now) (at-loop .p) _ (at-byte-at .ensures) (at-if1 .taken))
+
+loop-again : tie.Need-loop-again Inv-loop μ-loop
+loop-again c =
+    let at-k = c .before .k in
+    let at-read-key = c .before .before .before .before .before .read-key in
+    let at-if1 = c .before .before .before .before .before .before .before .if1 in
+    let at-byte-at = c .before .before .before .before .before .before .before .before .byte-at in
+    let at-loop = c .before .before .before .before .before .before .before .before .before .loop in
+    let at-start = c .before .before .before .before .before .before .before .before .before .before .before .before in
+    let u = stored-to (at-read-key .ensures) (at-k .given .1) in
+    let z = some-left 91 (at-loop .left) (at-start .args .text .now) (at-loop .p) _ (at-byte-at .ensures) (at-if1 .taken) in
+    let l = storing-long _ _ _ _ _ _ _ _ (at-loop .inv .0) in (
+      storing-turn _ _ _ _ _ _ _ _ (at-loop .inv .0) (u .0) _ _ _ _ (each-turn 91 (at-loop .left) (at-start .args .text .now) (at-loop .p) _ (at-byte-at .ensures) (at-if1 .taken) key (u .0) _ (u .1)) (u .2)
+          (omega (arith, u .2 .ends, u .3, l, z, at-loop .inv .2, at-start .pre)) (omega (arith, z, at-loop .inv .1)),
+      omega (arith, at-loop .inv .1),
+      omega (arith, u .3, z, at-loop .inv .2),
+    )
+
+sub-count : tie.Need-sub-count Inv-loop μ-loop
+sub-count c =
+    let at-loop = c .before .before .loop in
+    at-loop .inv .1
+
+cast-out : tie.Need-cast-out Inv-loop μ-loop
+cast-out c = omega arith
+
+slice-write-out : tie.Need-slice-write-out Inv-loop μ-loop
+slice-write-out c =
+    let at-loop = c .before .before .loop in
+    let at-start = c .before .before .before .before .before in
+    omega (arith, storing-long _ _ _ _ _ _ _ _ (at-loop .inv .0), at-start .pre)
+
+same-length-2 : tie.Need-same-length-2 Inv-loop μ-loop
+same-length-2 c =
+    let at-loop = c .before .before .loop in
+    simp length-set (storing-long _ _ _ _ _ _ _ _ (at-loop .inv .0))
+
+returns-2 : tie.Need-returns-2 Inv-loop μ-loop
+returns-2 c =
+    let at-if1 = c .if1 in
+    let at-byte-at = c .before .byte-at in
+    let at-loop = c .before .before .loop in
+    let at-start = c .before .before .before .before .before in
+    stores-to (storing-done _ _ _ _ _ _ _ _ (at-loop .inv .0) _ (each-done 91 (at-loop .left) (at-start .args .text .now) (at-loop .p) _ (at-byte-at .ensures) (at-if1 .left) key))
+    (wrote-counted keyBytes _ _ _ _ _ _ (at-loop .inv .0 .count) (at-loop .inv .0 .room) (at-loop .inv .0 .wrote)) (omega (arith, at-loop .inv .2))
+
+pub read-keys-spec : {M : Type 1} → statement M
+read-keys-spec =
+    tie.close
+    (tie.spec
+    Inv-loop
+    μ-loop
+    add-q
+    loop-holds
+    byte-at-requires
+    add-read-key
+    read-key-requires
+    enum-known-k
+    enum-told
+    same-length
+    returns
+    sub-left
+    loop-less
+    loop-again
+    sub-count
+    cast-out
+    slice-write-out
+    same-length-2
+    returns-2)

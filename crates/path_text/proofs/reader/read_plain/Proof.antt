@@ -1,0 +1,141 @@
+-- `read_plain` stores the bytes of the value, one after another.
+use borrow.Author.Needs.{needs}
+use native.Mathlib.Omega.{arith}
+use mathlib.Core.Path.{_≡_, refl, sym, _∙_}
+use Prim.Native.Nat.{_+_, _-_, _≤_}
+use Rattle.text.proofs.Filling.{wrote-byte}
+use Rattle.path_text.specs.TextReader.{value}
+use Rattle.path_text.proofs.Sound.{inside}
+use Rattle.path_text.proofs.Storing.{Storing, storing-start, storing-long, storing-none, storing-done, storing-turn, stores-to, stores-not}
+use Rattle.path_text.proofs.Reading.{single, wrote-plain, end-inside, value-end, value-stop, value-full, value-turn}
+use Rattle.path_text.proofs.reader.read_plain.Statement.{statement}
+use Rattle.path_text.proofs.reader.read_plain.Tie as tie
+
+abbrev Inv-loop : tie.InvT-loop
+Inv-loop text at out₀ to p₀ q₀ left₀ out p q left = Storing single out₀ to (value 64 text at) (64 - left) out q (value left text p) × (left ≤ 64) × (q + left ≡ to + 64)
+
+abbrev μ-loop : tie.MeasureT-loop
+μ-loop text at out₀ to p₀ q₀ left₀ out p q left = left
+
+loop-holds : tie.Need-loop-holds Inv-loop μ-loop
+loop-holds c = (storing-start single _ _ _ (omega arith), omega arith, refl)
+
+read-item-requires : tie.Need-read-item-requires Inv-loop μ-loop
+read-item-requires c κs = search needs
+
+enum-known-i : tie.Need-enum-known-i Inv-loop μ-loop
+enum-known-i c = search needs
+
+same-length : tie.Need-same-length Inv-loop μ-loop
+same-length c =
+    let at-loop = c .before .before .before .before .before .loop in
+    storing-long _ _ _ _ _ _ _ _ (at-loop .inv .0)
+
+returns : tie.Need-returns Inv-loop μ-loop
+returns c =
+    let at-if1 = c .if1 in
+    let at-i = c .before .before .i in
+    let at-read-item = c .before .before .before .before .read-item in
+    let at-loop = c .before .before .before .before .before .loop in
+    stores-not (storing-none _ _ _ _ _ _ _ _ (at-loop .inv .0) (value-full _ _ _ (at-read-item .ensures) (at-loop .left) _ _ (at-if1 .taken) (at-i .given .1)))
+
+slice-write-out : tie.Need-slice-write-out Inv-loop μ-loop
+slice-write-out c =
+    let at-if1 = c .if1 in
+    let at-loop = c .before .before .before .before .before .loop in
+    let at-start = c .before .before .before .before .before .before .before .before in
+    omega (arith, storing-long _ _ _ _ _ _ _ _ (at-loop .inv .0), at-loop .inv .2, at-start .pre, at-if1 .left)
+
+add-q : tie.Need-add-q Inv-loop μ-loop
+add-q c =
+    let at-if1 = c .if1 in
+    let at-loop = c .before .before .before .before .before .loop in
+    let at-start = c .before .before .before .before .before .before .before .before in
+    omega (arith, at-loop .inv .2, at-start .pre, at-if1 .left)
+
+sub-left : tie.Need-sub-left Inv-loop μ-loop
+sub-left c =
+    let at-if1 = c .if1 in
+    omega (arith, at-if1 .left)
+
+loop-less : tie.Need-loop-less Inv-loop μ-loop
+loop-less c =
+    let at-if1 = c .if1 in
+    omega (arith, at-if1 .left)
+
+loop-again : tie.Need-loop-again Inv-loop μ-loop
+loop-again c =
+    let at-if1 = c .if1 in
+    let at-i = c .before .before .i in
+    let at-read-item = c .before .before .before .before .read-item in
+    let at-loop = c .before .before .before .before .before .loop in
+    let at-start = c .before .before .before .before .before .before .before .before in (
+      storing-turn _ _ _ _ _ _ _ _ (at-loop .inv .0) _ _ _ _ _ (value-turn _ _ _ (at-read-item .ensures) (at-loop .left) _ _ (at-if1 .left) (at-i .given .1))
+          (wrote-byte _ _ _ (omega (arith, storing-long _ _ _ _ _ _ _ _ (at-loop .inv .0), at-loop .inv .2, at-start .pre, at-if1 .left)))
+          (omega (arith, storing-long _ _ _ _ _ _ _ _ (at-loop .inv .0), at-loop .inv .2, at-start .pre, at-if1 .left))
+          (omega (arith, at-loop .inv .1, at-if1 .left)),
+      omega (arith, at-loop .inv .1),
+      omega (arith, at-loop .inv .2, at-if1 .left),
+    )
+
+enum-told : tie.Need-enum-told Inv-loop μ-loop
+enum-told c = search needs
+
+add-t13 : tie.Need-add-t13 Inv-loop μ-loop
+add-t13 c =
+    let at-enum-told = c .enum-told in
+    let at-read-item = c .before .before .read-item in
+    let at-loop = c .before .before .before .loop in
+    let at-start = c .before .before .before .before .before .before in
+    omega (arith, inside (at-start .args .text .now) (at-loop .p) 93 (omega arith) (end-inside (at-start .args .text .now) (at-loop .p) _ (at-read-item .ensures) (at-enum-told .given .1)))
+
+same-length-2 : tie.Need-same-length-2 Inv-loop μ-loop
+same-length-2 c =
+    let at-loop = c .before .before .before .loop in
+    storing-long _ _ _ _ _ _ _ _ (at-loop .inv .0)
+
+returns-2 : tie.Need-returns-2 Inv-loop μ-loop
+returns-2 c =
+    let at-enum-told = c .enum-told in
+    let at-read-item = c .before .before .read-item in
+    let at-loop = c .before .before .before .loop in
+    stores-to (storing-done _ _ _ _ _ _ _ _ (at-loop .inv .0) _ (value-end _ _ _ (at-read-item .ensures) (at-loop .left) (at-enum-told .given .1))) (wrote-plain _ _ _ _ _ (at-loop .inv .0 .wrote)) (omega (arith, at-loop .inv .2))
+
+enum-told-2 : tie.Need-enum-told-2 Inv-loop μ-loop
+enum-told-2 c = search needs
+
+same-length-3 : tie.Need-same-length-3 Inv-loop μ-loop
+same-length-3 c =
+    let at-loop = c .before .before .before .loop in
+    storing-long _ _ _ _ _ _ _ _ (at-loop .inv .0)
+
+returns-3 : tie.Need-returns-3 Inv-loop μ-loop
+returns-3 c =
+    let at-enum-told2 = c .enum-told2 in
+    let at-read-item = c .before .before .read-item in
+    let at-loop = c .before .before .before .loop in
+    stores-not (storing-none _ _ _ _ _ _ _ _ (at-loop .inv .0) (value-stop _ _ _ (at-read-item .ensures) (at-loop .left) (at-enum-told2 .given .1)))
+
+pub read-plain-spec : {M : Type 1} → statement M
+read-plain-spec =
+    tie.close
+    (tie.spec
+    Inv-loop
+    μ-loop
+    loop-holds
+    read-item-requires
+    enum-known-i
+    same-length
+    returns
+    slice-write-out
+    add-q
+    sub-left
+    loop-less
+    loop-again
+    enum-told
+    add-t13
+    same-length-2
+    returns-2
+    enum-told-2
+    same-length-3
+    returns-3)

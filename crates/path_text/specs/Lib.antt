@@ -1,0 +1,4 @@
+pub mod Text
+pub mod TextReader
+pub mod Calls
+pub mod Steps

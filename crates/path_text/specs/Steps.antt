@@ -1,0 +1,37 @@
+-- The answers of the programs that read path text step by step, said of what is read there.
+use Prim.Native.Nat.{ℕ, _+_, _≤_}
+use mathlib.Core.Path.{_≡_}
+use mathlib.Core.List.{List}
+use mathlib.Core.Option.{Option, none, some}
+use lib.Dec.{eqb}
+use lib.ListN.{length, getD}
+use Rattle.text.specs.Test.{if_then_else_}
+use Rattle.text.specs.String.{Str}
+use Rattle.text.specs.Frame.{Parsed, got, unread}
+use Rattle.text.specs.Fill.{put, Wrote}
+use Rattle.path_text.specs.TextReader.{item}
+use Rattle.path_text.specs.declared.reader.Stored.{Stored}
+use Rattle.path_text.specs.declared.reader.Stored.the-variants as stored
+use Rattle.path_text.specs.declared.reader.Item.{Item}
+use Rattle.path_text.specs.declared.reader.Item.the-variants as items
+
+-- the next byte of a value, unless its ] stands there
+unfoldable pub itemIn : Parsed ℕ → Item
+itemIn (got b t) = items.Byte b t
+itemIn unread = items.Unread
+
+unfoldable pub itemOf : Str → ℕ → Item
+itemOf s at = if eqb (getD s at 0) 93 then items.End else itemIn (item s at)
+
+abbrev pub plainly : Str → Str
+plainly s = s
+
+-- what was read, as w writes it, was stored into d from `to` on: at most `most` bytes, and nothing else; where nothing was read, nothing is said of d
+pub data Stores {A : Type 0} (most : ℕ) (w : A → Str) : Parsed A → List ℕ → ℕ → List ℕ → Stored → Type 0 where
+  stores : {a : A} {t : ℕ} {d : List ℕ} {to : ℕ} {d′ : List ℕ} {end : ℕ} → Wrote d to (w a) d′ end → end ≤ to + most → Stores most w (got a t) d to d′ (stored.To t end)
+  nothing : {d : List ℕ} {to : ℕ} {d′ : List ℕ} → Stores most w unread d to d′ stored.Unread
+
+-- the bytes fill the start of d, and nothing else does; where there are none, nothing is said of d
+pub data Transcribed : Option Str → List ℕ → List ℕ → Stored → Type 0 where
+  filled : {f : Str} {d d′ : List ℕ} {next end : ℕ} → end ≡ length f → d′ ≡ put d 0 f → Transcribed (some f) d d′ (stored.To next end)
+  refused : {d d′ : List ℕ} → Transcribed none d d′ stored.Unread

@@ -1,0 +1,212 @@
+// Path text to path bytes.
+ghost use mathlib.Core.Path.{_≡_};
+ghost use Prim.Native.Nat.{_+_, _≤_};
+ghost use lib.ListN.{length, drop, getD};
+ghost use Rattle.text.specs.Frame.{stringBytes};
+ghost use Rattle.path.specs.Bytes.{counted, keyBytes, elemBytes, pathBytes};
+ghost use Rattle.path_text.specs.TextReader.{upTo, name, value, each, key, element};
+ghost use Rattle.path_text.specs.Calls.{answer, lent, bytesFor};
+ghost use Rattle.path_text.specs.Steps.{itemOf, Stores, plainly, Transcribed};
+use crate::Filled;
+
+// Where reading goes on in the text, and storing in the buffer.
+pub enum Stored {
+    To { next: usize, end: usize },
+    Unread,
+}
+
+// The next byte of a value, or its ].
+pub enum Item {
+    Byte { byte: u8, next: usize },
+    End,
+    Unread,
+}
+
+// 0 past the end.
+fn byte_at(s: &[u8], at: usize) -> u8
+    ensures { λ r. ⌜ r ≡ getD (now (s .entry)) at 0 ⌝ }
+{
+    if at < s.len() { s[at] } else { 0 }
+}
+
+// Where the first byte from `at` on stands that is a or b, or the end.
+fn find(text: &[u8], at: usize, a: u8, b: u8) -> usize
+    requires { ⌜ at ≤ length (now text) ⌝ }
+    ensures { λ r. ⌜ r ≡ at + upTo a b (drop at (now (text .entry))) ⌝ }
+{
+    let mut i = at;
+    while i < text.len() {
+        let c = text[i];
+        if (c == a) | (c == b) {
+            return i;
+        }
+        i += 1;
+    }
+    i
+}
+
+// A name, which ends before the first a or b, with its length byte.
+fn read_name(text: &[u8], at: usize, a: u8, b: u8, out: &mut [u8], to: usize) -> Stored
+    requires { ⌜ (at ≤ length (now text)) × (to + 65 ≤ length (now out)) ⌝ }
+    ensures { λ r. ⌜ Stores 65 stringBytes (name a b (now (text .entry)) at) (now (out .entry)) to (now (out .exit)) r ⌝ }
+{
+    let next = find(text, at, a, b);
+    let n = next - at;
+    if 64 < n {
+        return Stored::Unread;
+    }
+    out[to] = n as u8;
+    let start = to + 1;
+    text::fill::copy(&text[at..next], out, start);
+    Stored::To {
+        next: next,
+        end: start + n,
+    }
+}
+
+fn read_item(text: &[u8], at: usize) -> Item
+    ensures { λ r. ⌜ r ≡ itemOf (now (text .entry)) at ⌝ }
+{
+    if text.len() <= at {
+        return Item::Unread;
+    }
+    let b = text[at];
+    if b == 93 {
+        return Item::End;
+    }
+    if b != 92 {
+        return Item::Byte {
+            byte: b,
+            next: at + 1,
+        };
+    }
+    let c = byte_at(text, at + 1);
+    if (c == 93) | (c == 92) {
+        return Item::Byte {
+            byte: c,
+            next: at + 2,
+        };
+    }
+    Item::Unread
+}
+
+// The bytes of a value, up to its ].
+fn read_plain(text: &[u8], at: usize, out: &mut [u8], to: usize) -> Stored
+    requires { ⌜ to + 64 ≤ length (now out) ⌝ }
+    ensures { λ r. ⌜ Stores 64 plainly (value 64 (now (text .entry)) at) (now (out .entry)) to (now (out .exit)) r ⌝ }
+{
+    let mut p = at;
+    let mut q = to;
+    let mut left: usize = 64;
+    loop {
+        let i = read_item(text, p);
+        match i {
+            Item::Byte { byte, next } => {
+                if left == 0 {
+                    return Stored::Unread;
+                }
+                out[q] = byte;
+                q += 1;
+                p = next;
+                left -= 1;
+            }
+            Item::End => {
+                return Stored::To {
+                    next: p + 1,
+                    end: q,
+                };
+            }
+            Item::Unread => {
+                return Stored::Unread;
+            }
+        }
+    }
+}
+
+// A value with its length byte.
+fn read_value(text: &[u8], at: usize, out: &mut [u8], to: usize) -> Stored
+    requires { ⌜ to + 65 ≤ length (now out) ⌝ }
+    ensures { λ r. ⌜ Stores 65 stringBytes (value 64 (now (text .entry)) at) (now (out .entry)) to (now (out .exit)) r ⌝ }
+{
+    let start = to + 1;
+    let v = read_plain(text, at, out, start);
+    let Stored::To { next, end } = v else {
+        return Stored::Unread;
+    };
+    out[to] = (end - start) as u8;
+    Stored::To {
+        next: next,
+        end: end,
+    }
+}
+
+// name=value], after its [.
+fn read_key(text: &[u8], at: usize, out: &mut [u8], to: usize) -> Stored
+    requires { ⌜ (at ≤ length (now text)) × (to + 130 ≤ length (now out)) ⌝ }
+    ensures { λ r. ⌜ Stores 130 keyBytes (key (now (text .entry)) at) (now (out .entry)) to (now (out .exit)) r ⌝ }
+{
+    let n = read_name(text, at, 61, 61, out, to);
+    let Stored::To { next, end } = n else {
+        return Stored::Unread;
+    };
+    if byte_at(text, next) != 61 {
+        return Stored::Unread;
+    }
+    read_value(text, next + 1, out, end)
+}
+
+// The keys of an element, after their count.
+fn read_keys(text: &[u8], at: usize, out: &mut [u8], to: usize) -> Stored
+    requires { ⌜ to + 521 ≤ length (now out) ⌝ }
+    ensures { λ r. ⌜ Stores 521 (counted keyBytes) (each 91 4 key (now (text .entry)) at) (now (out .entry)) to (now (out .exit)) r ⌝ }
+{
+    let mut p = at;
+    let mut q = to + 1;
+    let mut left: usize = 4;
+    while (0 < left) & (byte_at(text, p) == 91) {
+        let k = read_key(text, p + 1, out, q);
+        let Stored::To { next, end } = k else {
+            return Stored::Unread;
+        };
+        p = next;
+        q = end;
+        left -= 1;
+    }
+    let count = 4 - left;
+    out[to] = count as u8;
+    Stored::To { next: p, end: q }
+}
+
+// An element, after its /.
+fn read_element(text: &[u8], at: usize, out: &mut [u8], to: usize) -> Stored
+    requires { ⌜ (at ≤ length (now text)) × (to + 586 ≤ length (now out)) ⌝ }
+    ensures { λ r. ⌜ Stores 586 elemBytes (element (now (text .entry)) at) (now (out .entry)) to (now (out .exit)) r ⌝ }
+{
+    let n = read_name(text, at, 47, 91, out, to);
+    let Stored::To { next, end } = n else {
+        return Stored::Unread;
+    };
+    read_keys(text, next, out, end)
+}
+
+// The elements of a path, after their count.
+fn read_elements(text: &[u8], out: &mut [u8]) -> Stored
+    requires { ⌜ 9377 ≤ length (now out) ⌝ }
+    ensures { λ r. ⌜ Stores 9377 (counted elemBytes) (each 47 16 element (now (text .entry)) 0) (now (out .entry)) 0 (now (out .exit)) r ⌝ }
+{
+    let mut p = 0;
+    let mut q = 1;
+    let mut left: usize = 16;
+    while (0 < left) & (byte_at(text, p) == 47) {
+        let e = read_element(text, p + 1, out, q);
+        let Stored::To { next, end } = e else {
+            return Stored::Unread;
+        };
+        p = next;
+        q = end;
+        left -= 1;
+    }
+    let count = 16 - left;
+    out[0] = count as u8;
+    Stored::To { next: p, end: q }
+}
