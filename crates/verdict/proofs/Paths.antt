@@ -29,15 +29,12 @@ unfolding holds
 →holds ks k m = search (→any, both, same-refl)
 
 same-name-turned : (j k : Key) → sameName j k ≡ true → sameName k j ≡ true
-unfolding sameName
 same-name-turned j k e = ≡→same (sym (same→≡ (j .name) (k .name) e))
 
 named : (j k : Key) → sameName j k ≡ true → j .name ≡ k .name
-unfolding sameName
 named j k e = same→≡ (j .name) (k .name) e
 
 →named : (j k : Key) → j .name ≡ k .name → sameName j k ≡ true
-unfolding sameName
 →named j k e = ≡→same e
 
 -- two keys of one name that are in no conflict are one key
