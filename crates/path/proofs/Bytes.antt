@@ -19,6 +19,7 @@ use Rattle.path.specs.Path.{Key, Elem, Path}
 use Rattle.path.specs.Bytes.{key, element, path, counted, keyBytes, elemBytes, pathBytes}
 use Rattle.path.specs.Faults.{goodPath}
 use Rattle.path.specs.Spells.{Spells, Reads, whole, readBytes}
+use Rattle.path.specs.Walk.{isPath, isPathIn}
 
 key-open : (f : List ℕ) (at : ℕ) → key f at ≡ andThen (string f at) (λ n p. andThen (string f p) (λ v q. got (record { name = n; value = v }) q))
 unfolding key _>>=_ ret
@@ -123,18 +124,27 @@ pub whole-good : (s : Str) (p : Path) → goodPath p ≡ true → whole s (got p
 unfolding whole if_then_else_ _and_
 whole-good s p g = rw (eq-eqb (length s) (length s) refl, g)
 
+-- the bytes of a path are read to that path and nothing more
+pub bytes-whole : (p : Path) → path (pathBytes p) 0 ≡ got p (length (pathBytes p))
+bytes-whole p =
+    let s = pathBytes p in
+    let g = path-gives s 0 p [] (sym (append-nil s)) in
+    let w = path-took s 0 p (g .0) (g .1) in
+    let l : length s - g .0 ≡ 0 = sym (length-drop (g .0) s) ∙ ap length (g .2) in
+    let t : g .0 ≡ length s = omega (arith, w .fits) in
+    g .1 ∙ ap (got p) t
+
+pub bytes-are-path : (p : Path) → isPath (pathBytes p) ≡ goodPath p
+unfolding isPath isPathIn _and_
+bytes-are-path p = rw (bytes-whole p, eq-eqb (length (pathBytes p)) (length (pathBytes p)) refl)
+
 -- path bytes are read to a path exactly where they are that good path's
 pub bytes-reader : Reads pathBytes readBytes
 unfolding readBytes
 bytes-reader = record { reads = reads; only = only }
   where
     reads : (s : Str) (p : Path) → Spells pathBytes s p → whole s (path s 0) ≡ some p
-    reads s p h =
-        let g = path-gives s 0 p [] (h .text ∙ sym (append-nil (pathBytes p))) in
-        let w = path-took s 0 p (g .0) (g .1) in
-        let l : length s - g .0 ≡ 0 = sym (length-drop (g .0) s) ∙ ap length (g .2) in
-        let t : g .0 ≡ length s = omega (arith, w .fits) in
-        rw (g .1, t) (whole-good s p (h .good))
+    reads s p h = rw (h .text, bytes-whole p) (whole-good (pathBytes p) p (h .good))
 
     only : (s : Str) (p : Path) → whole s (path s 0) ≡ some p → Spells pathBytes s p
     only s p e = whole-only (λ z. path z 0) pathBytes s p (λ q t i j. took-whole pathBytes s q t j (path-took s 0 q t i)) e

@@ -28,15 +28,15 @@ use Rattle.path.proofs.Grades.{min-assoc, grade-high, keys-grade, elem-
 
 -- r and s are the ends of the strings at p and after it
 module _ (f : List ℕ) (p : ℕ) (r : End) (e : r ≡ endOf (string f p)) where
-  key-got : (m t : ℕ) (s : End) → r ≡ At m → s ≡ endOf (string f m) → s ≡ At t → key f p ≡ got (record { name = part f (p + 1) m; value = part f (m + 1) t }) t
+  pub key-got : (m t : ℕ) (s : End) → r ≡ At m → s ≡ endOf (string f m) → s ≡ At t → key f p ≡ got (record { name = part f (p + 1) m; value = part f (m + 1) t }) t
   unfolding key _>>=_ ret
   key-got m t s g h i = rw (string-ends f p r e m g .0, string-ends f m s h t i .0)
 
-  key-nameless : r ≡ ends.Unread → key f p ≡ unread
+  pub key-nameless : r ≡ ends.Unread → key f p ≡ unread
   unfolding key _>>=_
   key-nameless g = rw (string-misses f p r e g)
 
-  key-valueless : (m : ℕ) (s : End) → r ≡ At m → s ≡ endOf (string f m) → s ≡ ends.Unread → key f p ≡ unread
+  pub key-valueless : (m : ℕ) (s : End) → r ≡ At m → s ≡ endOf (string f m) → s ≡ ends.Unread → key f p ≡ unread
   unfolding key _>>=_
   key-valueless m s g h i = rw (string-ends f p r e m g .0, string-misses f m s h i)
 

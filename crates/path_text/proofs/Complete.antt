@@ -35,7 +35,7 @@ name-run a b (x ∷ n) rest p q h =
     let ih = name-run a b n rest p q (or-false-r (outsideName x) _ h) in
     rw (plain a x p o, plain b x q o) (omega arith)
 
-sized : (s : Str) → unsized s ≡ false → length s ≤ 64
+pub sized : (s : Str) → unsized s ≡ false → length s ≤ 64
 unfolding unsized
 sized s h = ltb-false _ _ (or-false-r (eqb (length s) 0) _ h)
 

@@ -2,5 +2,8 @@ pub mod Examples
 pub mod Sound
 pub mod Complete
 pub mod RoundTrip
+pub mod Longest
 pub mod Storing
 pub mod Reading
+pub mod Writing
+pub mod Answers

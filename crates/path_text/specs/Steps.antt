@@ -1,7 +1,8 @@
--- The answers of the programs that read path text step by step, said of what is read there.
+-- The answers of the programs that read and write path text step by step, said of what is read there.
 use Prim.Native.Nat.{ℕ, _+_, _≤_}
 use mathlib.Core.Path.{_≡_}
-use mathlib.Core.List.{List}
+use mathlib.Core.Bool.{Bool, true, false}
+use mathlib.Core.List.{List, []}
 use mathlib.Core.Option.{Option, none, some}
 use lib.Dec.{eqb}
 use lib.ListN.{length, getD}
@@ -33,5 +34,18 @@ pub data Stores {A : Type 0} (most : ℕ) (w : A → Str) : Parsed A → List �
 
 -- the bytes fill the start of d, and nothing else does; where there are none, nothing is said of d
 pub data Transcribed : Option Str → List ℕ → List ℕ → Stored → Type 0 where
-  filled : {f : Str} {d d′ : List ℕ} {next end : ℕ} → end ≡ length f → d′ ≡ put d 0 f → Transcribed (some f) d d′ (stored.To next end)
-  refused : {d d′ : List ℕ} → Transcribed none d d′ stored.Unread
+  filled-up : {f : Str} {d d′ : List ℕ} {next end : ℕ} → end ≡ length f → d′ ≡ put d 0 f → Transcribed (some f) d d′ (stored.To next end)
+  not-filled : {d d′ : List ℕ} → Transcribed none d d′ stored.Unread
+
+-- it reads; what w writes for it; where it ends
+abbrev pub isRead : {A : Type 0} → Parsed A → Bool
+isRead (got a t) = true
+isRead unread = false
+
+abbrev pub written : {A : Type 0} → (A → Str) → Parsed A → Str
+written w (got a t) = w a
+written w unread = []
+
+abbrev pub endAt : {A : Type 0} → Parsed A → ℕ
+endAt (got a t) = t
+endAt unread = 0

@@ -210,3 +210,49 @@ fn read_elements(text: &[u8], out: &mut [u8]) -> Stored
     out[0] = count as u8;
     Stored::To { next: p, end: q }
 }
+
+// The bytes of the good path whose text this is.
+fn transcribe(text: &[u8], out: &mut [u8]) -> Stored
+    requires { ⌜ 9377 ≤ length (now out) ⌝ }
+    ensures { λ r. ⌜ Transcribed (bytesFor (now (text .entry))) (now (out .entry)) (now (out .exit)) r ⌝ }
+{
+    let root = [47u8];
+    if text::string::is_same(text, &root) {
+        out[0] = 0;
+        return Stored::To { next: 1, end: 1 };
+    }
+    if text.len() == 0 {
+        return Stored::Unread;
+    }
+    let e = read_elements(text, out);
+    let Stored::To { next, end } = e else {
+        return Stored::Unread;
+    };
+    if next != text.len() {
+        return Stored::Unread;
+    }
+    if !path::frame::is_path(&out[..end]) {
+        return Stored::Unread;
+    }
+    Stored::To {
+        next: next,
+        end: end,
+    }
+}
+
+// Path text to path bytes, at the start of out. Nothing is stored there before all is checked.
+pub fn read_text(text: &[u8], out: &mut [u8]) -> Filled
+    ensures { λ r. ⌜ (r ≡ answer (now (out .entry)) (bytesFor (now (text .entry)))) × (now (out .exit) ≡ lent (now (out .entry)) (bytesFor (now (text .entry)))) ⌝ }
+{
+    // the longest path bytes
+    let mut bytes = [0u8; 9377];
+    let t = transcribe(text, &mut bytes);
+    let Stored::To { next, end } = t else {
+        return Filled::Refused(22);
+    };
+    if out.len() < end {
+        return Filled::Refused(23);
+    }
+    text::fill::copy(&bytes[..end], out, 0);
+    Filled::Length(end)
+}

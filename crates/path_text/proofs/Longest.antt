@@ -1,0 +1,97 @@
+-- "The longest path bytes are 9,377, the longest path text 13,520."
+use mathlib.Core.Path.{_≡_}
+use mathlib.Core.Bool.{Bool, true, false}
+use mathlib.Core.List.{List, [], _∷_, _++_}
+use Prim.Native.Nat.{ℕ, _+_, _*_, _≤_}
+use native.Mathlib.Omega.{arith}
+use borrow.Author.Tests.{ltb-false}
+use lib.Dec.{ltb, eqb}
+use lib.ListN.{length, length-append}
+use Rattle.text.specs.Test.{_or_, if_then_else_, any}
+use Rattle.text.specs.String.{Str, joined}
+use Rattle.text.specs.Frame.{stringBytes}
+use Rattle.text.proofs.Tests.{by, or-false-l, or-false-r}
+use Rattle.path.specs.Path.{Key, Elem, Path}
+use Rattle.path.specs.Bytes.{counted, keyBytes, elemBytes, pathBytes}
+use Rattle.path.specs.Faults.{unsized, keyOver, elemOver, overLimit, goodPath}
+use Rattle.path_text.specs.Text.{isMark, escaped, keyText, elemText, pathText}
+use Rattle.path_text.proofs.Complete.{sized}
+use Rattle.path_text.proofs.RoundTrip.{within-limits}
+
+escaped-length : (b : ℕ) → length (escaped b) ≤ 2
+unfolding escaped if_then_else_
+escaped-length b = by (isMark b) (λ e. rw e (omega arith)) (λ e. rw e (omega arith))
+
+value-length : (v : Str) → length (joined escaped v) ≤ 2 * length v
+unfolding joined
+value-length [] = omega arith
+value-length (b ∷ v) = omega (arith, length-append (escaped b) (joined escaped v), escaped-length b, value-length v)
+
+-- no part is too long where each thing is at most n bytes
+joined-length : {A : Type 0} (w : A → Str) (over : A → Bool) (n : ℕ) → ((a : A) → over a ≡ false → length (w a) ≤ n) → (xs : List A) → any over xs ≡ false → length (joined w xs) ≤ n * length xs
+unfolding joined any
+joined-length w over n h [] g = omega arith
+joined-length w over n h (x ∷ xs) g =
+    omega (arith, length-append (w x) (joined w xs), h x (or-false-l (over x) (any over xs) g), joined-length w over n h xs (or-false-r (over x) (any over xs) g))
+
+key-text : (k : Key) → keyOver k ≡ false → length (keyText k) ≤ 195
+unfolding keyText keyOver
+key-text k g =
+    let n = sized (k .name) (or-false-l _ _ g) in
+    let v = sized (k .value) (or-false-r _ _ g) in
+    let m = value-length (k .value) in
+    simp length-append (omega arith)
+
+key-bytes : (k : Key) → keyOver k ≡ false → length (keyBytes k) ≤ 130
+unfolding keyBytes stringBytes keyOver
+key-bytes k g =
+    let n = sized (k .name) (or-false-l _ _ g) in
+    let v = sized (k .value) (or-false-r _ _ g) in
+    simp length-append (omega arith)
+
+module _ (e : Elem) (g : elemOver e ≡ false) where
+  name-sized : length (e .name) ≤ 64
+  unfolding elemOver
+  name-sized = sized (e .name) (or-false-l _ _ g)
+
+  few-keys : length (e .keys) ≤ 4
+  unfolding elemOver
+  few-keys = ltb-false 4 (length (e .keys)) (or-false-l _ _ (or-false-r (unsized (e .name)) _ g))
+
+  keys-fine : any keyOver (e .keys) ≡ false
+  unfolding elemOver
+  keys-fine = or-false-r (ltb 4 (length (e .keys))) _ (or-false-r (unsized (e .name)) _ g)
+
+elem-text : (e : Elem) → elemOver e ≡ false → length (elemText e) ≤ 845
+unfolding elemText
+elem-text e g =
+    let n = name-sized e g in
+    let f = few-keys e g in
+    let k = joined-length keyText keyOver 195 key-text (e .keys) (keys-fine e g) in
+    simp length-append (omega arith)
+
+elem-bytes : (e : Elem) → elemOver e ≡ false → length (elemBytes e) ≤ 586
+unfolding elemBytes stringBytes counted
+elem-bytes e g =
+    let n = name-sized e g in
+    let f = few-keys e g in
+    let k = joined-length keyBytes keyOver 130 key-bytes (e .keys) (keys-fine e g) in
+    simp length-append (omega arith)
+
+module _ (p : Path) (g : goodPath p ≡ true) where
+  few-elements : length p ≤ 16
+  unfolding overLimit
+  few-elements = ltb-false 16 (length p) (or-false-l _ _ (within-limits p g))
+
+  elems-fine : any elemOver p ≡ false
+  unfolding overLimit
+  elems-fine = or-false-r (ltb 16 (length p)) _ (within-limits p g)
+
+  pub bytes-length : length (pathBytes p) ≤ 9377
+  unfolding pathBytes counted
+  bytes-length = omega (arith, few-elements, joined-length elemBytes elemOver 586 elem-bytes p elems-fine)
+
+pub text-length : (p : Path) → goodPath p ≡ true → length (pathText p) ≤ 13520
+unfolding pathText
+text-length [] g = omega arith
+text-length (e ∷ es) g = omega (arith, few-elements (e ∷ es) g, joined-length elemText elemOver 845 elem-text (e ∷ es) (elems-fine (e ∷ es) g))

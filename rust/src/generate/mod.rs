@@ -1,0 +1,4 @@
+//! Generated inputs, shared by the tests and the benchmarks.
+
+pub mod damage;
+pub mod path;

@@ -1,0 +1,16 @@
+//! The rules of Burgeehoist written a second time, from the papers alone.
+//!
+//! Nothing here was written with the proved definitions in sight: the tests in
+//! `tests/` run both on the same inputs and compare every answer and every lent
+//! byte, and the programs in `benches/` compare their speed.
+
+pub mod boundary;
+pub mod charset;
+pub mod generate;
+pub mod lent;
+pub mod limits;
+pub mod measure;
+pub mod path;
+pub mod random;
+pub mod refusal;
+pub mod word;

@@ -1,0 +1,80 @@
+//! Timing of the two implementations side by side, for the programs in `benches/`.
+
+use std::hint::black_box;
+use std::time::{Duration, Instant};
+
+const WARM_UP: Duration = Duration::from_millis(50);
+const SAMPLE: Duration = Duration::from_millis(3);
+const SAMPLES: usize = 25;
+
+/// Nanoseconds of one call.
+struct Timing {
+    median: f64,
+    best: f64,
+}
+
+/// Prints a Markdown table, a row for each comparison.
+pub struct Table;
+
+impl Table {
+    pub fn new(title: &str) -> Table {
+        println!("\n### {title}\n");
+        println!("| input | Rattle median | best | Rust median | best | Rattle/Rust |");
+        println!("|---|---:|---:|---:|---:|---:|");
+        Table
+    }
+
+    /// Times two calls that give the same answer word, taking samples in turn.
+    pub fn row(&self, input: &str, mut rattle: impl FnMut() -> u64, mut rust: impl FnMut() -> u64) {
+        assert_eq!(rattle(), rust(), "the answers differ on {input}");
+        let rattle_count = calls_in_a_sample(&mut rattle);
+        let rust_count = calls_in_a_sample(&mut rust);
+        let (mut rattle_times, mut rust_times) = (Vec::new(), Vec::new());
+        for _ in 0..SAMPLES {
+            rattle_times.push(time(&mut rattle, rattle_count));
+            rust_times.push(time(&mut rust, rust_count));
+        }
+        let (rattle, rust) = (summary(rattle_times), summary(rust_times));
+        println!(
+            "| {input} | {} | {} | {} | {} | {:.2} |",
+            shown(rattle.median),
+            shown(rattle.best),
+            shown(rust.median),
+            shown(rust.best),
+            rattle.median / rust.median
+        );
+    }
+}
+
+/// Warms up, and finds how many calls fill a sample.
+fn calls_in_a_sample(call: &mut impl FnMut() -> u64) -> u32 {
+    let start = Instant::now();
+    let mut calls = 0u32;
+    while start.elapsed() < WARM_UP {
+        black_box(call());
+        calls += 1;
+    }
+    let each = start.elapsed().as_secs_f64() / f64::from(calls);
+    ((SAMPLE.as_secs_f64() / each) as u32).max(1)
+}
+
+fn time(call: &mut impl FnMut() -> u64, calls: u32) -> f64 {
+    let start = Instant::now();
+    for _ in 0..calls {
+        black_box(call());
+    }
+    start.elapsed().as_secs_f64() * 1e9 / f64::from(calls)
+}
+
+fn summary(mut times: Vec<f64>) -> Timing {
+    times.sort_by(f64::total_cmp);
+    Timing { median: times[times.len() / 2], best: times[0] }
+}
+
+fn shown(nanoseconds: f64) -> String {
+    if nanoseconds < 10_000.0 {
+        format!("{nanoseconds:.0} ns")
+    } else {
+        format!("{:.1} us", nanoseconds / 1_000.0)
+    }
+}
