@@ -10,11 +10,13 @@ ghost use Rattle.verdict.specs.Order.{Numbered};
 ghost use Rattle.verdict.specs.Verdict.{decider, answer, tree};
 ghost use Rattle.place.specs.Place.{pathEnd, pathIn};
 ghost use Rattle.judge.specs.Best.{held, Sound, lacks};
-ghost use Rattle.verdict_text.specs.Calls.{decidedBy, spread};
+ghost use Rattle.table.specs.declared.Checked.the-variants.{Accepted};
+ghost use Rattle.verdict_text.specs.Calls.{requestRefusal, request, decidedBy, pathAnswer, spread, treeAnswer};
 ghost use Rattle.verdict_text.specs.Ready.{Ready, Groups, asked};
 use crate::PathAnswer;
 use crate::TreeAnswer;
 use judge::best::Best;
+use path_text::Filled;
 use table::RuleNumber;
 
 // The answer that the deciding rule gives.
@@ -95,4 +97,92 @@ pub fn tree_answer(
     judge::tree::weigh(f, starts, &on, n, g, 1, k, &mut weights, &mut paths);
     let b = judge::tree::witness(f, starts, &weights, &paths, n, v, g, 1, k);
     spread_of(f, v, b)
+}
+
+// The answer of the path call on a loaded table. The path text is read to bytes, and 22 is given where it does not read.
+pub fn path_call(
+    f: &[u8],
+    starts: &[u16],
+    holders: &[u8],
+    n: usize,
+    set: u64,
+    user: &[u8],
+    mode: u32,
+    origin: &[u8],
+    text: &[u8],
+) -> PathAnswer
+    requires { ⌜ ((t : Table) × Ready t (now f) (now starts) (now holders) n × Groups t (now user) set) ⌝ }
+    requires { ⌜ (n ≤ length (now starts)) × (n ≤ length (now holders)) ⌝ }
+    ensures { λ r. ⌜ ((t : Table) → Ready t (now (f .entry)) (now (starts .entry)) (now (holders .entry)) n → Groups t (now (user .entry)) set → r ≡ pathAnswer Accepted (requestRefusal (now (user .entry)) mode (now (origin .entry)) (now (text .entry))) (decider t (request (now (user .entry)) mode (now (origin .entry)) (now (text .entry))))) ⌝ }
+{
+    let number = crate::request::number(user, mode, origin);
+    if number != 255 {
+        return PathAnswer::Refused {
+            number: number,
+            line: 0,
+        };
+    }
+    let mut bytes = [0u8; 9377];
+    let filled = path_text::reader::read_text(text, &mut bytes);
+    let Filled::Length(len) = filled else {
+        return PathAnswer::Refused {
+            number: 22,
+            line: 0,
+        };
+    };
+    path_answer(
+        f,
+        starts,
+        holders,
+        n,
+        set,
+        user,
+        mode,
+        origin,
+        &bytes[..len],
+    )
+}
+
+// The answer of the tree call on a loaded table.
+pub fn tree_call(
+    f: &[u8],
+    starts: &[u16],
+    holders: &[u8],
+    n: usize,
+    set: u64,
+    user: &[u8],
+    mode: u32,
+    origin: &[u8],
+    text: &[u8],
+) -> TreeAnswer
+    requires { ⌜ ((t : Table) × Ready t (now f) (now starts) (now holders) n × Groups t (now user) set) ⌝ }
+    requires { ⌜ (n ≤ length (now starts)) × (n ≤ length (now holders)) ⌝ }
+    ensures { λ r. ⌜ ((t : Table) → Ready t (now (f .entry)) (now (starts .entry)) (now (holders .entry)) n → Groups t (now (user .entry)) set → r ≡ treeAnswer Accepted (requestRefusal (now (user .entry)) mode (now (origin .entry)) (now (text .entry))) (tree t (request (now (user .entry)) mode (now (origin .entry)) (now (text .entry))))) ⌝ }
+{
+    let number = crate::request::number(user, mode, origin);
+    if number != 255 {
+        return TreeAnswer::Refused {
+            number: number,
+            line: 0,
+        };
+    }
+    let mut bytes = [0u8; 9377];
+    let filled = path_text::reader::read_text(text, &mut bytes);
+    let Filled::Length(len) = filled else {
+        return TreeAnswer::Refused {
+            number: 22,
+            line: 0,
+        };
+    };
+    tree_answer(
+        f,
+        starts,
+        holders,
+        n,
+        set,
+        user,
+        mode,
+        origin,
+        &bytes[..len],
+    )
 }
