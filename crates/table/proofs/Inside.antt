@@ -31,12 +31,12 @@ inside-byte : Inside byte
 inside-byte h g k p a e i =
     by (ltb p (length g))
     (λ t.
-      let l : p < length g = ltb-true _ _ t in
-      let v = got-value (sym (byte-got g p l) ∙ i) in
-      let b : length h + p < length (h ++ (g ++ k)) = omega (arith, length-append h (g ++ k), length-append g k) in
-      let c : getD (h ++ (g ++ k)) (length h + p) 0 ≡ a = getD-append-add h (g ++ k) p 0 ∙ List·getD-append g k 0 p l ∙ v .0 in
-      let d : length h + p + 1 ≡ length h + e = omega (arith, v .1) in
-      byte-got (h ++ (g ++ k)) (length h + p) b ∙ ap₂ got c d)
+    let l : p < length g = ltb-true _ _ t in
+    let v = got-value (sym (byte-got g p l) ∙ i) in
+    let b : length h + p < length (h ++ (g ++ k)) = omega (arith, length-append h (g ++ k), length-append g k) in
+    let c : getD (h ++ (g ++ k)) (length h + p) 0 ≡ a = getD-append-add h (g ++ k) p 0 ∙ List·getD-append g k 0 p l ∙ v .0 in
+    let d : length h + p + 1 ≡ length h + e = omega (arith, v .1) in
+    byte-got (h ++ (g ++ k)) (length h + p) b ∙ ap₂ got c d)
     (λ t. never (sym (byte-unread g p (ltb-false _ _ t)) ∙ i))
 
 part-inside : (h g k : List ℕ) (p n : ℕ) → n ≤ length g - p → part (h ++ (g ++ k)) (length h + p) (length h + p + n) ≡ part g p (p + n)
@@ -46,13 +46,13 @@ part-inside h g k p n l =
     rw (a, b, drop-append-add h (g ++ k) p)
     (by (leb p (length g))
     (λ t.
-      let m : p ≤ length g = leb-true _ _ t in
-      let q : n ≤ length (drop p g) = omega (arith, length-drop p g) in
-      rw (drop-append-le p g k m, take-append-le n (drop p g) k q))
+    let m : p ≤ length g = leb-true _ _ t in
+    let q : n ≤ length (drop p g) = omega (arith, length-drop p g) in
+    rw (drop-append-le p g k m, take-append-le n (drop p g) k q))
     (λ t.
-      let m : length g < p = leb-false _ _ t in
-      let z : n ≡ 0 = omega arith in
-      rw z))
+    let m : length g < p = leb-false _ _ t in
+    let z : n ≡ 0 = omega arith in
+    rw z))
 
 run-got : (n : ℕ) (f : List ℕ) (at : ℕ) → n ≤ length f - at → run n f at ≡ got (part f at (at + n)) (at + n)
 unfolding run if_then_else_
@@ -66,11 +66,11 @@ inside-run : (n : ℕ) → Inside (run n)
 inside-run n h g k p a e i =
     by (leb n (length g - p))
     (λ t.
-      let l : n ≤ length g - p = leb-true _ _ t in
-      let v = got-value (sym (run-got n g p l) ∙ i) in
-      let b : n ≤ length (h ++ (g ++ k)) - (length h + p) = omega (arith, length-append h (g ++ k), length-append g k) in
-      let d : length h + p + n ≡ length h + e = omega (arith, v .1) in
-      run-got n (h ++ (g ++ k)) (length h + p) b ∙ ap₂ got (part-inside h g k p n l ∙ v .0) d)
+    let l : n ≤ length g - p = leb-true _ _ t in
+    let v = got-value (sym (run-got n g p l) ∙ i) in
+    let b : n ≤ length (h ++ (g ++ k)) - (length h + p) = omega (arith, length-append h (g ++ k), length-append g k) in
+    let d : length h + p + n ≡ length h + e = omega (arith, v .1) in
+    run-got n (h ++ (g ++ k)) (length h + p) b ∙ ap₂ got (part-inside h g k p n l ∙ v .0) d)
     (λ t. never (sym (run-unread n g p t) ∙ i))
 
 module _ {A B : Type 0} (r : Reader A) (q : A → Reader B) where

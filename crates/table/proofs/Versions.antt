@@ -39,7 +39,7 @@ module _ (f : Str) (pre : (0 < length f) × (getD f 0 0 ≡ 1)) (r : End) (i : r
     version-long n = let e = string-ends f 1 r i t g in refused-unread b f (version-off f (pre .0) (pre .1) _ t (e .0) (e .2) n)
 
     module _ (n : length f - t ≡ 8) (o : Bool) (q : o ≡ outOfOrder last 1) where
-      reading : entryOf f ≡ some (version (part f 2 t) (part f t (t + 8)))
+      pub reading : entryOf f ≡ some (version (part f 2 t) (part f t (t + 8)))
       reading = let e = string-ends f 1 r i t g in version-read f (pre .0) (pre .1) _ t (e .0) (e .2) n
 
       order : o ≡ outOfOrder (b .kind) (kindOf (version (part f 2 t) (part f t (t + 8))))

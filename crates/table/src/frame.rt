@@ -2,7 +2,9 @@
 ghost use mathlib.Core.Path.{_≡_};
 ghost use Prim.Native.Nat.{_<_};
 ghost use lib.ListN.{length, getD};
-ghost use Rattle.table.specs.Frame.{entryOf};
+ghost use mathlib.Core.Option.{some};
+ghost use Rattle.text.specs.String.{Str};
+ghost use Rattle.table.specs.Frame.{version, entryOf};
 ghost use Rattle.table.specs.Refusal.{Earlier, framed, outOfOrder, refusal};
 ghost use Rattle.table.specs.Walk.{merged, unsizedBy, RuleRead};
 use path::frame::Walk;
@@ -50,6 +52,7 @@ pub fn is_unsized(limit: usize, n: usize) -> bool
 pub fn version_number(f: &[u8], last: u8) -> u8
     requires { ⌜ (0 < length (now f)) × (getD (now f) 0 0 ≡ 1) ⌝ }
     ensures { λ r. ⌜ ((b : Earlier) → b .kind ≡ last → r ≡ refusal b (framed (entryOf (now (f .entry))))) ⌝ }
+    ensures { λ r. ⌜ (r ≡ 255 → (v : Str) × (t : Str) × (entryOf (now (f .entry)) ≡ some (version v t))) ⌝ }
 {
     let v = text::frame::string_end(f, 1);
     let End::At(end) = v else {

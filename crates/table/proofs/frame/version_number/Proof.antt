@@ -1,7 +1,10 @@
 -- `version_number` equals its definition.
 use borrow.Author.Needs.{needs}
+use native.Mathlib.Omega.{arith}
+use mathlib.Core.Path.{refl}
+use mathlib.Core.List.{[]}
 use Rattle.text.proofs.Frames.{string-ends}
-use Rattle.table.proofs.Versions.{version-short, version-long, version-four, version-graded}
+use Rattle.table.proofs.Versions.{version-short, version-long, version-four, version-graded, reading}
 use Rattle.table.proofs.frame.version_number.Statement.{statement}
 use Rattle.table.proofs.frame.version_number.Tie as tie
 
@@ -19,7 +22,7 @@ returns c =
     let at-enum-told = c .enum-told in
     let at-string-end = c .before .before .string-end in
     let at-start = c .before .before .before .before in
-    λ b w. version-short _ (at-start .pre) _ (at-string-end .ensures) b _ w (at-enum-told .given .1)
+    (λ b w. version-short _ (at-start .pre) _ (at-string-end .ensures) b _ w (at-enum-told .given .1), λ x. absurd (omega arith))
 
 sub-if1 : tie.Need-sub-if1
 sub-if1 c =
@@ -33,7 +36,7 @@ returns-2 c =
     let at-v = c .before .before .v in
     let at-string-end = c .before .before .before .before .string-end in
     let at-start = c .before .before .before .before .before .before in
-    λ b w. version-long _ (at-start .pre) _ (at-string-end .ensures) b _ w _ (at-v .given .1) (at-if1 .taken)
+    (λ b w. version-long _ (at-start .pre) _ (at-string-end .ensures) b _ w _ (at-v .given .1) (at-if1 .taken), λ x. absurd (omega arith))
 
 is-out-of-order-requires : tie.Need-is-out-of-order-requires
 is-out-of-order-requires c κs = search needs
@@ -46,7 +49,7 @@ returns-3 c =
     let at-v = c .before .before .before .before .v in
     let at-string-end = c .before .before .before .before .before .before .string-end in
     let at-start = c .before .before .before .before .before .before .before .before in
-    λ b w. version-four _ (at-start .pre) _ (at-string-end .ensures) b _ w _ (at-v .given .1) (at-if1 .left) _ (at-is-out-of-order .ensures) (at-if2 .taken)
+    (λ b w. version-four _ (at-start .pre) _ (at-string-end .ensures) b _ w _ (at-v .given .1) (at-if1 .left) _ (at-is-out-of-order .ensures) (at-if2 .taken), λ x. absurd (omega arith))
 
 sub-version : tie.Need-sub-version
 sub-version c =
@@ -86,7 +89,7 @@ returns-4 c =
     let at-v = c .before .before .before .before .before .before .before .before .v in
     let at-string-end = c .before .before .before .before .before .before .before .before .before .before .string-end in
     let at-start = c .before .before .before .before .before .before .before .before .before .before .before .before in
-    λ b w. version-graded _ (at-start .pre) _ (at-string-end .ensures) b _ w _ (at-v .given .1) (at-if1 .left) _ (at-is-out-of-order .ensures) (at-if2 .left) _ _ _ (at-number .ensures) (at-is-unsized .ensures) (at-all-print .ensures)
+    (λ b w. version-graded _ (at-start .pre) _ (at-string-end .ensures) b _ w _ (at-v .given .1) (at-if1 .left) _ (at-is-out-of-order .ensures) (at-if2 .left) _ _ _ (at-number .ensures) (at-is-unsized .ensures) (at-all-print .ensures), λ x. (_, _, reading _ (at-start .pre) _ (at-string-end .ensures) (record { kind = at-start .args .last; groups = []; members = []; ids = [] }) _ refl _ (at-v .given .1) (at-if1 .left) _ (at-is-out-of-order .ensures)))
 
 pub version-number-spec : {M : Type 1} → statement M
 version-number-spec =

@@ -1,0 +1,369 @@
+-- One row more is held.
+use mathlib.Core.Path.{_≡_, refl, sym, ap, ap₂, _∙_}
+use mathlib.Core.Bool.{Bool, true, false}
+use mathlib.Core.List.{List, [], _∷_, _++_, append-nil}
+use mathlib.Core.Option.{Option, none, some}
+use Prim.Native.Nat.{ℕ, zero, suc, _+_, _-_, _≤_, _<_}
+use native.Mathlib.Numerals.{add-one}
+use native.Mathlib.Omega.{arith}
+use borrow.Author.Tests.{eqb-true, eqb-false, ltb-true, ltb-false, leb-true, leb-false}
+use lib.Dec.{eqb, ltb, leb}
+use lib.ListN.{length, getD, set, length-append, length-set, List·getD-append}
+use lib.Seq.{getD-set-same, getD-set-other}
+use Rattle.text.specs.Test.{if_then_else_, any, twice}
+use Rattle.text.specs.String.{Str, same}
+use Rattle.text.specs.Frame.{got, unread, string, part}
+use Rattle.text.proofs.Tests.{by}
+use Rattle.text.proofs.Frames.{string-got, string-none, string-unread}
+use Rattle.rows.specs.Strings.{past, stringAt, stringsIn, Laid, place, hashFrom}
+use Rattle.rows.proofs.Strings.{hash-small}
+use Rattle.rows.proofs.Grow.{rowsOf, rows-same, rows-grow, strings-length, string-front, old-start, new-start, old-string, strings-grow, laid-grow, laid-stays, strings-stay, place-at, place-le, twice-snoc}
+use Rattle.table.specs.Table.{Member, Rule}
+use Rattle.table.specs.Frame.{Entry, version, group, member, rule, ruleBody, entryOf}
+use Rattle.table.specs.Refusal.{Earlier, with}
+use Rattle.table.specs.Text.{maybe, asRule}
+use Rattle.table.proofs.Inside.{inside-string, inside-rule, reads-more, reads-after}
+use Rattle.keep.specs.Held.{memberIn, membersIn, Owned, Marked, memberPlace, idPlace, GroupKept, MemberKept, RuleKept}
+use Rattle.load.specs.declared.row.Counts.{Counts}
+use Rattle.load.specs.Held.{idsOf, RulesAt, HoldersAt, Holds, Held, counted}
+
+-- ---- a string that was read
+
+never : {A : Type 0} {X : Type 0} {a : A} {e : ℕ} → unread ≡ got a e → X
+never q = let z : _≡_ {A = ℕ} 0 1 = cc in absurd (omega arith)
+
+got-value : {A : Type 0} {a b : A} {s t : ℕ} → got a s ≡ got b t → (a ≡ b) × (s ≡ t)
+got-value q = (cc, cc)
+
+string-is : (f : List ℕ) (at : ℕ) (s : Str) (t : ℕ) → string f at ≡ got s t → (stringAt f at ≡ s) × (past f at ≤ length f)
+unfolding stringAt past
+string-is f at s t i =
+    by (ltb at (length f))
+    (λ u.
+    let a : at < length f = ltb-true _ _ u in
+    by (leb (getD f at 0) (length f - (at + 1)))
+    (λ v.
+    let b : getD f at 0 ≤ length f - (at + 1) = leb-true _ _ v in
+    (got-value (sym (string-got f at a b) ∙ i) .0, omega arith))
+    (λ v. never (sym (string-unread f at a (leb-false _ _ v)) ∙ i)))
+    (λ u. never (sym (string-none f at (ltb-false _ _ u)) ∙ i))
+
+-- of the new row, among all bytes
+new-string : (old f : List ℕ) (at : ℕ) (s : Str) (t : ℕ) → string f at ≡ got s t
+    → (stringAt (old ++ f) (length old + at) ≡ s) × (past (old ++ f) (length old + at) ≤ length (old ++ f))
+new-string old f at s t i = string-is (old ++ f) (length old + at) s (length old + t) (reads-after string inside-string old f at s t i)
+
+-- ---- ids
+
+ids-snoc : (rs : List Rule) (r : Rule) → idsOf (rs ++ (r ∷ [])) ≡ idsOf rs ++ (r .id ∷ [])
+unfolding idsOf
+ids-snoc [] r = refl
+ids-snoc (x ∷ rs) r = ap (λ (l : List Str). x .id ∷ l) (ids-snoc rs r)
+
+-- ---- rules
+
+module _ (f g : List ℕ) where
+  rules-stay : (starts : List ℕ) (rs : List Rule) (i : ℕ) → RulesAt f starts rs i → RulesAt (f ++ g) starts rs i
+  unfolding RulesAt
+  rules-stay starts [] i h = tt
+  rules-stay starts (r ∷ rs) i h = ((h .0 .0, reads-more ruleBody inside-rule f g _ r (h .0 .0) (h .0 .1)), rules-stay starts rs (suc i) (h .1))
+
+  rules-grow : (starts : List ℕ) (rs : List Rule) (i n v : ℕ) (x : Rule) (e : ℕ) → i + length rs ≡ n → n < length starts → RulesAt f starts rs i
+      → ruleBody (f ++ g) v ≡ got x e → RulesAt (f ++ g) (set starts n v) (rs ++ (x ∷ [])) i
+  unfolding RulesAt
+  rules-grow starts [] i n v x e l m h q =
+      let z : i ≡ n = omega arith in
+      ((e, ap (ruleBody (f ++ g)) (ap (λ (j : ℕ). getD (set starts n v) j 0) z ∙ getD-set-same starts n v 0 m) ∙ q), tt)
+  rules-grow starts (r ∷ rs) i n v x e l m h q =
+      let o : getD (set starts n v) i 0 ≡ getD starts i 0 = getD-set-other starts n i v 0 (λ p. let y : ⊥ = omega arith in y) in
+      ((h .0 .0, ap (ruleBody (f ++ g)) o ∙ reads-more ruleBody inside-rule f g _ r (h .0 .0) (h .0 .1)), rules-grow starts rs (suc i) n v x e (omega arith) m (h .1) q)
+
+holders-grow : (groups : List Str) (holders : List ℕ) (rs : List Rule) (i n v : ℕ) (x : Rule) → i + length rs ≡ n → n < length holders → HoldersAt groups holders rs i
+    → (x .byGroup ≡ true → (v < length groups) × (getD groups v [] ≡ x .subject)) → HoldersAt groups (set holders n v) (rs ++ (x ∷ [])) i
+unfolding HoldersAt
+holders-grow groups holders [] i n v x l m h q =
+    let z : i ≡ n = omega arith in
+    let o : getD (set holders n v) i 0 ≡ v = ap (λ (j : ℕ). getD (set holders n v) j 0) z ∙ getD-set-same holders n v 0 m in
+    (λ t. rw o (q t), tt)
+holders-grow groups holders (r ∷ rs) i n v x l m h q =
+    let o : getD (set holders n v) i 0 ≡ getD holders i 0 = getD-set-other holders n i v 0 (λ p. let y : ⊥ = omega arith in y) in
+    (λ t. rw o (h .0 t), holders-grow groups holders rs (suc i) n v x (omega arith) m (h .1) q)
+
+-- a group more
+holders-stay : (groups : List Str) (name : Str) (holders : List ℕ) (rs : List Rule) (i : ℕ) → HoldersAt groups holders rs i → HoldersAt (groups ++ (name ∷ [])) holders rs i
+unfolding HoldersAt
+holders-stay groups name holders [] i h = tt
+holders-stay groups name holders (r ∷ rs) i h = (
+  λ t. let k = h .0 t in (omega (arith, k .0, length-append groups (name ∷ [])), List·getD-append groups (name ∷ []) [] _ (k .0) ∙ k .1),
+  holders-stay groups name holders rs (suc i) (h .1),
+)
+
+-- ---- a place that is set
+
+mark-old : (seen : List ℕ) (p h : ℕ) → h < length seen → getD seen p 0 ≡ 1 → getD (set seen h 1) p 0 ≡ 1
+mark-old seen p h l e =
+    by (eqb p h)
+    (λ t. let z : p ≡ h = eqb-true _ _ t in ap (λ (j : ℕ). getD (set seen h 1) j 0) z ∙ getD-set-same seen h 1 0 l)
+    (λ t. getD-set-other seen h p 1 0 (eqb-false _ _ t) ∙ e)
+
+-- n places, and one more
+marked-grow : (seen : List ℕ) (place place′ : ℕ → ℕ) (n h : ℕ) → h < length seen → Marked seen place n → ((j : ℕ) → j < n → place′ j ≡ place j) → place′ n ≡ h
+    → Marked (set seen h 1) place′ (n + 1)
+marked-grow seen place place′ n h l m old new j k =
+    by (eqb j n)
+    (λ t. let z : j ≡ n = eqb-true _ _ t in ap (λ (i : ℕ). getD (set seen h 1) (place′ i) 0) z ∙ ap (λ (i : ℕ). getD (set seen h 1) i 0) new ∙ getD-set-same seen h 1 0 l)
+    (λ t.
+    let z : j ≡ n → ⊥ = eqb-false _ _ t in
+    let y : j < n = omega arith in
+    ap (λ (i : ℕ). getD (set seen h 1) i 0) (old j y) ∙ mark-old seen (place j) h l (m j y))
+
+marked-same : (seen : List ℕ) (place place′ : ℕ → ℕ) (n : ℕ) → Marked seen place n → ((j : ℕ) → j < n → place′ j ≡ place j) → Marked seen place′ n
+marked-same seen place place′ n m old j k = ap (λ (i : ℕ). getD seen i 0) (old j k) ∙ m j k
+
+-- ---- the bytes grow
+
+module _ {named : List Str} {members : List Member} {rules : List Rule} {old : List ℕ} {c : Counts} {groups users owners ids starts holders : List ℕ} (f : List ℕ)
+    (H : Holds named members rules old c groups users owners ids starts holders) where
+  user-stays : (j : ℕ) → j < c .members → stringAt (old ++ f) (getD users j 0) ≡ stringAt old (getD users j 0)
+  user-stays j k = string-front old f (getD users j 0) (H .users-laid j k)
+
+  members-stay : membersIn named owners (old ++ f) users (c .members) ≡ membersIn named owners old users (c .members)
+  unfolding membersIn
+  members-stay =
+      rows-same (memberIn named owners (old ++ f) users) (memberIn named owners old users) (c .members) 0
+      (λ j a b i. record { group = getD named (getD owners j 0) []; user = user-stays j (omega arith) i })
+
+  pub holds-stay : (k : ℕ) → Holds named members rules (old ++ f) (record { kind = k; groups = c .groups; members = c .members; rules = c .rules }) groups users owners ids starts holders
+  holds-stay k = record {
+    groups-are = H .groups-are ∙ sym (strings-stay old f groups (c .groups) (H .groups-laid));
+    members-are = H .members-are ∙ sym members-stay;
+    ids-are = H .ids-are ∙ sym (strings-stay old f ids (c .rules) (H .ids-laid));
+    rules-are = rules-stay old f starts rules 0 (H .rules-are);
+    rules-count = H .rules-count;
+    holders-are = H .holders-are;
+    groups-laid = laid-stays old f groups (c .groups) (H .groups-laid);
+    users-laid = laid-stays old f users (c .members) (H .users-laid);
+    ids-laid = laid-stays old f ids (c .rules) (H .ids-laid);
+    owned = H .owned;
+    distinct = H .distinct;
+    few = H .few;
+    long = H .long;
+  }
+
+-- ---- each kind
+
+same-arrays : {b : Earlier} {rules : List Rule} {f : List ℕ} {c : Counts} {groups users owners ids ids′ starts starts′ holders holders′ ms is is′ : List ℕ}
+    → ids′ ≡ ids → starts′ ≡ starts → holders′ ≡ holders → is′ ≡ is
+    → Held b rules f c groups users owners ids starts holders ms is → Held b rules f c groups users owners ids′ starts′ holders′ ms is′
+same-arrays d s h i H = rw (d, s, h, i) H
+
+module _ {b : Earlier} {rules : List Rule} {old : List ℕ} {c : Counts} {groups users owners ids starts holders ms is : List ℕ} (f : List ℕ)
+    (G : Held b rules old c groups users owners ids starts holders ms is) where
+  H : Holds (b .groups) (b .members) rules old c groups users owners ids starts holders
+  H = G .holds
+
+  members-stay-marked : Marked ms (memberPlace owners (old ++ f) users) (c .members)
+  members-stay-marked = marked-same ms (memberPlace owners old users) (memberPlace owners (old ++ f) users) (c .members) (G .members-marked) (λ j k. ap (hashFrom (getD owners j 0)) (user-stays f H j k))
+
+  ids-stay-marked : Marked is (idPlace (old ++ f) ids) (c .rules)
+  ids-stay-marked = marked-same is (idPlace old ids) (idPlace (old ++ f) ids) (c .rules) (G .ids-marked) (λ j k. ap (hashFrom 0) (string-front old f (getD ids j 0) (H .ids-laid j k)))
+
+  pub grow-version : (v t : Str) → Held (with b (version v t)) (rules ++ maybe (asRule (version v t)) []) (old ++ f) (counted c 1) groups users owners ids starts holders ms is
+  unfolding with counted if_then_else_ maybe asRule
+  grow-version v t =
+      rw (append-nil rules)
+      (record { kind = refl; told-ids = G .told-ids; holds = holds-stay f H 1; members-marked = members-stay-marked; ids-marked = ids-stay-marked; seen-long = G .seen-long })
+
+  module _ {groups′ : List ℕ} (K : GroupKept old f groups (c .groups) groups′) (fresh : any (same (K .name)) (b .groups) ≡ false) where
+    v : ℕ
+    v = length old + 1
+
+    wide : c .groups < length groups
+    wide = omega (arith, H .long .0, K .room)
+
+    new : (stringAt (old ++ f) (length old + 1) ≡ K .name) × (past (old ++ f) (length old + 1) ≤ length (old ++ f))
+    new = new-string old f 1 (K .name) (length f) (K .stands)
+
+    same-member : (j : ℕ) → j < c .members → memberIn (b .groups ++ (K .name ∷ [])) owners (old ++ f) users j ≡ memberIn (b .groups) owners old users j
+    same-member j k =
+        let o : getD owners j 0 < length (b .groups) = omega (arith, H .owned j k, ap length (H .groups-are), strings-length old groups (c .groups)) in
+        λ i. record { group = List·getD-append (b .groups) (K .name ∷ []) [] (getD owners j 0) o i; user = user-stays f H j k i }
+
+    same-members : membersIn (b .groups ++ (K .name ∷ [])) owners (old ++ f) users (c .members) ≡ membersIn (b .groups) owners old users (c .members)
+    unfolding membersIn
+    same-members = rows-same (memberIn (b .groups ++ (K .name ∷ [])) owners (old ++ f) users) (memberIn (b .groups) owners old users) (c .members) 0 (λ j a k. same-member j (omega arith))
+
+    holds-group : Holds (b .groups ++ (K .name ∷ [])) (b .members) rules (old ++ f) (record { kind = 2; groups = c .groups + 1; members = c .members; rules = c .rules }) (set groups (c .groups) (length old + 1)) users owners ids starts holders
+    holds-group =
+        let S = holds-stay f H 2 in
+        record {
+          groups-are = ap (λ (l : List Str). l ++ (K .name ∷ [])) (H .groups-are) ∙ sym (strings-grow old f groups (c .groups) (length old + 1) (H .groups-laid) wide (K .name) (new .0));
+          members-are = H .members-are ∙ sym same-members;
+          ids-are = S .ids-are;
+          rules-are = S .rules-are;
+          rules-count = S .rules-count;
+          holders-are = holders-stay (b .groups) (K .name) holders rules 0 (H .holders-are);
+          groups-laid = laid-grow old f groups (c .groups) (length old + 1) (H .groups-laid) wide (new .1);
+          users-laid = S .users-laid;
+          ids-laid = S .ids-laid;
+          owned = λ j k. omega (arith, H .owned j k);
+          distinct = twice-snoc (b .groups) (K .name) (H .distinct) fresh;
+          few = (omega (arith, K .room), H .few .1, H .few .2);
+          long = (length-set groups (c .groups) (length old + 1) ∙ H .long .0, H .long .1, H .long .2, H .long .3, H .long .4, H .long .5);
+        }
+
+    pub grow-group : Held (with b (group (K .name))) (rules ++ maybe (asRule (group (K .name))) []) (old ++ f) (counted c 2) groups′ users owners ids starts holders ms is
+    unfolding with counted if_then_else_ maybe asRule
+    grow-group =
+        rw (append-nil rules, K .starts-set)
+        (record { kind = refl; told-ids = G .told-ids; holds = holds-group; members-marked = members-stay-marked; ids-marked = ids-stay-marked; seen-long = G .seen-long })
+
+  module _ {users′ owners′ ms′ : List ℕ} (K : MemberKept (stringsIn old groups (c .groups) 0) old f users owners ms (c .members) users′ owners′ ms′) where
+    abbrev n : ℕ
+    n = c .members
+
+    abbrev p : ℕ
+    p = place (K .group) (stringsIn old groups (c .groups) 0)
+
+    abbrev us : List ℕ
+    us = set users n (length old + K .at)
+
+    abbrev os : List ℕ
+    os = set owners n p
+
+    wide-users : n < length users
+    wide-users = omega (arith, H .long .1, K .room)
+
+    wide-owners : n < length owners
+    wide-owners = omega (arith, H .long .2, K .room)
+
+    new-user : (stringAt (old ++ f) (length old + K .at) ≡ K .user) × (past (old ++ f) (length old + K .at) ≤ length (old ++ f))
+    new-user = new-string old f (K .at) (K .user) (length f) (K .stands)
+
+    old-owner : (j : ℕ) → j < n → getD os j 0 ≡ getD owners j 0
+    old-owner j k = getD-set-other owners n j p 0 (λ e. let x : ⊥ = omega arith in x)
+
+    new-owner : getD os n 0 ≡ p
+    new-owner = getD-set-same owners n p 0 wide-owners
+
+    old-user : (j : ℕ) → j < n → stringAt (old ++ f) (getD us j 0) ≡ stringAt old (getD users j 0)
+    old-user = old-string old f users n (length old + K .at) (H .users-laid) wide-users
+
+    new-user-at : stringAt (old ++ f) (getD us n 0) ≡ K .user
+    new-user-at = ap (stringAt (old ++ f)) (new-start old f users n (length old + K .at) (H .users-laid) wide-users) ∙ new-user .0
+
+    grown-members : membersIn (b .groups) os (old ++ f) us (n + 1) ≡ b .members ++ (record { group = K .group; user = K .user } ∷ [])
+    unfolding membersIn
+    grown-members =
+        rows-grow (memberIn (b .groups) owners old users) (memberIn (b .groups) os (old ++ f) us) n (record { group = K .group; user = K .user })
+        (λ j k i. record { group = ap (λ (o : ℕ). getD (b .groups) o []) (old-owner j k) i; user = old-user j k i })
+        (λ i. record { group = (ap (λ (o : ℕ). getD (b .groups) o []) new-owner ∙ ap (λ (l : List Str). getD l p []) (H .groups-are) ∙ place-at (K .group) (stringsIn old groups (c .groups) 0) (K .listed)) i; user = new-user-at i })
+        ∙ ap (λ (l : List Member). l ++ (record { group = K .group; user = K .user } ∷ [])) (sym (H .members-are))
+
+    owned-grow : Owned os (n + 1) (c .groups)
+    owned-grow j k =
+        by (eqb j n)
+        (λ t. let z : j ≡ n = eqb-true _ _ t in rw (z, new-owner) (omega (arith, K .listed, strings-length old groups (c .groups))))
+        (λ t. let z : j ≡ n → ⊥ = eqb-false _ _ t in let y : j < n = omega arith in rw (old-owner j y) (H .owned j y))
+
+    hash-fits : hashFrom p (K .user) < length ms
+    hash-fits =
+        let a : p < 8192 = omega (arith, K .listed, strings-length old groups (c .groups), H .few .0) in
+        omega (arith, hash-small (K .user) p a, G .seen-long .0)
+
+    holds-member : Holds (b .groups) (b .members ++ (record { group = K .group; user = K .user } ∷ [])) rules (old ++ f) (record { kind = 3; groups = c .groups; members = n + 1; rules = c .rules }) groups us os ids starts holders
+    holds-member =
+        let S = holds-stay f H 3 in
+        record {
+          groups-are = S .groups-are;
+          members-are = sym grown-members;
+          ids-are = S .ids-are;
+          rules-are = S .rules-are;
+          rules-count = S .rules-count;
+          holders-are = S .holders-are;
+          groups-laid = S .groups-laid;
+          users-laid = laid-grow old f users n (length old + K .at) (H .users-laid) wide-users (new-user .1);
+          ids-laid = S .ids-laid;
+          owned = owned-grow;
+          distinct = H .distinct;
+          few = (H .few .0, omega (arith, K .room), H .few .2);
+          long = (H .long .0, length-set users n (length old + K .at) ∙ H .long .1, length-set owners n p ∙ H .long .2, H .long .3, H .long .4, H .long .5);
+        }
+
+    pub grow-member : Held (with b (member (record { group = K .group; user = K .user }))) (rules ++ maybe (asRule (member (record { group = K .group; user = K .user }))) []) (old ++ f) (counted c 3) groups users′ owners′ ids starts holders ms′ is
+    unfolding with counted if_then_else_ maybe asRule
+    grow-member =
+        rw (append-nil rules, K .users-set, K .owners-set, K .seen-set)
+        (record {
+          kind = refl;
+          told-ids = G .told-ids;
+          holds = holds-member;
+          members-marked = marked-grow ms (memberPlace owners old users) (memberPlace os (old ++ f) us) n (hashFrom p (K .user)) hash-fits (G .members-marked)
+              (λ j k. ap₂ hashFrom (old-owner j k) (old-user j k)) (ap₂ hashFrom new-owner new-user-at);
+          ids-marked = ids-stay-marked;
+          seen-long = (length-set ms (hashFrom p (K .user)) 1 ∙ G .seen-long .0, G .seen-long .1);
+        })
+
+  module _ {ids′ starts′ holders′ is′ : List ℕ} (K : RuleKept (stringsIn old groups (c .groups) 0) old f ids starts holders is (c .rules) ids′ starts′ holders′ is′) where
+    abbrev m : ℕ
+    m = c .rules
+
+    abbrev x : Rule
+    x = K .kept
+
+    abbrev ds : List ℕ
+    ds = set ids m (length old + K .at)
+
+    wide-ids : m < length ids
+    wide-ids = omega (arith, H .long .3, K .room)
+
+    wide-starts : m < length starts
+    wide-starts = omega (arith, H .long .4, K .room)
+
+    wide-holders : m < length holders
+    wide-holders = omega (arith, H .long .5, K .room)
+
+    new-id : (stringAt (old ++ f) (length old + K .at) ≡ x .id) × (past (old ++ f) (length old + K .at) ≤ length (old ++ f))
+    new-id = new-string old f (K .at) (x .id) (K .last) (K .stands)
+
+    new-id-at : stringAt (old ++ f) (getD ds m 0) ≡ x .id
+    new-id-at = ap (stringAt (old ++ f)) (new-start old f ids m (length old + K .at) (H .ids-laid) wide-ids) ∙ new-id .0
+
+    hash-fits-id : hashFrom 0 (x .id) < length is
+    hash-fits-id = omega (arith, hash-small (x .id) 0 (omega arith), G .seen-long .1)
+
+    rules-long : length (rules ++ (x ∷ [])) ≡ m + 1
+    rules-long = length-append rules (x ∷ []) ∙ ap (λ (k : ℕ). k + 1) (H .rules-count)
+
+    holds-rule : Holds (b .groups) (b .members) (rules ++ (x ∷ [])) (old ++ f) (record { kind = 4; groups = c .groups; members = c .members; rules = m + 1 }) groups users owners ds (set starts m (length old + 1)) (set holders m (K .holder))
+    holds-rule =
+        let S = holds-stay f H 4 in
+        record {
+          groups-are = S .groups-are;
+          members-are = S .members-are;
+          ids-are = ids-snoc rules x ∙ ap (λ (l : List Str). l ++ (x .id ∷ [])) (H .ids-are) ∙ sym (strings-grow old f ids m (length old + K .at) (H .ids-laid) wide-ids (x .id) (new-id .0));
+          rules-are = rules-grow old f starts rules 0 m (length old + 1) x (length old + length f) (omega (arith, H .rules-count)) wide-starts (H .rules-are) (reads-after ruleBody inside-rule old f 1 x (length f) (K .body));
+          rules-count = rules-long;
+          holders-are = holders-grow (b .groups) holders rules 0 m (K .holder) x (omega (arith, H .rules-count)) wide-holders (H .holders-are) (λ t. rw (H .groups-are) (K .held t));
+          groups-laid = S .groups-laid;
+          users-laid = S .users-laid;
+          ids-laid = laid-grow old f ids m (length old + K .at) (H .ids-laid) wide-ids (new-id .1);
+          owned = H .owned;
+          distinct = H .distinct;
+          few = (H .few .0, H .few .1, omega (arith, K .room));
+          long = (H .long .0, H .long .1, H .long .2, length-set ids m (length old + K .at) ∙ H .long .3, length-set starts m (length old + 1) ∙ H .long .4, length-set holders m (K .holder) ∙ H .long .5);
+        }
+
+    pub grow-rule : Held (with b (rule x)) (rules ++ maybe (asRule (rule x)) []) (old ++ f) (counted c 4) groups users owners ids′ starts′ holders′ ms is′
+    unfolding with counted if_then_else_ maybe asRule
+    grow-rule =
+        same-arrays (K .ids-set) (K .starts-set) (K .holders-set) (K .seen-set)
+        (record {
+          kind = refl;
+          told-ids = ap (λ (l : List Str). l ++ (x .id ∷ [])) (G .told-ids) ∙ sym (ids-snoc rules x);
+          holds = holds-rule;
+          members-marked = members-stay-marked;
+          ids-marked = marked-grow is (idPlace old ids) (idPlace (old ++ f) ds) m (hashFrom 0 (x .id)) hash-fits-id (G .ids-marked)
+              (λ j k. ap (hashFrom 0) (old-string old f ids m (length old + K .at) (H .ids-laid) wide-ids j k)) (ap (hashFrom 0) new-id-at);
+          seen-long = (G .seen-long .0, length-set is (hashFrom 0 (x .id)) 1 ∙ G .seen-long .1);
+        })

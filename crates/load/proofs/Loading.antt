@@ -1,0 +1,291 @@
+-- A turn of `load`, and each way out of it.
+use mathlib.Core.Path.{_≡_, refl, sym, ap, ap₂, _∙_, subst}
+use mathlib.Core.Bool.{Bool, true, false}
+use mathlib.Core.List.{List, [], _∷_, _++_, append-nil}
+use mathlib.Core.Option.{Option, none, some}
+use Prim.Native.Nat.{ℕ, zero, suc, _+_, _-_, _*_, _/_, _≤_, _<_}
+use native.Mathlib.Omega.{arith}
+use borrow.Author.Tests.{eq-eqb, ne-eqb, le-ltb, lt-ltb}
+use lib.Dec.{eqb, ltb}
+use lib.ListN.{length, take, drop, getD, drop-of-length-le}
+use lib.Seq.{length-take-le, take-at, drop-at, take-add, getD-take, getD-drop, append-snoc}
+use Rattle.text.specs.Test.{if_then_else_, twice}
+use Rattle.text.specs.String.{Str}
+use Rattle.text.specs.Frame.{part}
+use Rattle.text.specs.Fill.{put}
+use Rattle.text.proofs.Filling.{put-length}
+use Rattle.line.specs.Lines.{lines, frame, digits, firstLine}
+use Rattle.line.specs.declared.Line as lined
+use Rattle.line.specs.declared.Line.the-variants as hexed
+use Rattle.line.proofs.FirstLine.{Read, line-read, Unhex, line-unhex}
+use Rattle.line.proofs.Digits.{digits-half}
+use Rattle.table.specs.Table.{Member, Rule}
+use Rattle.table.specs.Frame.{Entry, version, group, member, rule, entryOf}
+use Rattle.table.specs.Refusal.{Line, notHex, reads, framed, decoded, lineOf, Earlier, first, with, after, refusal}
+use Rattle.table.specs.Text.{unless, judge, check, maybe, collect, read, entries, asGroup, asMember, asRule, table, tableOf}
+use Rattle.table.specs.declared.Checked.{Checked}
+use Rattle.table.specs.declared.Checked.the-variants as checked
+use Rattle.load.specs.declared.row.Counts.{Counts}
+use Rattle.load.specs.declared.Loaded.{Loaded}
+use Rattle.load.specs.declared.Loaded.the-variants.{Table, Refused}
+use Rattle.rows.specs.Strings.{stringsIn}
+use Rattle.rows.proofs.Grow.{rowsOf}
+use Rattle.keep.specs.Held.{membersIn}
+use Rattle.load.specs.Held.{idsOf, RulesAt, HoldersAt, Holds, Held, counted}
+use Rattle.load.specs.Loaded.{Grown, Kept, Outcome}
+
+-- ---- stored bytes
+
+module _ (d : List ℕ) (at : ℕ) (s : List ℕ) (h : at ≤ length d) where
+  put-front : take at (put d at s) ≡ take at d
+  unfolding put
+  put-front = take-at (take at d) _ at (length-take-le at d h)
+
+  put-part : (e : ℕ) → e ≡ at + length s → part (put d at s) at e ≡ s
+  unfolding put
+  put-part e i =
+      let k : e - at ≡ length s = omega arith in
+      rw (drop-at (take at d) (s ++ drop (at + length s) d) at (length-take-le at d h), k) (take-at s _ (length s) refl)
+
+part-first : (l : List ℕ) (u e : ℕ) → u < e → getD (part l u e) 0 0 ≡ getD l u 0
+part-first l u e h = getD-take (e - u) (drop u l) 0 0 (omega arith) ∙ getD-drop u l 0 0 ∙ ap (λ (i : ℕ). getD l i 0) (omega arith)
+
+-- ---- a line of the text
+
+judge-line : (n : ℕ) (b : Earlier) (l : Str) (ls : List Str) (x : Line) → lineOf l ≡ x → judge n b (l ∷ ls) ≡ unless (refusal b x) n (judge (n + 1) (after b x) ls)
+unfolding judge
+judge-line n b l ls x e = rw e
+
+unless-not : (n line : ℕ) (next : Checked) → (n ≡ 255 → ⊥) → unless n line next ≡ checked.Refused n line
+unfolding unless if_then_else_
+unless-not n line next h = rw (ne-eqb n 255 h)
+
+unless-clear : (n line : ℕ) (next : Checked) → n ≡ 255 → unless n line next ≡ next
+unfolding unless if_then_else_
+unless-clear n line next h = rw (eq-eqb n 255 h)
+
+line-hex : (l f : Str) → frame l ≡ some f → lineOf l ≡ framed (entryOf f)
+unfolding lineOf decoded
+line-hex l f e = rw e
+
+line-bad : (l : Str) → frame l ≡ none → lineOf l ≡ notHex
+unfolding lineOf decoded
+line-bad l e = rw e
+
+framed-some : (f : Str) (e : Entry) → entryOf f ≡ some e → framed (entryOf f) ≡ reads e
+unfolding framed
+framed-some f e i = rw i
+
+-- ---- what an entry adds
+
+with-groups : (b : Earlier) (e : Entry) (rest : List Str) → b .groups ++ maybe (asGroup e) rest ≡ with b e .groups ++ rest
+unfolding maybe asGroup with
+with-groups b (version v t) rest = refl
+with-groups b (group n) rest = sym (append-snoc (b .groups) n rest)
+with-groups b (member m) rest = refl
+with-groups b (rule r) rest = refl
+
+with-members : (b : Earlier) (e : Entry) (rest : List Member) → b .members ++ maybe (asMember e) rest ≡ with b e .members ++ rest
+unfolding maybe asMember with
+with-members b (version v t) rest = refl
+with-members b (group n) rest = refl
+with-members b (member m) rest = sym (append-snoc (b .members) m rest)
+with-members b (rule r) rest = refl
+
+more-rules : (rules : List Rule) (e : Entry) (rest : List Rule) → rules ++ maybe (asRule e) rest ≡ (rules ++ maybe (asRule e) []) ++ rest
+unfolding maybe asRule
+more-rules rules (version v t) rest = ap (λ (l : List Rule). l ++ rest) (sym (append-nil rules))
+more-rules rules (group n) rest = ap (λ (l : List Rule). l ++ rest) (sym (append-nil rules))
+more-rules rules (member m) rest = ap (λ (l : List Rule). l ++ rest) (sym (append-nil rules))
+more-rules rules (rule r) rest = sym (append-snoc rules r rest)
+
+entries-cons : (l : Str) (ls : List Str) (e : Entry) → lineOf l ≡ reads e → entries (l ∷ ls) ≡ e ∷ entries ls
+unfolding entries collect read maybe
+entries-cons l ls e i = rw i
+
+collect-cons : {A : Type 0} (f : Entry → Option A) (e : Entry) (es : List Entry) → collect f (e ∷ es) ≡ maybe (f e) (collect f es)
+unfolding collect
+collect-cons f e es = refl
+
+-- ---- the invariant
+
+pub record Going (text buf : List ℕ) (c : Counts) (groups users owners ids starts holders ms is : List ℕ) (from used number : ℕ) : Type 0 where
+  pub b : Earlier
+  pub rules : List Rule
+  pub judged : check text ≡ judge number b (lines (drop from text))
+  pub held : Held b rules (take used buf) c groups users owners ids starts holders ms is
+  pub groups-left : tableOf text .groups ≡ b .groups ++ collect asGroup (entries (lines (drop from text)))
+  pub members-left : tableOf text .members ≡ b .members ++ collect asMember (entries (lines (drop from text)))
+  pub rules-left : tableOf text .rules ≡ rules ++ collect asRule (entries (lines (drop from text)))
+  pub paced : used + used + number ≡ from + 1
+  pub within : (from ≤ length text) × (length text ≤ 32768) × (16384 ≤ length buf)
+
+start-table : (text : List ℕ) → (tableOf text .groups ≡ [] ++ collect asGroup (entries (lines (drop 0 text)))) × (tableOf text .members ≡ [] ++ collect asMember (entries (lines (drop 0 text)))) × (tableOf text .rules ≡ [] ++ collect asRule (entries (lines (drop 0 text))))
+unfolding tableOf table
+start-table text = (refl, refl, refl)
+
+module _ (text : List ℕ) where
+  pub over : 32768 < length text → check text ≡ checked.Refused 1 0
+  unfolding check if_then_else_
+  over h = rw (lt-ltb 32768 (length text) h)
+
+  module _ (fits : length text ≤ 32768) where
+    pub none-there : length text ≡ 0 → check text ≡ checked.Refused 4 1
+    unfolding check if_then_else_
+    none-there h = rw (le-ltb 32768 (length text) fits, eq-eqb (length text) 0 h)
+
+    check-judges : (length text ≡ 0 → ⊥) → check text ≡ judge 1 first (lines text)
+    unfolding check if_then_else_
+    check-judges h = rw (le-ltb 32768 (length text) fits, ne-eqb (length text) 0 h)
+
+    -- nothing is held yet
+    pub load-start : (length text ≡ 0 → ⊥) → (buf groups users owners ids starts holders ms is : List ℕ) → 16384 ≤ length buf
+        → (length groups ≡ 64) × (length users ≡ 512) × (length owners ≡ 512) × (length ids ≡ 256) × (length starts ≡ 256) × (length holders ≡ 256)
+        → (length ms ≡ 8192) × (length is ≡ 8192)
+        → Going text buf (record { kind = 0; groups = 0; members = 0; rules = 0 }) groups users owners ids starts holders ms is 0 0 1
+    unfolding first stringsIn membersIn rowsOf idsOf RulesAt HoldersAt twice
+    load-start h buf groups users owners ids starts holders ms is room long seen =
+        let t = start-table text in
+        record {
+          b = first;
+          rules = [];
+          judged = check-judges h;
+          held = record {
+            kind = refl;
+            told-ids = refl;
+            holds = record {
+              groups-are = refl;
+              members-are = refl;
+              ids-are = refl;
+              rules-are = tt;
+              rules-count = refl;
+              holders-are = tt;
+              groups-laid = λ i k. absurd (omega arith);
+              users-laid = λ i k. absurd (omega arith);
+              ids-laid = λ i k. absurd (omega arith);
+              owned = λ i k. absurd (omega arith);
+              distinct = refl;
+              few = (omega arith, omega arith, omega arith);
+              long = long;
+            };
+            members-marked = λ i k. absurd (omega arith);
+            ids-marked = λ i k. absurd (omega arith);
+            seen-long = seen;
+          };
+          groups-left = t .0;
+          members-left = t .1;
+          rules-left = t .2;
+          paced = refl;
+          within = (omega arith, fits, room);
+        }
+
+-- ---- the end
+
+module _ {text buf : List ℕ} {c : Counts} {groups users owners ids starts holders ms is : List ℕ} {from used number : ℕ}
+    (G : Going text buf c groups users owners ids starts holders ms is from used number) where
+  pub line-room : (from ≤ length text) × (used + (length text - from) / 2 ≤ length buf)
+  line-room = (G .within .0, omega (arith, G .paced, G .within))
+
+  pub number-room : number ≤ 32769
+  number-room = omega (arith, G .paced, G .within)
+
+  pub load-end : length text ≤ from → Outcome text (Table used c) buf groups users owners ids starts holders
+  unfolding Outcome judge lines entries collect
+  load-end h =
+      let n : drop from text ≡ [] = drop-of-length-le text h in
+      let g : tableOf text .groups ≡ G .b .groups = G .groups-left ∙ rw n (append-nil (G .b .groups)) in
+      let m : tableOf text .members ≡ G .b .members = G .members-left ∙ rw n (append-nil (G .b .members)) in
+      let r : tableOf text .rules ≡ G .rules = G .rules-left ∙ rw n (append-nil (G .rules)) in
+      record {
+        accepts = G .judged ∙ rw n;
+        within = omega (arith, G .paced, G .within);
+        holds = rw (g, m, r) (G .held .holds);
+      }
+
+  -- ---- a line that is no hex line
+
+  pub load-bad : from < length text → (r : lined.Line) → r ≡ firstLine from (lines (drop from text)) → r ≡ hexed.Bad → check text ≡ checked.Refused 2 number
+  unfolding refusal
+  load-bad h r i e =
+      let u = line-unhex text from r i h e in
+      G .judged ∙ ap (judge number (G .b)) (u .first) ∙ judge-line number (G .b) (u .line) (u .others) notHex (line-bad (u .line) (u .is)) ∙ unless-not 2 number _ (λ q. omega arith)
+
+  -- ---- a hex line
+
+  module _ (r : lined.Line) (i : r ≡ firstLine from (lines (drop from text))) (len next : ℕ) (e : r ≡ hexed.Frame len next) (buf′ : List ℕ) (o : buf′ ≡ put buf used (digits (drop from text))) where
+    R : Read text from len next
+    R = line-read text from r i (G .within .0) len next e
+
+    abbrev f : List ℕ
+    f = digits (drop from text)
+
+    here : used ≤ length buf
+    here = omega (arith, G .paced, G .within)
+
+    pub row-room : (used < used + len) × (used + len ≤ length buf) × (used + len ≤ 16384)
+    row-room = (omega (arith, R .some′), omega (arith, G .paced, G .within, R .goes, R .ends), omega (arith, G .paced, G .within, R .goes, R .ends))
+
+    pub same-long : length buf′ ≡ length buf
+    same-long = ap length o ∙ put-length buf used f (omega (arith, row-room .1, R .size))
+
+    pub row-fits : (used < used + len) × (used + len ≤ length buf′) × (used + len ≤ 16384)
+    row-fits = (row-room .0, omega (arith, row-room .1, same-long), row-room .2)
+
+    pub goes-on : (from < next) × (next ≤ length text)
+    goes-on = (omega (arith, R .goes), R .ends)
+
+    old-same : take used buf′ ≡ take used buf
+    old-same = ap (take used) o ∙ put-front buf used f here
+
+    frame-same : part buf′ used (used + len) ≡ f
+    frame-same = ap (λ (l : List ℕ). part l used (used + len)) o ∙ put-part buf used f here (used + len) (ap (λ (n : ℕ). used + n) (R .size))
+
+    pub held-again : Held (G .b) (G .rules) (take used buf′) c groups users owners ids starts holders ms is
+    held-again = rw old-same (G .held)
+
+    line-is : lineOf (R .line) ≡ framed (entryOf (part buf′ used (used + len)))
+    line-is = line-hex (R .line) f (R .is) ∙ ap (λ (l : List ℕ). framed (entryOf l)) (sym frame-same)
+
+    judged-line : check text ≡ unless (refusal (G .b) (framed (entryOf (part buf′ used (used + len))))) number (judge (number + 1) (after (G .b) (framed (entryOf (part buf′ used (used + len))))) (lines (drop next text)))
+    judged-line = G .judged ∙ ap (judge number (G .b)) (R .first) ∙ judge-line number (G .b) (R .line) (lines (drop next text)) _ line-is
+
+    module _ {groups′ users′ owners′ ids′ starts′ holders′ ms′ is′ : List ℕ} (m : ℕ)
+        (ens : (b : Earlier) (rules : List Rule) → Held b rules (take used buf′) c groups users owners ids starts holders ms is
+        → (m ≡ refusal b (framed (entryOf (part buf′ used (used + len))))) × (m ≡ 255 → Grown b rules (take used buf′) (part buf′ used (used + len)) c groups′ users′ owners′ ids′ starts′ holders′ ms′ is′)) where
+      pub load-refused : (m ≡ 255 → ⊥) → check text ≡ checked.Refused m number
+      load-refused n =
+          let q = ens (G .b) (G .rules) held-again .0 in
+          judged-line ∙ ap (λ (k : ℕ). unless k number (judge (number + 1) (after (G .b) (framed (entryOf (part buf′ used (used + len))))) (lines (drop next text)))) (sym q) ∙ unless-not m number _ n
+
+      module _ (fine : m ≡ 255) where
+        W : Grown (G .b) (G .rules) (take used buf′) (part buf′ used (used + len)) c groups′ users′ owners′ ids′ starts′ holders′ ms′ is′
+        W = ens (G .b) (G .rules) held-again .1 fine
+
+        reads-this : framed (entryOf (part buf′ used (used + len))) ≡ reads (W .this)
+        reads-this = framed-some (part buf′ used (used + len)) (W .this) (W .reads)
+
+        entries-here : entries (lines (drop from text)) ≡ W .this ∷ entries (lines (drop next text))
+        entries-here = ap entries (R .first) ∙ entries-cons (R .line) (lines (drop next text)) (W .this) (line-is ∙ reads-this)
+
+        pub load-again : (c′ : Counts) → c′ ≡ counted c (getD buf′ used 0) → Going text buf′ c′ groups′ users′ owners′ ids′ starts′ holders′ ms′ is′ next (used + len) (number + 1)
+        unfolding after
+        load-again c′ p =
+            let q = ens (G .b) (G .rules) held-again .0 in
+            let l : len ≡ used + len - used = omega arith in
+            let t : take (used + len) buf′ ≡ take used buf′ ++ part buf′ used (used + len) = take-add used len buf′ ∙ ap (λ (k : ℕ). take used buf′ ++ take k (drop used buf′)) l in
+            let k : c′ ≡ counted c (getD (part buf′ used (used + len)) 0 0) = p ∙ ap (counted c) (sym (part-first buf′ used (used + len) (row-room .0))) in
+            record {
+              b = with (G .b) (W .this);
+              rules = G .rules ++ maybe (asRule (W .this)) [];
+              judged =
+                  judged-line
+                  ∙ ap (λ (k : ℕ). unless k number (judge (number + 1) (after (G .b) (framed (entryOf (part buf′ used (used + len))))) (lines (drop next text)))) (sym q)
+                  ∙ unless-clear m number _ fine
+                  ∙ ap (λ (x : Line). judge (number + 1) (after (G .b) x) (lines (drop next text))) reads-this;
+              held = rw (t, k) (W .held);
+              groups-left = G .groups-left ∙ ap (λ (x : List Entry). G .b .groups ++ collect asGroup x) entries-here ∙ ap (λ (x : List Str). G .b .groups ++ x) (collect-cons asGroup (W .this) (entries (lines (drop next text)))) ∙ with-groups (G .b) (W .this) _;
+              members-left = G .members-left ∙ ap (λ (x : List Entry). G .b .members ++ collect asMember x) entries-here ∙ ap (λ (x : List Member). G .b .members ++ x) (collect-cons asMember (W .this) (entries (lines (drop next text)))) ∙ with-members (G .b) (W .this) _;
+              rules-left = G .rules-left ∙ ap (λ (x : List Entry). G .rules ++ collect asRule x) entries-here ∙ ap (λ (x : List Rule). G .rules ++ x) (collect-cons asRule (W .this) (entries (lines (drop next text)))) ∙ more-rules (G .rules) (W .this) _;
+              paced = omega (arith, G .paced, R .goes);
+              within = (R .ends, G .within .1, omega (arith, same-long, G .within .2));
+            }

@@ -1,0 +1,105 @@
+-- `take_row` equals its definition: each kind by its own function.
+use borrow.Author.Needs.{needs}
+use native.Mathlib.Omega.{arith}
+use mathlib.Core.Path.{_≡_, refl, sym, ap, _∙_}
+use mathlib.Core.Bool.{false}
+use Rattle.text.specs.Test.{twice}
+use Rattle.text.specs.String.{same}
+use Rattle.load.proofs.Rows.{front-long, old-room, both-room, part-some, all-distinct, row-version, row-group, row-member, row-rule, row-unknown}
+use Rattle.load.proofs.row.take_row.Statement.{statement}
+use Rattle.load.proofs.row.take_row.Tie as tie
+
+slice-aggregate-old : tie.Need-slice-aggregate-old
+slice-aggregate-old c =
+    let at-start = c .before .before in
+    sym (front-long _ _ _ (at-start .pre .0))
+
+sub-f : tie.Need-sub-f
+sub-f c = search needs
+
+part-f-start : tie.Need-part-f-start
+part-f-start c = search needs
+
+part-f-end : tie.Need-part-f-end
+part-f-end c = search needs
+
+shared-slice-read-k : tie.Need-shared-slice-read-k
+shared-slice-read-k c =
+    let at-start = c .before .before .before .before in
+    part-some _ _ _ (at-start .pre .0)
+
+version-number-requires : tie.Need-version-number-requires
+version-number-requires c κs =
+    let at-if1 = c .if1 in
+    let at-start = c .before .before .before .before .before in
+    (part-some _ _ _ (at-start .pre .0), at-if1 .taken)
+
+returns : tie.Need-returns
+returns c =
+    let at-version-number = c .version-number in
+    let at-if1 = c .before .if1 in
+    λ b rules H. row-version H _ _ (at-if1 .taken) (at-version-number .ensures .0) (at-version-number .ensures .1)
+
+take-group-requires : tie.Need-take-group-requires
+take-group-requires c κs =
+    let at-if2 = c .before .if2 in
+    let at-start = c .before .before .before .before .before .before .before in
+    ((part-some _ _ _ (at-start .pre .0), at-if2 .taken), (old-room _ _ _ (at-start .pre .0), (at-start .pre .1 .2) .holds .groups-laid, (at-start .pre .1 .2) .holds .few .0))
+
+returns-2 : tie.Need-returns-2
+returns-2 c =
+    let at-take-group = c .take-group in
+    let at-if2 = c .before .before .if2 in
+    λ b rules H. row-group H _ _ (at-if2 .taken) (at-take-group .ensures .0) (at-take-group .ensures .1)
+
+take-member-requires : tie.Need-take-member-requires
+take-member-requires c κs =
+    let at-if3 = c .before .before .before .before .if3 in
+    let at-start = c .before .before .before .before .before .before .before .before .before .before .before in
+    ((part-some _ _ _ (at-start .pre .0), at-if3 .taken), ((both-room _ _ _ (at-start .pre .0), (at-start .pre .1 .2) .holds .groups-laid, (at-start .pre .1 .2) .holds .few .0, (at-start .pre .1 .2) .holds .users-laid, (at-start .pre .1 .2) .holds .few .1), (all-distinct (at-start .pre .1 .2), (at-start .pre .1 .2) .holds .owned, (at-start .pre .1 .2) .members-marked)))
+
+returns-3 : tie.Need-returns-3
+returns-3 c =
+    let at-take-member = c .take-member in
+    let at-if3 = c .before .before .before .before .before .if3 in
+    λ b rules H. row-member H _ _ (at-if3 .taken) (at-take-member .ensures .0) (at-take-member .ensures .1)
+
+take-rule-requires : tie.Need-take-rule-requires
+take-rule-requires c κs =
+    let at-if4 = c .before .before .before .before .before .if4 in
+    let at-start = c .before .before .before .before .before .before .before .before .before .before .before .before .before in
+    ((part-some _ _ _ (at-start .pre .0), at-if4 .taken), (both-room _ _ _ (at-start .pre .0), (at-start .pre .1 .2) .holds .groups-laid, (at-start .pre .1 .2) .holds .few .0, (at-start .pre .1 .2) .holds .ids-laid, (at-start .pre .1 .2) .holds .few .2, (at-start .pre .1 .2) .ids-marked))
+
+returns-4 : tie.Need-returns-4
+returns-4 c =
+    let at-take-rule = c .take-rule in
+    let at-if4 = c .before .before .before .before .before .before .if4 in
+    λ b rules H. row-rule H _ _ (at-if4 .taken) (at-take-rule .ensures .0) (at-take-rule .ensures .1)
+
+returns-5 : tie.Need-returns-5
+returns-5 c =
+    let at-if4 = c .if4 in
+    let at-if3 = c .before .if3 in
+    let at-if2 = c .before .before .if2 in
+    let at-if1 = c .before .before .before .if1 in
+    let at-start = c .before .before .before .before .before .before .before .before in
+    λ b rules H. (row-unknown b _ _ (part-some _ _ _ (at-start .pre .0)) refl (at-if1 .left) (at-if2 .left) (at-if3 .left) (at-if4 .left), λ x. absurd (omega arith))
+
+pub take-row-spec : {M : Type 1} → statement M
+take-row-spec =
+    tie.close
+    (tie.spec
+    slice-aggregate-old
+    sub-f
+    part-f-start
+    part-f-end
+    shared-slice-read-k
+    version-number-requires
+    returns
+    take-group-requires
+    returns-2
+    take-member-requires
+    returns-3
+    take-rule-requires
+    returns-4
+    returns-5)

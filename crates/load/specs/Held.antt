@@ -1,0 +1,65 @@
+-- What the arrays of a loaded table hold.
+use Prim.Native.Nat.{ℕ, suc, _+_, _≤_, _<_}
+use mathlib.Core.Path.{_≡_}
+use mathlib.Core.Bool.{Bool, true, false}
+use mathlib.Core.List.{List, [], _∷_}
+use lib.Dec.{eqb}
+use lib.ListN.{length, getD}
+use Rattle.text.specs.Test.{if_then_else_, twice}
+use Rattle.text.specs.String.{Str, same}
+use Rattle.text.specs.Frame.{got}
+use Rattle.rows.specs.Strings.{stringsIn, Laid}
+use Rattle.table.specs.Table.{Member, Rule}
+use Rattle.table.specs.Frame.{Entry, ruleBody}
+use Rattle.table.specs.Refusal.{Earlier}
+use Rattle.keep.specs.Held.{membersIn, Owned, Marked, memberPlace, idPlace}
+use Rattle.load.specs.declared.row.Counts.{Counts}
+
+unfoldable pub idsOf : List Rule → List Str
+idsOf [] = []
+idsOf (r ∷ rs) = r .id ∷ idsOf rs
+
+-- each rule reads where its number says
+unfoldable pub RulesAt : List ℕ → List ℕ → List Rule → ℕ → Type 0
+RulesAt f starts [] i = Unit {0}
+RulesAt f starts (r ∷ rs) i = ((e : ℕ) × (ruleBody f (getD starts i 0) ≡ got r e)) × RulesAt f starts rs (suc i)
+
+-- each rule of a group has that group's number
+unfoldable pub HoldersAt : List Str → List ℕ → List Rule → ℕ → Type 0
+HoldersAt groups holders [] i = Unit {0}
+HoldersAt groups holders (r ∷ rs) i =
+    (r .byGroup ≡ true → (getD holders i 0 < length groups) × (getD groups (getD holders i 0) [] ≡ r .subject)) × HoldersAt groups holders rs (suc i)
+
+-- Groups, members and rules in arrays: f are the decoded bytes; of groups, users and ids the positions of their strings, of rules those of their
+-- frames after the kind byte; of members and rules the numbers of their groups.
+pub record Holds (named : List Str) (members : List Member) (rules : List Rule) (f : List ℕ) (c : Counts) (groups users owners ids starts holders : List ℕ) : Type 0 where
+  pub groups-are : named ≡ stringsIn f groups (c .groups) 0
+  pub members-are : members ≡ membersIn named owners f users (c .members)
+  pub ids-are : idsOf rules ≡ stringsIn f ids (c .rules) 0
+  pub rules-are : RulesAt f starts rules 0
+  pub rules-count : length rules ≡ c .rules
+  pub holders-are : HoldersAt named holders rules 0
+  pub groups-laid : Laid f groups (c .groups)
+  pub users-laid : Laid f users (c .members)
+  pub ids-laid : Laid f ids (c .rules)
+  pub owned : Owned owners (c .members) (c .groups)
+  pub distinct : twice same named ≡ false
+  pub few : (c .groups ≤ 64) × (c .members ≤ 512) × (c .rules ≤ 256)
+  pub long : (length groups ≡ 64) × (length users ≡ 512) × (length owners ≡ 512) × (length ids ≡ 256) × (length starts ≡ 256) × (length holders ≡ 256)
+
+-- while rows come: what they told is held, and the filters are set for it
+pub record Held (b : Earlier) (rules : List Rule) (f : List ℕ) (c : Counts) (groups users owners ids starts holders members-seen ids-seen : List ℕ) : Type 0 where
+  pub kind : b .kind ≡ c .kind
+  pub told-ids : b .ids ≡ idsOf rules
+  pub holds : Holds (b .groups) (b .members) rules f c groups users owners ids starts holders
+  pub members-marked : Marked members-seen (memberPlace owners f users) (c .members)
+  pub ids-marked : Marked ids-seen (idPlace f ids) (c .rules)
+  pub seen-long : (length members-seen ≡ 8192) × (length ids-seen ≡ 8192)
+
+-- the counts after one row more
+unfoldable pub counted : Counts → ℕ → Counts
+counted c kind =
+    if eqb kind 2 then record { kind = 2; groups = c .groups + 1; members = c .members; rules = c .rules }
+    else if eqb kind 3 then record { kind = 3; groups = c .groups; members = c .members + 1; rules = c .rules }
+    else if eqb kind 4 then record { kind = 4; groups = c .groups; members = c .members; rules = c .rules + 1 }
+    else record { kind = kind; groups = c .groups; members = c .members; rules = c .rules }
