@@ -8,9 +8,11 @@ use Rattle.text.specs.String.{Str, same}
 use Rattle.text.proofs.Tests.{clash, by, bool-ext, on-cons, any→, →any, same→≡, ≡→same}
 use Rattle.path.specs.Path.{Path}
 use Rattle.table.specs.Table.{Member, Rule, Table}
+use Rattle.table.specs.Refusal.{sameMember}
+use Rattle.table.specs.Group.{lists}
 use Rattle.verdict.specs.Join.{agree, join}
 use Rattle.verdict.specs.Order.{better, earlier, Numbered, choose}
-use Rattle.verdict.specs.Verdict.{Request, at, holding, concerns, applies, matches, decider, action, permits, fits, opposes, Tree, ALL, NONE, MIXED, word, answer, tree}
+use Rattle.verdict.specs.Verdict.{Request, at, concerns, applies, matches, decider, action, permits, fits, opposes, Tree, ALL, NONE, MIXED, word, answer, tree}
 use Rattle.verdict.specs.Laws.{sameId, Orderly, Reordered, idOf, byId, mixed, SameAnswers}
 use Rattle.verdict.proofs.Twice.{first-alone, rest-alone, →alone}
 use Rattle.verdict.proofs.Order.{Order, better-order, earlier-order}
@@ -63,15 +65,15 @@ chosen-alike o {rs} d p f g e (some m) (some n) a b =
 -- ---- the answers
 
 module _ (t u : Table) (ok : Orderly t) (p : Reordered t u) where
-  holding-same : (g n : Str) → holding t g n ≡ holding u g n
-  unfolding holding
-  holding-same g n =
-      let f : Member → Bool = λ m. same (m .group) g and same (m .user) n in
+  lists-same : (g n : Str) → lists (t .members) n g ≡ lists (u .members) n g
+  unfolding lists
+  lists-same g n =
+      let f : Member → Bool = sameMember (record { group = g; user = n }) in
       bool-ext (any f (t .members)) (any f (u .members)) (perm-any f (p .members)) (perm-any f (Permᴰ·symm (p .members)))
 
   concerns-same : (r : Rule) (n : Str) → concerns t r n ≡ concerns u r n
   unfolding concerns
-  concerns-same r n = rw (holding-same (r .subject) n)
+  concerns-same r n = rw (lists-same (r .subject) n)
 
   applies-same : (q : Request) (r : Rule) → applies t q r ≡ applies u q r
   unfolding applies

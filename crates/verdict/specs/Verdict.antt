@@ -4,10 +4,11 @@ use mathlib.Core.Bool.{Bool, true, false, xor}
 use mathlib.Core.List.{List}
 use mathlib.Core.Option.{Option, none, some}
 use lib.Dec.{eqb}
-use Rattle.text.specs.Test.{_and_, if_then_else_, any}
+use Rattle.text.specs.Test.{_and_, if_then_else_}
 use Rattle.text.specs.String.{Str, same}
 use Rattle.path.specs.Path.{Path}
-use Rattle.table.specs.Table.{Member, Rule, Table}
+use Rattle.table.specs.Table.{Rule, Table}
+use Rattle.table.specs.Group.{lists}
 use Rattle.verdict.specs.Cover.{covers}
 use Rattle.verdict.specs.Join.{agree, join}
 use Rattle.verdict.specs.Order.{better, earlier, Numbered, choose}
@@ -25,13 +26,9 @@ at q d = record { user = q .user; mode = q .mode; origin = q .origin; path = d }
 
 -- ---- the single-path verdict
 
--- a group holding the user
-unfoldable pub holding : Table → Str → Str → Bool
-holding t g u = any (λ (m : Member). same (m .group) g and same (m .user) u) (t .members)
-
 -- "its subject is the user or a group holding the user"
 unfoldable pub concerns : Table → Rule → Str → Bool
-concerns t r u = if r .byGroup then holding t (r .subject) u else same (r .subject) u
+concerns t r u = if r .byGroup then lists (t .members) u (r .subject) else same (r .subject) u
 
 -- "mode and origin are equal", and the subject matches
 unfoldable pub applies : Table → Request → Rule → Bool

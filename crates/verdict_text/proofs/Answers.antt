@@ -14,8 +14,9 @@ use Rattle.text.proofs.Tests.{by, clash}
 use Rattle.path.specs.Path.{Path}
 use Rattle.path.specs.Faults.{keyTwice}
 use Rattle.table.specs.Table.{Rule, Table}
+use Rattle.table.specs.Group.{lists}
 use Rattle.verdict.specs.Order.{better, earlier, Numbered, choose}
-use Rattle.verdict.specs.Verdict.{Request, holding, concerns, applies, decider, action, permits, opposes, word, answer, tree}
+use Rattle.verdict.specs.Verdict.{Request, concerns, applies, decider, action, permits, opposes, word, answer, tree}
 use Rattle.verdict.proofs.Choose.{numbered}
 use Rattle.judge.specs.Rules.{ruleIn, rulesIn, Marked, fitting, Weights, Heavy}
 use Rattle.judge.specs.Best.{lacks, held, matching, opposing}
@@ -61,7 +62,7 @@ module _ (t : Table) (f starts holders : List ℕ) (n : ℕ) (ready : Ready t f 
   unfolding concernsBy concerns if_then_else_
   concerned i l =
       by (ruleIn f (getD starts i 0) .byGroup)
-      (λ e. let h = ready .groups i l e in rw e (groups (getD holders i 0) (h .1) ∙ ap (λ (s : Str). holding t s user) (h .2)))
+      (λ e. let h = ready .groups i l e in rw e (groups (getD holders i 0) (h .1) ∙ ap (λ (s : Str). lists (t .members) user s) (h .2)))
       (λ e. rw e)
 
   module _ (mode : ℕ) (origin : Str) (p : Path) (on : List ℕ) (a : Applying f starts holders n set user mode origin on) where

@@ -6,8 +6,9 @@ use mathlib.Core.List.{List, []}
 use lib.ListN.{length, getD}
 use Rattle.text.specs.String.{Str}
 use Rattle.table.specs.Table.{Rule, Table}
+use Rattle.table.specs.Group.{lists}
 use Rattle.path.specs.Path.{Path}
-use Rattle.verdict.specs.Verdict.{Request, holding}
+use Rattle.verdict.specs.Verdict.{Request}
 use Rattle.verdict.specs.Laws.{Orderly}
 use Rattle.judge.specs.Rules.{ruleIn, rulesIn, Laid}
 use Rattle.concern.specs.Concern.{hasOf}
@@ -24,7 +25,7 @@ pub record Ready (t : Table) (f starts holders : List ℕ) (n : ℕ) : Type 0 wh
 
 -- the set has the numbers of the groups that hold the user
 abbrev pub Groups : Table → Str → ℕ → Type 0
-Groups t user set = (g : ℕ) → g < length (t .groups) → hasOf set g ≡ holding t (getD (t .groups) g []) user
+Groups t user set = (g : ℕ) → g < length (t .groups) → hasOf set g ≡ lists (t .members) user (getD (t .groups) g [])
 
 abbrev pub asked : Str → ℕ → Str → Path → Request
 asked user mode origin p = record { user = user; mode = mode; origin = origin; path = p }
