@@ -3,7 +3,8 @@
  *
  * Every call takes numbers and byte slices and answers one 64-bit number. A slice is
  * a pointer and a length; the pointer is never NULL, also where the length is 0.
- * Slices are not text with a closing NUL: the length says where they end.
+ * Slices are not text with a closing NUL: the length says where they end. The slices
+ * lent to one call do not overlap.
  *
  * Read an answer with the burgee_answer_... functions below. First ask for the
  * refusal number: a refusal has no other part but the line, where its number carries

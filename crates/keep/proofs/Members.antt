@@ -59,7 +59,7 @@ module _ (groups : List Str) (name u : Str) (f users owners : List ℕ) (d : twi
   unfolding isPair sameMember
   pair-is j h = ap (λ (t : Bool). t and same u (stringAt f (getD users j 0))) (sym (place-test name groups (getD owners j 0) d h))
 
-  pairs-any : (k i n : ℕ) → i + k ≤ n → Owned owners n (length groups)
+  pub pairs-any : (k i n : ℕ) → i + k ≤ n → Owned owners n (length groups)
       → hasPair (place name groups) u f users owners k i ≡ any (sameMember (record { group = name; user = u })) (rowsOf (memberIn groups owners f users) k i)
   unfolding hasPair any rowsOf
   pairs-any zero i n l h = refl

@@ -198,7 +198,7 @@ module _ {text buf : List ℕ} {c : Counts} {groups users owners ids starts hold
       let r : tableOf text .rules ≡ G .rules = G .rules-left ∙ rw n (append-nil (G .rules)) in
       record {
         accepts = G .judged ∙ rw n;
-        within = omega (arith, G .paced, G .within);
+        within = (omega (arith, G .paced, G .within), omega (arith, G .paced, G .within));
         holds = rw (g, m, r) (G .held .holds);
       }
 

@@ -24,7 +24,7 @@ pub record Grown (b : Earlier) (rules : List Rule) (old f : List ℕ) (c : Count
 -- the text is accepted, and the arrays hold its table
 pub record Kept (text : Str) (buf : List ℕ) (used : ℕ) (c : Counts) (groups users owners ids starts holders : List ℕ) : Type 0 where
   pub accepts : check text ≡ checked.Accepted
-  pub within : used ≤ length buf
+  pub within : (used ≤ length buf) × (used ≤ 16384)
   pub holds : Holds (tableOf text .groups) (tableOf text .members) (tableOf text .rules) (take used buf) c groups users owners ids starts holders
 
 unfoldable pub Outcome : Str → Loaded → List ℕ → List ℕ → List ℕ → List ℕ → List ℕ → List ℕ → List ℕ → Type 0

@@ -29,8 +29,7 @@ use Rattle.path_text.specs.declared.Filled.{Filled}
 use Rattle.path_text.specs.declared.Filled.the-variants.{Length, Refused}
 use Rattle.path_text.specs.declared.reader.Stored.{Stored}
 use Rattle.path_text.specs.declared.reader.Stored.the-variants.{To, Unread}
-use Rattle.path_text.proofs.Longest.{text-length, bytes-length}
-use Rattle.path_text.proofs.RoundTrip.{text-reader}
+use Rattle.path_text.proofs.Longest.{text-length, bytes-bound}
 use Rattle.path_text.proofs.Storing.{stored-to, stored-not}
 
 -- ---- the answer, and the lent bytes
@@ -167,18 +166,6 @@ transcribed-to not-filled i = let z : _≡_ {A = ℕ} 0 1 = cc in absurd (omega 
 pub transcribed-not : {o : Option Str} {d d′ : List ℕ} {r : Stored} → Transcribed o d d′ r → r ≡ Unread → o ≡ none
 transcribed-not (filled-up l e) i = let z : _≡_ {A = ℕ} 0 1 = cc in absurd (omega arith)
 transcribed-not not-filled i = refl
-
-bytes-bound : (s : Str) (f : Str) → bytesFor s ≡ some f → length f ≤ 9377
-unfolding bytesFor
-bytes-bound s f e = go (readText s) refl e
-  where
-    go : (x : Option Path) → readText s ≡ x → Option·map pathBytes x ≡ some f → length f ≤ 9377
-    go none i h = let z : _≡_ {A = ℕ} 0 1 = cc in absurd (omega arith)
-    go (some p) i h =
-        let j : pathBytes p ≡ f = cc in
-        let k = text-reader .only s p i in
-        let l = bytes-length p (k .good) in
-        rw j at l
 
 pub bytes-fit : (s : Str) {d d′ : List ℕ} {r : Stored} {next end : ℕ} → Transcribed (bytesFor s) d d′ r → r ≡ To next end → end ≤ 9377
 bytes-fit s x i = let u = transcribed-to x i in let b = bytes-bound s (u .0) (u .1) in omega (arith, u .2 .ends, b)

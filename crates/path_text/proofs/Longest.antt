@@ -1,5 +1,6 @@
 -- "The longest path bytes are 9,377, the longest path text 13,520."
-use mathlib.Core.Path.{_≡_}
+use mathlib.Core.Path.{_≡_, refl}
+use mathlib.Core.Option.{Option, none, some, Option·map}
 use mathlib.Core.Bool.{Bool, true, false}
 use mathlib.Core.List.{List, [], _∷_, _++_}
 use Prim.Native.Nat.{ℕ, _+_, _*_, _≤_}
@@ -13,10 +14,14 @@ use Rattle.text.specs.Frame.{stringBytes}
 use Rattle.text.proofs.Tests.{by, or-false-l, or-false-r}
 use Rattle.path.specs.Path.{Key, Elem, Path}
 use Rattle.path.specs.Bytes.{counted, keyBytes, elemBytes, pathBytes}
+use Rattle.path.specs.Spells.{Reads, readBytes}
+use Rattle.path.proofs.Bytes.{bytes-reader}
 use Rattle.path.specs.Faults.{unsized, keyOver, elemOver, overLimit, goodPath}
 use Rattle.path_text.specs.Text.{isMark, escaped, keyText, elemText, pathText}
 use Rattle.path_text.proofs.Complete.{sized}
-use Rattle.path_text.proofs.RoundTrip.{within-limits}
+use Rattle.path_text.specs.TextReader.{readText}
+use Rattle.path_text.specs.Calls.{bytesFor, textFor}
+use Rattle.path_text.proofs.RoundTrip.{within-limits, text-reader}
 
 escaped-length : (b : ℕ) → length (escaped b) ≤ 2
 unfolding escaped if_then_else_
@@ -95,3 +100,24 @@ pub text-length : (p : Path) → goodPath p ≡ true → length (pathText p) ≤
 unfolding pathText
 text-length [] g = omega arith
 text-length (e ∷ es) g = omega (arith, few-elements (e ∷ es) g, joined-length elemText elemOver 845 elem-text (e ∷ es) (elems-fine (e ∷ es) g))
+
+-- ---- what the calls make is no longer
+
+bound : (read : Str → Option Path) (was write : Path → Str) (n : ℕ) → Reads was read → ((p : Path) → goodPath p ≡ true → length (write p) ≤ n)
+    → (s f : Str) → Option·map write (read s) ≡ some f → length f ≤ n
+bound read was write n r h s f e = go (read s) refl e
+  where
+    go : (x : Option Path) → read s ≡ x → Option·map write x ≡ some f → length f ≤ n
+    go none i k = let z : _≡_ {A = ℕ} 0 1 = cc in absurd (omega arith)
+    go (some p) i k =
+        let j : write p ≡ f = cc in
+        let l = h p (r .only s p i .good) in
+        rw j at l
+
+pub bytes-bound : (s f : Str) → bytesFor s ≡ some f → length f ≤ 9377
+unfolding bytesFor
+bytes-bound s f e = bound readText pathText pathBytes 9377 text-reader bytes-length s f e
+
+pub text-bound : (f s : Str) → textFor f ≡ some s → length s ≤ 13520
+unfolding textFor
+text-bound f s e = bound readBytes pathBytes pathText 13520 bytes-reader text-length f s e

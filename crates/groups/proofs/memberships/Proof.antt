@@ -1,0 +1,83 @@
+-- `memberships` equals its definition. The invariant: the rest of the members adds to the set so far.
+use borrow.Author.Needs.{needs}
+use native.Mathlib.Omega.{arith}
+use mathlib.Core.Path.{_≡_, refl, sym, ap, _∙_}
+use Prim.Native.Nat.{_+_, _-_, _≤_}
+use lib.ListN.{length}
+use Rattle.groups.specs.Set.{setIn}
+use Rattle.groups.proofs.Sets.{set-start, set-turn, set-end}
+use Rattle.groups.proofs.memberships.Statement.{statement}
+use Rattle.groups.proofs.memberships.Tie as tie
+
+abbrev Inv-loop : tie.InvT-loop
+Inv-loop f users owners n user set₀ i₀ set i = (i ≤ n) × (setIn user f users owners n 0 0 ≡ setIn user f users owners (n - i) i set)
+
+abbrev μ-loop : tie.MeasureT-loop
+μ-loop f users owners n user set₀ i₀ set i = n - i
+
+loop-holds : tie.Need-loop-holds Inv-loop μ-loop
+loop-holds c = (search needs, set-start _ _ _ _ _)
+
+mul-at : tie.Need-mul-at Inv-loop μ-loop
+mul-at c =
+    let at-start = c .before .before .before .before .before .before in
+    omega (arith, at-start .pre .1)
+
+shared-slice-read-at : tie.Need-shared-slice-read-at Inv-loop μ-loop
+shared-slice-read-at c =
+    let at-start = c .before .before .before .before .before .before .before in
+    omega (arith, at-start .pre .1)
+
+cast-at : tie.Need-cast-at Inv-loop μ-loop
+cast-at c =
+    let at-shared-slice-known5 = c .shared-slice-known5 in
+    let at-loop = c .before .before .loop in
+    omega (arith, at-shared-slice-known5 .given (at-loop .i))
+
+shared-slice-read-t14 : tie.Need-shared-slice-read-t14 Inv-loop μ-loop
+shared-slice-read-t14 c =
+    let at-start = c .before .before .before .before .before .before .before .before in
+    omega (arith, at-start .pre .2)
+
+join-requires : tie.Need-join-requires Inv-loop μ-loop
+join-requires c κs =
+    let at-loop-test = c .before .before .loop-test in
+    let at-loop = c .before .before .before .loop in
+    let at-start = c .before .before .before .before .before .before .before .before in
+    (at-start .pre .3 (at-loop .i) (at-loop-test .taken), at-start .pre .0 (at-loop .i) (at-loop-test .taken))
+
+add-i : tie.Need-add-i Inv-loop μ-loop
+add-i c = search needs
+
+loop-less : tie.Need-loop-less Inv-loop μ-loop
+loop-less c = search needs
+
+loop-again : tie.Need-loop-again Inv-loop μ-loop
+loop-again c =
+    let at-join = c .join in
+    let at-loop-test = c .before .before .before .loop-test in
+    let at-loop = c .before .before .before .before .loop in
+    (omega arith, set-turn _ _ _ _ _ _ _ _ _ (at-loop-test .taken) (at-join .ensures) (at-loop .inv .1))
+
+returns : tie.Need-returns Inv-loop μ-loop
+returns c =
+    let at-loop-test = c .loop-test in
+    let at-loop = c .before .loop in
+    set-end _ _ _ _ _ _ _ _ (at-loop-test .left) (at-loop .inv .1)
+
+pub memberships-spec : {M : Type 1} → statement M
+memberships-spec =
+    tie.close
+    (tie.spec
+    Inv-loop
+    μ-loop
+    loop-holds
+    mul-at
+    shared-slice-read-at
+    cast-at
+    shared-slice-read-t14
+    join-requires
+    add-i
+    loop-less
+    loop-again
+    returns)

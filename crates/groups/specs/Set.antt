@@ -1,0 +1,46 @@
+-- A set of group numbers below 64 is a number: its binary digit at g is 1 for each group g in the set.
+use Prim.Native.Nat.{ℕ, zero, suc, _/_, _%_, _^_}
+use mathlib.Core.Bool.{Bool}
+use mathlib.Core.List.{List}
+use lib.Dec.{eqb}
+use lib.Bits.{bitOr}
+use lib.ListN.{getD}
+use Rattle.text.specs.Test.{if_then_else_}
+use Rattle.text.specs.String.{Str, same}
+use Rattle.rows.specs.Strings.{stringAt}
+use lib.Count.{ones, trailingZeros}
+use Rattle.table.specs.Group.{badUser}
+use Rattle.table.specs.declared.Counted.{Counted}
+use Rattle.table.specs.declared.Counted.the-variants.{Count, NoGroup, Declined}
+use Rattle.load.specs.declared.Loaded.{Loaded}
+use Rattle.load.specs.declared.Loaded.the-variants.{Table, Refused}
+use Rattle.table.specs.declared.GroupNumber.{GroupNumber}
+use Rattle.table.specs.declared.RuleNumber.{RuleNumber}
+
+abbrev pub insertOf : ℕ → ℕ → ℕ
+insertOf set g = bitOr set (2 ^ g)
+
+abbrev pub hasOf : ℕ → ℕ → Bool
+hasOf set g = eqb (set / 2 ^ g % 2) 1
+
+-- the set of the groups of those of n members, from number i on, that are the user
+unfoldable pub setIn : Str → List ℕ → List ℕ → List ℕ → ℕ → ℕ → ℕ → ℕ
+setIn user f users owners zero i set = set
+setIn user f users owners (suc n) i set =
+    setIn user f users owners n (suc i) (if same user (stringAt f (getD users i 0)) then insertOf set (getD owners i 0) else set)
+
+-- only a rule's number picks the group of a rule
+abbrev pub groupOf : List ℕ → RuleNumber → GroupNumber
+groupOf holders rule = record { 0 = getD holders (rule .0) 0 }
+
+-- "the group count is its ones, the first group its trailing zeros"
+unfoldable pub countIn : Str → ℕ → Counted
+countIn user set =
+    if badUser user then Declined 20 0
+    else if eqb (ones set) 0 then NoGroup
+    else Count (ones set) (record { 0 = trailingZeros 64 set })
+
+-- a table's own refusal
+unfoldable pub declinedBy : Loaded → Counted
+declinedBy (Refused n l) = Declined n l
+declinedBy (Table u c) = NoGroup
