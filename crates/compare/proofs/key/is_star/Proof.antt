@@ -1,0 +1,38 @@
+use native.Mathlib.Omega.{arith}
+use mathlib.Core.Path.{sym}
+use Rattle.place.specs.Place.{strEnd}
+use Rattle.place.proofs.Cursor.{str-grows}
+use Rattle.compare.proofs.Keys.{star-other, star-one}
+use Rattle.compare.proofs.key.is_star.Statement.{statement}
+use Rattle.compare.proofs.key.is_star.Tie as tie
+
+shared-slice-read-if1 : tie.Need-shared-slice-read-if1
+shared-slice-read-if1 c =
+    let at-start = c .before in
+    omega (arith, str-grows (at-start .args .f .now) (at-start .args .at))
+
+returns : tie.Need-returns
+returns c =
+    let at-if1 = c .if1 in
+    let at-start = c .before .before in
+    sym (star-other _ _ (at-start .pre) (at-if1 .taken))
+
+add-result : tie.Need-add-result
+add-result c =
+    let at-start = c .before .before in
+    omega (arith, str-grows (at-start .args .f .now) (at-start .args .at))
+
+shared-slice-read-result : tie.Need-shared-slice-read-result
+unfolding strEnd
+shared-slice-read-result c = omega arith
+
+returns-2 : tie.Need-returns-2
+returns-2 c =
+    let at-if1 = c .before .if1 in
+    let at-start = c .before .before .before in
+    sym (star-one _ _ (at-start .pre) (at-if1 .left))
+
+pub is-star-spec : {M : Type 1} → statement M
+is-star-spec =
+    tie.close
+    (tie.spec shared-slice-read-if1 returns add-result shared-slice-read-result returns-2)

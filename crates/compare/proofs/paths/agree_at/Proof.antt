@@ -1,0 +1,100 @@
+use borrow.Author.Needs.{needs}
+use native.Mathlib.Omega.{arith}
+use mathlib.Core.Path.{_≡_, refl, sym, _∙_}
+use Prim.Native.Nat.{_≤_}
+use borrow.Author.Tests.{not-true, not-false}
+use lib.ListN.{length}
+use Rattle.verdict.specs.Join.{agree}
+use Rattle.place.specs.Place.{elemsEnd, elemsIn}
+use Rattle.place.proofs.Cursor.{elems-room, elems-again}
+use Rattle.compare.proofs.Elems.{agree-end, agree-out, agree-fail, agree-turn}
+use Rattle.compare.proofs.paths.agree_at.Statement.{statement}
+use Rattle.compare.proofs.paths.agree_at.Tie as tie
+
+abbrev Inv-loop : tie.InvT-loop
+Inv-loop f r m g p n a₀ b₀ left₀ more₀ a b left more = (elemsEnd left f a ≤ length f) × (elemsEnd more g b ≤ length g) × (agree (elemsIn m f r) (elemsIn n g p) ≡ agree (elemsIn left f a) (elemsIn more g b))
+
+abbrev μ-loop : tie.MeasureT-loop
+μ-loop f r m g p n a₀ b₀ left₀ more₀ a b left more = left
+
+loop-holds : tie.Need-loop-holds Inv-loop μ-loop
+loop-holds c =
+    let at-start = c .before .before in
+    (at-start .pre .0, at-start .pre .1, refl)
+
+returns : tie.Need-returns Inv-loop μ-loop
+returns c =
+    let at-if1 = c .if1 in
+    let at-loop-test = c .before .loop-test in
+    let at-loop = c .before .before .loop in
+    sym (at-loop .inv .2 ∙ agree-out _ (at-loop .a) _ _ (at-loop .b) _ (at-loop-test .taken) (at-if1 .taken))
+
+agrees-at-requires : tie.Need-agrees-at-requires Inv-loop μ-loop
+agrees-at-requires c κs =
+    let at-loop-test = c .before .loop-test in
+    let at-loop = c .before .before .loop in
+    (elems-room _ _ _ (at-loop-test .taken) (at-loop .inv .0) .0, elems-room _ _ _ (omega arith) (at-loop .inv .1) .0)
+
+returns-2 : tie.Need-returns-2 Inv-loop μ-loop
+returns-2 c =
+    let at-if2 = c .if2 in
+    let at-agrees-at = c .before .agrees-at in
+    let at-if1 = c .before .before .if1 in
+    let at-loop-test = c .before .before .before .loop-test in
+    let at-loop = c .before .before .before .before .loop in
+    sym (at-loop .inv .2 ∙ agree-fail _ _ _ _ _ _ (at-loop-test .taken) (at-if1 .left) (sym (at-agrees-at .ensures) ∙ not-true _ (at-if2 .taken)))
+
+elem-end-requires : tie.Need-elem-end-requires Inv-loop μ-loop
+elem-end-requires c κs =
+    let at-loop-test = c .before .before .before .loop-test in
+    let at-loop = c .before .before .before .before .loop in
+    elems-room _ _ _ (at-loop-test .taken) (at-loop .inv .0) .0
+
+elem-end-requires-2 : tie.Need-elem-end-requires-2 Inv-loop μ-loop
+elem-end-requires-2 c κs =
+    let at-loop = c .before .before .before .before .before .loop in
+    elems-room _ _ _ (omega arith) (at-loop .inv .1) .0
+
+sub-left : tie.Need-sub-left Inv-loop μ-loop
+sub-left c = search needs
+
+sub-more : tie.Need-sub-more Inv-loop μ-loop
+sub-more c = search needs
+
+loop-less : tie.Need-loop-less Inv-loop μ-loop
+loop-less c = search needs
+
+loop-again : tie.Need-loop-again Inv-loop μ-loop
+loop-again c =
+    let at-elem-end2 = c .elem-end2 in
+    let at-elem-end = c .before .elem-end in
+    let at-if2 = c .before .before .if2 in
+    let at-agrees-at = c .before .before .before .agrees-at in
+    let at-if1 = c .before .before .before .before .if1 in
+    let at-loop-test = c .before .before .before .before .before .loop-test in
+    let at-loop = c .before .before .before .before .before .before .loop in
+    (elems-again _ _ _ _ (at-loop-test .taken) (at-loop .inv .0) (at-elem-end .ensures), elems-again _ _ _ _ (omega arith) (at-loop .inv .1) (at-elem-end2 .ensures), at-loop .inv .2 ∙ agree-turn _ _ _ _ _ _ (at-loop-test .taken) (at-if1 .left) (sym (at-agrees-at .ensures) ∙ not-false _ (at-if2 .left)) _ _ (at-elem-end .ensures) (at-elem-end2 .ensures))
+
+returns-3 : tie.Need-returns-3 Inv-loop μ-loop
+returns-3 c =
+    let at-loop-test = c .loop-test in
+    let at-loop = c .before .loop in
+    sym (at-loop .inv .2 ∙ agree-end _ (at-loop .a) _ _ (at-loop .b) (at-loop .more) (at-loop-test .left))
+
+pub agree-at-spec : {M : Type 1} → statement M
+agree-at-spec =
+    tie.close
+    (tie.spec
+    Inv-loop
+    μ-loop
+    loop-holds
+    returns
+    agrees-at-requires
+    returns-2
+    elem-end-requires
+    elem-end-requires-2
+    sub-left
+    sub-more
+    loop-less
+    loop-again
+    returns-3)

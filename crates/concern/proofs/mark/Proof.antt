@@ -1,0 +1,90 @@
+use borrow.Author.Needs.{needs}
+use native.Mathlib.Omega.{arith}
+use mathlib.Core.Path.{_≡_, refl, sym, ap, _∙_}
+use Prim.Native.Nat.{ℕ, _+_, _-_, _≤_, zero-le}
+use lib.Dec.{eqb}
+use lib.ListN.{length, getD, length-set}
+use Rattle.judge.specs.Rules.{ruleIn}
+use Rattle.judge.proofs.Joined.{stored}
+use Rattle.concern.specs.Concern.{appliesBy, Applying}
+use Rattle.concern.proofs.mark.Statement.{statement}
+use Rattle.concern.proofs.mark.Tie as tie
+
+abbrev Inv-loop : tie.InvT-loop
+Inv-loop f starts holders n set user mode origin on₀ i₀ on i = (i ≤ n) × (length on ≡ length on₀) × Applying f starts holders i set user mode origin on
+
+abbrev μ-loop : tie.MeasureT-loop
+μ-loop f starts holders n set user mode origin on₀ i₀ on i = n - i
+
+loop-holds : tie.Need-loop-holds Inv-loop μ-loop
+loop-holds c = (zero-le, refl, λ i z. absurd (omega arith))
+
+mul-s : tie.Need-mul-s Inv-loop μ-loop
+mul-s c = omega arith
+
+shared-slice-read-s : tie.Need-shared-slice-read-s Inv-loop μ-loop
+shared-slice-read-s c = omega arith
+
+cast-s : tie.Need-cast-s Inv-loop μ-loop
+cast-s c =
+    let at-shared-slice-known6 = c .shared-slice-known6 in
+    let at-loop = c .before .before .loop in
+    omega (arith, at-shared-slice-known6 .given (at-loop .i))
+
+cast-t16 : tie.Need-cast-t16 Inv-loop μ-loop
+cast-t16 c = omega arith
+
+holder-of-requires : tie.Need-holder-of-requires Inv-loop μ-loop
+holder-of-requires c κs = omega arith
+
+mark-at-requires : tie.Need-mark-at-requires Inv-loop μ-loop
+mark-at-requires c κs =
+    let at-holder-of = c .holder-of in
+    let at-loop-test = c .before .before .loop-test in
+    let at-start = c .before .before .before .before .before .before .before .before .before .before in
+    (at-start .pre .0 _ (at-loop-test .taken), λ e. rw (at-holder-of .ensures) (at-start .pre .1 _ (at-loop-test .taken) e))
+
+slice-write-on : tie.Need-slice-write-on Inv-loop μ-loop
+slice-write-on c = omega arith
+
+add-i : tie.Need-add-i Inv-loop μ-loop
+add-i c = omega arith
+
+loop-less : tie.Need-loop-less Inv-loop μ-loop
+loop-less c = omega arith
+
+loop-again : tie.Need-loop-again Inv-loop μ-loop
+loop-again c =
+    let at-mark-at = c .mark-at in
+    let at-holder-of = c .before .holder-of in
+    let at-loop = c .before .before .before .before .loop in
+    let at-start = c .before .before .before .before .before .before .before .before .before .before .before in
+    (omega arith, length-set (at-loop .on) (at-loop .i) _ ∙ at-loop .inv .1, stored (λ (j v : ℕ). eqb v 1 ≡ appliesBy (at-start .args .set) (getD (at-start .args .holders .now) j 0) (at-start .args .user .now) (at-start .args .mode) (at-start .args .origin .now) (ruleIn (at-start .args .f .now) (getD (at-start .args .starts .now) j 0))) (at-loop .on) (at-loop .i) (at-mark-at .result) (omega arith) (at-loop .inv .2) (at-mark-at .ensures ∙ ap (λ (g : ℕ). appliesBy (at-start .args .set) g (at-start .args .user .now) (at-start .args .mode) (at-start .args .origin .now) (ruleIn (at-start .args .f .now) (getD (at-start .args .starts .now) (at-loop .i) 0))) (at-holder-of .ensures)))
+
+same-length : tie.Need-same-length Inv-loop μ-loop
+same-length c = search needs
+
+returns : tie.Need-returns Inv-loop μ-loop
+returns c =
+    let at-loop = c .before .loop in
+    (at-loop .inv .1, λ i l. at-loop .inv .2 i (omega arith))
+
+pub mark-spec : {M : Type 1} → statement M
+mark-spec =
+    tie.close
+    (tie.spec
+    Inv-loop
+    μ-loop
+    loop-holds
+    mul-s
+    shared-slice-read-s
+    cast-s
+    cast-t16
+    holder-of-requires
+    mark-at-requires
+    slice-write-on
+    add-i
+    loop-less
+    loop-again
+    same-length
+    returns)

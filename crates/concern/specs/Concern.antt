@@ -1,0 +1,31 @@
+-- Which rules concern a request: by its mode, its origin, its user, and the set of the user's groups.
+use Prim.Native.Nat.{ℕ, _/_, _%_, _^_, _<_}
+use mathlib.Core.Path.{_≡_}
+use mathlib.Core.Bool.{Bool, true}
+use mathlib.Core.List.{List}
+use lib.Dec.{eqb}
+use lib.ListN.{getD}
+use Rattle.text.specs.Test.{_and_, if_then_else_}
+use Rattle.text.specs.String.{Str, same}
+use Rattle.table.specs.Table.{Rule}
+use Rattle.judge.specs.Rules.{ruleIn}
+
+-- "a set over at most 64 groups": group g is in it where the binary digit at g is 1
+abbrev pub hasOf : ℕ → ℕ → Bool
+hasOf set g = eqb (set / 2 ^ g % 2) 1
+
+-- of a rule whose subject, if it is a group, has the number g
+unfoldable pub concernsBy : ℕ → ℕ → Str → Rule → Bool
+concernsBy set g user r = if r .byGroup then hasOf set g else same (r .subject) user
+
+unfoldable pub appliesBy : ℕ → ℕ → Str → ℕ → Str → Rule → Bool
+appliesBy set g user mode origin r = eqb (r .mode) mode and same (r .origin) origin and concernsBy set g user r
+
+-- the groups of the first n rules are among 64
+abbrev pub Few : List ℕ → List ℕ → List ℕ → ℕ → Type 0
+Few f starts holders n = (i : ℕ) → i < n → ruleIn f (getD starts i 0) .byGroup ≡ true → getD holders i 0 < 64
+
+-- `on` marks those of the first n rules that apply
+abbrev pub Applying : List ℕ → List ℕ → List ℕ → ℕ → ℕ → Str → ℕ → Str → List ℕ → Type 0
+Applying f starts holders n set user mode origin on =
+    (i : ℕ) → i < n → eqb (getD on i 0) 1 ≡ appliesBy set (getD holders i 0) user mode origin (ruleIn f (getD starts i 0))

@@ -1,0 +1,93 @@
+// Which rules of a checked table concern a request.
+ghost use mathlib.Core.Path.{_≡_};
+ghost use mathlib.Core.Bool.{true};
+ghost use Prim.Native.Nat.{_≤_, _<_};
+ghost use lib.Dec.{eqb};
+ghost use lib.ListN.{length, getD};
+ghost use Rattle.judge.specs.Rules.{ruleIn, ruleEnd, Laid};
+ghost use Rattle.concern.specs.Concern.{hasOf, concernsBy, appliesBy, Few, Applying};
+use table::GroupNumber;
+use table::RuleNumber;
+
+// Whether a group is in a set of groups.
+pub fn has(set: u64, g: GroupNumber) -> bool
+    requires { ⌜ g .0 < 64 ⌝ }
+    ensures { λ r. ⌜ r ≡ hasOf set (g .0) ⌝ }
+{
+    let n = g.0;
+    (set >> n) & 1 == 1
+}
+
+// The group of a rule.
+pub fn holder_of(holders: &[u8], rule: RuleNumber) -> GroupNumber
+    requires { ⌜ rule .0 < length (now holders) ⌝ }
+    ensures { λ r. ⌜ r .0 ≡ getD (now (holders .entry)) (rule .0) 0 ⌝ }
+{
+    let i = rule.0 as usize;
+    GroupNumber(holders[i])
+}
+
+// Whether the subject of the rule at s, group g if it is a group, is the user or in the user's groups.
+pub fn concerns_at(f: &[u8], s: usize, g: GroupNumber, set: u64, user: &[u8]) -> bool
+    requires { ⌜ (ruleEnd (now f) s ≤ length (now f)) × (ruleIn (now f) s .byGroup ≡ true → g .0 < 64) ⌝ }
+    ensures { λ r. ⌜ r ≡ concernsBy set (g .0) (now (user .entry)) (ruleIn (now (f .entry)) s) ⌝ }
+{
+    if f[s + 2] == 1 {
+        return has(set, g);
+    }
+    let a = s + 4;
+    let d = place::str_end(f, s + 3);
+    text::string::is_same(&f[a..d], user)
+}
+
+// 1 where the rule at s concerns the request, else 0.
+pub fn mark_at(
+    f: &[u8],
+    s: usize,
+    g: GroupNumber,
+    set: u64,
+    user: &[u8],
+    mode: u32,
+    origin: &[u8],
+) -> u8
+    requires { ⌜ (ruleEnd (now f) s ≤ length (now f)) × (ruleIn (now f) s .byGroup ≡ true → g .0 < 64) ⌝ }
+    ensures { λ r. ⌜ eqb r 1 ≡ appliesBy set (g .0) (now (user .entry)) mode (now (origin .entry)) (ruleIn (now (f .entry)) s) ⌝ }
+{
+    if f[s + 1] as u32 != mode {
+        return 0;
+    }
+    let o = place::str_end(f, judge::rule::id_at(f, s));
+    let a = o + 1;
+    let d = place::str_end(f, o);
+    if !text::string::is_same(&f[a..d], origin) {
+        return 0;
+    }
+    if concerns_at(f, s, g, set, user) {
+        return 1;
+    }
+    0
+}
+
+// Marks those of the n rules that concern the request.
+pub fn mark(
+    f: &[u8],
+    starts: &[u16],
+    holders: &[u8],
+    n: usize,
+    set: u64,
+    user: &[u8],
+    mode: u32,
+    origin: &[u8],
+    on: &mut [u8],
+)
+    requires { ⌜ Laid (now f) (now starts) n × Few (now f) (now starts) (now holders) n × (n ≤ length (now starts)) × (n ≤ length (now holders)) × (n ≤ length (now on)) × (n ≤ 256) ⌝ }
+    ensures { λ _. ⌜ (length (now (on .exit)) ≡ length (now (on .entry))) × Applying (now (f .entry)) (now (starts .entry)) (now (holders .entry)) n set (now (user .entry)) mode (now (origin .entry)) (now (on .exit)) ⌝ }
+{
+    let mut i = 0;
+    while i < n {
+        let s = starts[i] as usize;
+        let g = holder_of(holders, RuleNumber(i as u16));
+        on[i] = mark_at(f, s, g, set, user, mode, origin);
+        i += 1;
+    }
+}

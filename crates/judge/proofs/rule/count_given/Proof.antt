@@ -1,0 +1,78 @@
+use native.Mathlib.Omega.{arith}
+use Rattle.verdict.proofs.Order.{unless-small}
+use mathlib.Core.Path.{_≡_, sym}
+use Prim.Native.Nat.{_+_, _≤_, zero-le}
+use lib.ListN.{length}
+use Rattle.verdict.specs.Cover.{wild, given}
+use Rattle.place.specs.Place.{strEnd, keyIn, keysEnd, keysIn}
+use Rattle.place.proofs.Cursor.{str-grows, keys-room, keys-again}
+use Rattle.judge.proofs.Counting.{count-turn, count-end}
+use Rattle.judge.proofs.rule.count_given.Statement.{statement}
+use Rattle.judge.proofs.rule.count_given.Tie as tie
+
+abbrev Inv-loop : tie.InvT-loop
+Inv-loop f at k n₀ q₀ left₀ n q left = (keysEnd left f q ≤ length f) × (n ≤ q) × (length (given (keysIn k f at)) ≡ n + length (given (keysIn left f q)))
+
+abbrev μ-loop : tie.MeasureT-loop
+μ-loop f at k n₀ q₀ left₀ n q left = left
+
+loop-holds : tie.Need-loop-holds Inv-loop μ-loop
+loop-holds c =
+    let at-start = c .before in
+    (at-start .pre, zero-le, omega arith)
+
+count-key-requires : tie.Need-count-key-requires Inv-loop μ-loop
+count-key-requires c κs =
+    let at-loop-test = c .loop-test in
+    let at-loop = c .before .loop in
+    keys-room _ _ _ (at-loop-test .taken) (at-loop .inv .0) .1
+
+add-n : tie.Need-add-n Inv-loop μ-loop
+add-n c =
+    let at-loop-test = c .before .loop-test in
+    let at-loop = c .before .before .loop in
+    let at-start = c .before .before .before .before in
+    let w = unless-small (wild (keyIn (at-start .args .f .now) (at-loop .q))) in let k = keys-room _ _ _ (at-loop-test .taken) (at-loop .inv .0) in let x = str-grows (at-start .args .f .now) (at-loop .q) in omega arith
+
+key-end-requires : tie.Need-key-end-requires Inv-loop μ-loop
+key-end-requires c κs =
+    let at-loop-test = c .before .loop-test in
+    let at-loop = c .before .before .loop in
+    keys-room _ _ _ (at-loop-test .taken) (at-loop .inv .0) .1
+
+sub-left : tie.Need-sub-left Inv-loop μ-loop
+sub-left c = omega arith
+
+loop-less : tie.Need-loop-less Inv-loop μ-loop
+loop-less c = omega arith
+
+loop-again : tie.Need-loop-again Inv-loop μ-loop
+loop-again c =
+    let at-key-end = c .key-end in
+    let at-count-key = c .before .count-key in
+    let at-loop-test = c .before .before .loop-test in
+    let at-loop = c .before .before .before .loop in
+    let at-start = c .before .before .before .before .before in
+    let w = unless-small (wild (keyIn (at-start .args .f .now) (at-loop .q))) in let x = str-grows (at-start .args .f .now) (at-loop .q) in let y = str-grows (at-start .args .f .now) (strEnd (at-start .args .f .now) (at-loop .q)) in (keys-again _ _ _ _ (at-loop-test .taken) (at-loop .inv .0) (at-key-end .ensures), omega arith, count-turn _ _ _ (at-loop-test .taken) _ _ _ _ (at-key-end .ensures) (at-count-key .ensures) (at-loop .inv .2))
+
+returns : tie.Need-returns Inv-loop μ-loop
+returns c =
+    let at-loop-test = c .loop-test in
+    let at-loop = c .before .loop in
+    let at-start = c .before .before .before in
+    sym (count-end (at-start .args .f .now) _ (at-loop .q) _ _ (at-loop-test .left) (at-loop .inv .2))
+
+pub count-given-spec : {M : Type 1} → statement M
+count-given-spec =
+    tie.close
+    (tie.spec
+    Inv-loop
+    μ-loop
+    loop-holds
+    count-key-requires
+    add-n
+    key-end-requires
+    sub-left
+    loop-less
+    loop-again
+    returns)

@@ -1,0 +1,24 @@
+use native.Mathlib.Omega.{arith}
+use Rattle.judge.specs.Rules.{idAt}
+use Rattle.judge.proofs.Parts.{rule-room}
+use Rattle.judge.proofs.rule.id_at.Statement.{statement}
+use Rattle.judge.proofs.rule.id_at.Tie as tie
+
+add-str-end : tie.Need-add-str-end
+add-str-end c =
+    let at-start = c .before in
+    let e = rule-room _ _ (at-start .pre) in omega arith
+
+str-end-requires : tie.Need-str-end-requires
+str-end-requires c κs =
+    let at-start = c .before in
+    let e = rule-room _ _ (at-start .pre) in omega arith
+
+returns : tie.Need-returns
+unfolding idAt
+returns c =
+    let at-str-end = c .str-end in
+    at-str-end .ensures
+
+pub id-at-spec : {M : Type 1} → statement M
+id-at-spec = tie.close (tie.spec add-str-end str-end-requires returns)

@@ -1,0 +1,5 @@
+// The verdicts over the decoded bytes of a checked table.
+pub mod best;
+pub mod decide;
+pub mod rule;
+pub mod tree;

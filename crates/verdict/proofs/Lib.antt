@@ -1,0 +1,8 @@
+pub mod Twice
+pub mod Order
+pub mod Choose
+pub mod Paths
+pub mod Beneath
+pub mod Reorder
+pub mod Theorems
+pub mod Marked

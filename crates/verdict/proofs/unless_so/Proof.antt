@@ -1,0 +1,18 @@
+use Rattle.text.specs.Test.{if_then_else_}
+use Rattle.verdict.proofs.unless_so.Statement.{statement}
+use Rattle.verdict.proofs.unless_so.Tie as tie
+
+returns : tie.Need-returns
+unfolding if_then_else_
+returns c =
+    let at-if1 = c .if1 in
+    rw (at-if1 .taken)
+
+returns-2 : tie.Need-returns-2
+unfolding if_then_else_
+returns-2 c =
+    let at-if1 = c .if1 in
+    rw (at-if1 .left)
+
+pub unless-so-spec : {M : Type 1} → statement M
+unless-so-spec = tie.close (tie.spec returns returns-2)

@@ -1,0 +1,49 @@
+-- Joined paths: when two paths fit, and the path that has what both have.
+use mathlib.Core.Bool.{Bool, true, false, not}
+use mathlib.Core.List.{List, [], _∷_, _++_}
+use Rattle.text.specs.Test.{_and_, _or_, all, any, only}
+use Rattle.text.specs.String.{same}
+use Rattle.path.specs.Path.{Key, Elem, Path}
+use Rattle.verdict.specs.Cover.{definite, holds, covers}
+
+-- one name, two values
+unfoldable pub conflict : Key → Key → Bool
+conflict j k = same (j .name) (k .name) and not (same (j .value) (k .value))
+
+-- the keys give k's name another value
+unfoldable pub clashes : List Key → Key → Bool
+clashes ks k = any (λ (j : Key). conflict j k) ks
+
+-- "names agree .., and no key is given two definite values"
+unfoldable pub agrees : Elem → Elem → Bool
+agrees r p = same (r .name) (p .name) and not (any (clashes (definite r)) (definite p))
+
+-- "as far as both go"
+unfoldable pub agree : Path → Path → Bool
+agree [] ps = true
+agree (r ∷ rs) [] = true
+agree (r ∷ rs) (p ∷ ps) = agrees r p and agree rs ps
+
+-- "the definite keys of both", each once
+unfoldable pub meld : Elem → Elem → Elem
+meld r p = record { name = r .name; keys = definite r ++ only (λ (k : Key). not (holds (definite r) k)) (definite p) }
+
+-- "Its joined path has as many elements as the longer of the two, and the definite keys of both." (Keys with `*` in the longer one's last
+-- elements stay there; they count as not given.)
+unfoldable pub join : Path → Path → Path
+join [] ps = ps
+join (r ∷ rs) [] = r ∷ rs
+join (r ∷ rs) (p ∷ ps) = meld r p ∷ join rs ps
+
+-- ---- the same without making the joined path, for programs
+
+-- r and p, which agree, together meet s
+unfoldable pub meetsBoth : Elem → Elem → Elem → Bool
+meetsBoth s r p = same (s .name) (r .name) and all (λ (k : Key). holds (definite r) k or holds (definite p) k) (definite s)
+
+-- s covers the joined path of r and p, where these agree
+unfoldable pub coversBoth : Path → Path → Path → Bool
+coversBoth [] rs ps = true
+coversBoth (s ∷ ss) [] ps = covers (s ∷ ss) ps
+coversBoth (s ∷ ss) (r ∷ rs) [] = covers (s ∷ ss) (r ∷ rs)
+coversBoth (s ∷ ss) (r ∷ rs) (p ∷ ps) = meetsBoth s r p and coversBoth ss rs ps

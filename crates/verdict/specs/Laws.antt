@@ -1,0 +1,79 @@
+-- What is to be shown of the verdicts, as types. The theorems are in proofs/Theorems.
+use Prim.Native.Nat.{ℕ}
+use mathlib.Core.Path.{_≡_}
+use mathlib.Core.Logic.{_↔_}
+use mathlib.Core.Bool.{Bool, true, false}
+use mathlib.Core.List.{List, List·Permᴰ}
+use mathlib.Core.Option.{Option, none, some}
+use lib.ListN.{getElem?}
+use Rattle.text.specs.Test.{_∈_, twice}
+use Rattle.text.specs.String.{Str, same}
+use Rattle.path.specs.Path.{Path}
+use Rattle.path.specs.Faults.{keyTwice}
+use Rattle.table.specs.Table.{Rule, Table}
+use Rattle.verdict.specs.Cover.{covers}
+use Rattle.verdict.specs.Order.{better, earlier, Numbered}
+use Rattle.verdict.specs.Verdict.{Request, at, matches, decider, permits, opposes, Tree, ALL, NONE, MIXED, tree}
+
+unfoldable pub sameId : Rule → Rule → Bool
+sameId r s = same (r .id) (s .id)
+
+-- what every accepted table has: no rule id twice, and no key twice in an element
+pub record Orderly (t : Table) : Type 0 where
+  pub ids : twice sameId (t .rules) ≡ false
+  pub keys : (r : Rule) → r ∈ t .rules → keyTwice (r .path) ≡ false
+
+-- ---- the single-path verdict
+
+-- n is a rule of the table with its number; it passes the test; no rule that passes is over it
+pub record Best (over : Rule → Rule → Bool) (test : Rule → Bool) (t : Table) (n : Numbered) : Type 0 where
+  pub numbered : getElem? (t .rules) (n .number) ≡ some (n .rule)
+  pub passes : test (n .rule) ≡ true
+  pub unbeaten : (s : Rule) → s ∈ t .rules → test s ≡ true → over s (n .rule) ≡ false
+
+-- by default where no rule matches, and else by the best of those that match
+abbrev pub Decided : Table → Request → Option Numbered → Type 0
+Decided t q none = (s : Rule) → s ∈ t .rules → matches t q s ≡ false
+Decided t q (some n) = Best better (matches t q) t n
+
+-- ---- the tree verdict
+
+-- "judged over every such D by the single-path definition": every path at or beneath the asked one, of any length and with any keys, "each
+-- key once an element", gets the action b
+abbrev pub Everywhere : Table → Request → Bool → Type 0
+Everywhere t q b = (d : Path) → covers (q .path) d ≡ true → keyTwice d ≡ false → permits t (at q d) ≡ b
+
+-- ALL exactly if all are permitted, NONE exactly if all are denied, and otherwise MIXED, with a rule that opposes and no such of smaller id
+pub record TreeVerdict (t : Table) (q : Request) : Type 0 where
+  pub every : (tree t q ≡ ALL) ↔ Everywhere t q true
+  pub never : (tree t q ≡ NONE) ↔ Everywhere t q false
+  pub mixed : ¬ Everywhere t q true → ¬ Everywhere t q false → (n : Numbered) × (tree t q ≡ MIXED n) × Best earlier (opposes t q) t n
+
+-- ---- the order of the lines
+
+-- u has t's groups, members and rules in another order
+pub record Reordered (t u : Table) : Type 0 where
+  pub groups : List·Permᴰ (t .groups) (u .groups)
+  pub members : List·Permᴰ (t .members) (u .members)
+  pub rules : List·Permᴰ (t .rules) (u .rules)
+
+-- the rule's id, or none for the default
+unfoldable pub idOf : Option Numbered → Option Str
+idOf none = none
+idOf (some n) = some (n .rule .id)
+
+-- the tree answer, and with MIXED the id of the rule named
+pub data TreeById : Type 0 where
+  every never : TreeById
+  mixed : Str → TreeById
+
+unfoldable pub byId : Tree → TreeById
+byId ALL = every
+byId NONE = never
+byId (MIXED n) = mixed (n .rule .id)
+
+-- the same action, the same deciding id or the same default, the same tree answer and the same id of the rule named
+pub record SameAnswers (t u : Table) (q : Request) : Type 0 where
+  pub action : permits t q ≡ permits u q
+  pub deciding : idOf (decider t q) ≡ idOf (decider u q)
+  pub word : byId (tree t q) ≡ byId (tree u q)

@@ -1,0 +1,6 @@
+pub mod Cover
+pub mod Join
+pub mod Order
+pub mod Verdict
+pub mod Laws
+pub mod Examples

@@ -1,0 +1,32 @@
+// The ranking of rules, as a number and an id.
+ghost use mathlib.Core.Path.{_≡_};
+ghost use Prim.Native.Nat.{_<_};
+ghost use Rattle.text.specs.String.{more, before};
+ghost use Rattle.verdict.specs.Order.{unless, rankBy};
+
+// 1 for a user, and for a deny.
+pub fn unless_so(b: bool) -> usize
+    ensures { λ r. ⌜ r ≡ unless b ⌝ }
+{
+    if b { 0 } else { 1 }
+}
+
+// More elements, then more definite keys, then user over group, then deny over permit.
+pub fn rank(elements: usize, keys: usize, group: bool, permit: bool) -> usize
+    requires { ⌜ (elements < 65536) × (keys < 65536) ⌝ }
+    ensures { λ r. ⌜ r ≡ rankBy elements keys group permit ⌝ }
+{
+    let user = unless_so(group);
+    let deny = unless_so(permit);
+    ((elements * 65536 + keys) * 2 + user) * 2 + deny
+}
+
+// Whether a rule of rank a and id x is better than one of rank b and id y.
+pub fn outranks(a: usize, b: usize, x: &[u8], y: &[u8]) -> bool
+    ensures { λ r. ⌜ r ≡ more a b (before (now (x .entry)) (now (y .entry))) ⌝ }
+{
+    if a != b {
+        return b < a;
+    }
+    text::string::is_before(x, y)
+}

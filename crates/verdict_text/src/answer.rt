@@ -1,0 +1,188 @@
+// The verdicts on a loaded table. f are its decoded bytes, g the bytes of the path asked for.
+ghost use mathlib.Core.Path.{_≡_};
+ghost use mathlib.Core.Bool.{false};
+ghost use mathlib.Core.Option.{Option};
+ghost use Prim.Native.Nat.{_≤_, _<_};
+ghost use lib.ListN.{length};
+ghost use Rattle.path.specs.Faults.{keyTwice};
+ghost use Rattle.table.specs.Table.{Table};
+ghost use Rattle.verdict.specs.Order.{Numbered};
+ghost use Rattle.verdict.specs.Verdict.{decider, answer, tree};
+ghost use Rattle.place.specs.Place.{pathEnd, pathIn};
+ghost use Rattle.judge.specs.Best.{held, Sound, lacks};
+ghost use Rattle.table.specs.declared.Checked.the-variants.{Accepted};
+ghost use Rattle.verdict_text.specs.Calls.{requestRefusal, request, decidedBy, pathAnswer, spread, treeAnswer};
+ghost use Rattle.verdict_text.specs.Ready.{Ready, Groups, asked};
+use crate::PathAnswer;
+use crate::TreeAnswer;
+use judge::best::Best;
+use path_text::Filled;
+use table::RuleNumber;
+
+// The answer that the deciding rule gives.
+pub fn decided(f: &[u8], b: Best) -> PathAnswer
+    requires { ⌜ Sound (now f) b × (lacks b ≡ false → b .number < 65536) ⌝ }
+    ensures { λ r. ⌜ r ≡ decidedBy (held (now (f .entry)) b) ⌝ }
+{
+    if b.weight == 0 {
+        return PathAnswer::Default;
+    }
+    let rule = RuleNumber(b.number as u16);
+    if judge::best::permitted(f, b) {
+        return PathAnswer::Permit(rule);
+    }
+    PathAnswer::Deny(rule)
+}
+
+// The answer where v is the verdict on the path itself, and b the opposing rule.
+pub fn spread_of(f: &[u8], v: bool, b: Best) -> TreeAnswer
+    requires { ⌜ (lacks b ≡ false → b .number < 65536) ⌝ }
+    ensures { λ r. ⌜ r ≡ spread (answer «v» (held (now (f .entry)) b)) ⌝ }
+{
+    if b.weight != 0 {
+        return TreeAnswer::Mixed(RuleNumber(b.number as u16));
+    }
+    if v {
+        return TreeAnswer::All;
+    }
+    TreeAnswer::None
+}
+
+// The single-path verdict on path bytes.
+pub fn path_answer(
+    f: &[u8],
+    starts: &[u16],
+    holders: &[u8],
+    n: usize,
+    set: u64,
+    user: &[u8],
+    mode: u32,
+    origin: &[u8],
+    g: &[u8],
+) -> PathAnswer
+    requires { ⌜ ((t : Table) × Ready t (now f) (now starts) (now holders) n × Groups t (now user) set) ⌝ }
+    requires { ⌜ (n ≤ length (now starts)) × (n ≤ length (now holders)) × (pathEnd (now g) 0 ≤ length (now g)) ⌝ }
+    ensures { λ r. ⌜ ((t : Table) → Ready t (now (f .entry)) (now (starts .entry)) (now (holders .entry)) n → Groups t (now (user .entry)) set → r ≡ decidedBy (decider t (asked (now (user .entry)) mode (now (origin .entry)) (pathIn (now (g .entry)) 0)))) ⌝ }
+{
+    let mut on = [0u8; 256];
+    concern::mark(f, starts, holders, n, set, user, mode, origin, &mut on);
+    let k = g[0] as usize;
+    let b = judge::decide::decide(f, starts, &on, n, g, 1, k);
+    decided(f, b)
+}
+
+// The tree verdict on path bytes.
+pub fn tree_answer(
+    f: &[u8],
+    starts: &[u16],
+    holders: &[u8],
+    n: usize,
+    set: u64,
+    user: &[u8],
+    mode: u32,
+    origin: &[u8],
+    g: &[u8],
+) -> TreeAnswer
+    requires { ⌜ ((t : Table) × Ready t (now f) (now starts) (now holders) n × Groups t (now user) set) ⌝ }
+    requires { ⌜ (n ≤ length (now starts)) × (n ≤ length (now holders)) × (pathEnd (now g) 0 ≤ length (now g)) × (keyTwice (pathIn (now g) 0) ≡ false) ⌝ }
+    ensures { λ r. ⌜ ((t : Table) → Ready t (now (f .entry)) (now (starts .entry)) (now (holders .entry)) n → Groups t (now (user .entry)) set → r ≡ spread (tree t (asked (now (user .entry)) mode (now (origin .entry)) (pathIn (now (g .entry)) 0)))) ⌝ }
+{
+    let mut on = [0u8; 256];
+    concern::mark(f, starts, holders, n, set, user, mode, origin, &mut on);
+    let k = g[0] as usize;
+    let d = judge::decide::decide(f, starts, &on, n, g, 1, k);
+    let v = judge::best::permitted(f, d);
+    let mut weights = [0usize; 256];
+    let mut paths = [0u16; 256];
+    judge::tree::weigh(f, starts, &on, n, g, 1, k, &mut weights, &mut paths);
+    let b = judge::tree::witness(f, starts, &weights, &paths, n, v, g, 1, k);
+    spread_of(f, v, b)
+}
+
+// The answer of the path call on a loaded table. The path text is read to bytes, and 22 is given where it does not read.
+pub fn path_call(
+    f: &[u8],
+    starts: &[u16],
+    holders: &[u8],
+    n: usize,
+    set: u64,
+    user: &[u8],
+    mode: u32,
+    origin: &[u8],
+    text: &[u8],
+) -> PathAnswer
+    requires { ⌜ ((t : Table) × Ready t (now f) (now starts) (now holders) n × Groups t (now user) set) ⌝ }
+    requires { ⌜ (n ≤ length (now starts)) × (n ≤ length (now holders)) ⌝ }
+    ensures { λ r. ⌜ ((t : Table) → Ready t (now (f .entry)) (now (starts .entry)) (now (holders .entry)) n → Groups t (now (user .entry)) set → r ≡ pathAnswer Accepted (requestRefusal (now (user .entry)) mode (now (origin .entry)) (now (text .entry))) (decider t (request (now (user .entry)) mode (now (origin .entry)) (now (text .entry))))) ⌝ }
+{
+    let number = crate::request::number(user, mode, origin);
+    if number != 255 {
+        return PathAnswer::Refused {
+            number: number,
+            line: 0,
+        };
+    }
+    let mut bytes = [0u8; 9377];
+    let filled = path_text::reader::read_text(text, &mut bytes);
+    let Filled::Length(len) = filled else {
+        return PathAnswer::Refused {
+            number: 22,
+            line: 0,
+        };
+    };
+    path_answer(
+        f,
+        starts,
+        holders,
+        n,
+        set,
+        user,
+        mode,
+        origin,
+        &bytes[..len],
+    )
+}
+
+// The answer of the tree call on a loaded table.
+pub fn tree_call(
+    f: &[u8],
+    starts: &[u16],
+    holders: &[u8],
+    n: usize,
+    set: u64,
+    user: &[u8],
+    mode: u32,
+    origin: &[u8],
+    text: &[u8],
+) -> TreeAnswer
+    requires { ⌜ ((t : Table) × Ready t (now f) (now starts) (now holders) n × Groups t (now user) set) ⌝ }
+    requires { ⌜ (n ≤ length (now starts)) × (n ≤ length (now holders)) ⌝ }
+    ensures { λ r. ⌜ ((t : Table) → Ready t (now (f .entry)) (now (starts .entry)) (now (holders .entry)) n → Groups t (now (user .entry)) set → r ≡ treeAnswer Accepted (requestRefusal (now (user .entry)) mode (now (origin .entry)) (now (text .entry))) (tree t (request (now (user .entry)) mode (now (origin .entry)) (now (text .entry))))) ⌝ }
+{
+    let number = crate::request::number(user, mode, origin);
+    if number != 255 {
+        return TreeAnswer::Refused {
+            number: number,
+            line: 0,
+        };
+    }
+    let mut bytes = [0u8; 9377];
+    let filled = path_text::reader::read_text(text, &mut bytes);
+    let Filled::Length(len) = filled else {
+        return TreeAnswer::Refused {
+            number: 22,
+            line: 0,
+        };
+    };
+    tree_answer(
+        f,
+        starts,
+        holders,
+        n,
+        set,
+        user,
+        mode,
+        origin,
+        &bytes[..len],
+    )
+}

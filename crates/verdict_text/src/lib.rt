@@ -1,0 +1,20 @@
+// The single-path verdict and the tree verdict on texts.
+pub mod answer;
+pub mod request;
+
+use table::RuleNumber;
+
+pub enum PathAnswer {
+    Permit(RuleNumber),
+    Deny(RuleNumber),
+    // No rule matches: deny.
+    Default,
+    Refused { number: u8, line: usize },
+}
+
+pub enum TreeAnswer {
+    All,
+    None,
+    Mixed(RuleNumber),
+    Refused { number: u8, line: usize },
+}

@@ -1,0 +1,47 @@
+// What refuses a request, apart from its path text.
+ghost use mathlib.Core.Path.{_≡_};
+ghost use Rattle.text.specs.Test.{_or_};
+ghost use Rattle.text.specs.Refusal.{_when_else_, clear};
+ghost use Rattle.table.specs.Group.{badUser};
+ghost use Rattle.verdict_text.specs.Calls.{badMode, badOrigin};
+
+pub fn is_bad_user(user: &[u8]) -> bool
+    ensures { λ r. ⌜ r ≡ badUser (now (user .entry)) ⌝ }
+{
+    let n = user.len();
+    if (n == 0) | (64 < n) {
+        return true;
+    }
+    !text::string::all_print(user)
+}
+
+pub fn is_bad_mode(mode: u32) -> bool
+    ensures { λ r. ⌜ r ≡ badMode mode ⌝ }
+{
+    !((mode == 1) | (mode == 2))
+}
+
+pub fn is_bad_origin(origin: &[u8]) -> bool
+    ensures { λ r. ⌜ r ≡ badOrigin (now (origin .entry)) ⌝ }
+{
+    if 32 < origin.len() {
+        return true;
+    }
+    !text::string::all_print(origin)
+}
+
+// 20 or 21, or 255 where neither holds.
+pub fn number(user: &[u8], mode: u32, origin: &[u8]) -> u8
+    ensures { λ r. ⌜ r ≡ (20 when (badUser (now (user .entry)) or badMode mode) else 21 when badOrigin (now (origin .entry)) else clear) ⌝ }
+{
+    if is_bad_user(user) {
+        return 20;
+    }
+    if is_bad_mode(mode) {
+        return 20;
+    }
+    if is_bad_origin(origin) {
+        return 21;
+    }
+    255
+}

@@ -1,0 +1,95 @@
+-- A loaded table is ready for the verdicts.
+use mathlib.Core.Path.{_≡_, refl, sym, ap, _∙_}
+use mathlib.Core.Bool.{Bool, true, false}
+use mathlib.Core.List.{List, [], _∷_}
+use mathlib.Core.Option.{Option}
+use Prim.Native.Nat.{ℕ, zero, suc, _+_, _≤_, _<_}
+use native.Mathlib.Omega.{arith}
+use lib.ListN.{length, take, getD}
+use Rattle.text.specs.String.{Str}
+use Rattle.rows.specs.Strings.{stringsIn}
+use Rattle.keep.specs.Held.{Owned}
+use Rattle.table.specs.Table.{Rule, Table}
+use Rattle.table.specs.Text.{check, tableOf}
+use Rattle.table.specs.declared.Checked.the-variants as checked
+use Rattle.load.specs.declared.row.Counts.{Counts}
+use Rattle.load.specs.declared.Loaded.{Loaded}
+use Rattle.load.specs.declared.Loaded.the-variants as loaded
+use Rattle.load.specs.Loaded.{Kept, Outcome}
+use Rattle.groups.specs.Set.{setIn}
+use Rattle.groups.proofs.Sets.{has-lists}
+use Rattle.groups.proofs.Calls.{front-is, outcome-refused}
+use Rattle.verdict.specs.Verdict.{decider, tree}
+use Rattle.judge.specs.Rules.{ruleIn, rulesIn, Laid}
+use Rattle.verdict_text.specs.Ready.{Ready, Groups}
+use Rattle.verdict_text.specs.Calls.{requestRefusal, request, pathAnswer, pathVerdict, treeAnswer, treeVerdict}
+use Rattle.verdict_text.specs.declared.PathAnswer.{PathAnswer}
+use Rattle.verdict_text.specs.declared.TreeAnswer.{TreeAnswer}
+use Rattle.verdicts.specs.Refused.{pathRefused, treeRefused}
+use Rattle.verdicts.proofs.RuleBytes.{rules-read, rules-laid, holders-read}
+use Rattle.verdicts.proofs.Accepted.{accepted-orderly}
+
+strings-length : (f starts : List ℕ) (n i : ℕ) → length (stringsIn f starts n i) ≡ n
+unfolding stringsIn
+strings-length f starts zero i = refl
+strings-length f starts (suc n) i = ap suc (strings-length f starts n (suc i))
+
+module _ {text buf : List ℕ} {u : ℕ} {c : Counts} {groups users owners ids starts holders : List ℕ} (K : Kept text buf u c groups users owners ids starts holders) where
+  named-long : length (tableOf text .groups) ≡ c .groups
+  named-long = ap length (K .holds .groups-are) ∙ strings-length (take u buf) groups (c .groups) 0
+
+  own-named : Owned owners (c .members) (length (tableOf text .groups))
+  own-named j h = omega (arith, named-long, K .holds .owned j h)
+
+  rules-are : rulesIn (take u buf) starts (c .rules) 0 ≡ tableOf text .rules
+  rules-are = rw (sym (K .holds .rules-count)) (rules-read (take u buf) starts (tableOf text .rules) 0 (K .holds .rules-are))
+
+  laid : Laid (take u buf) starts (c .rules)
+  laid i l =
+      let z : 0 + i ≡ i = omega arith in
+      let k : i < length (tableOf text .rules) = omega (arith, K .holds .rules-count) in
+      rw z at (rules-laid (take u buf) starts (tableOf text .rules) 0 (K .holds .rules-are) i k)
+
+  groups-are : (i : ℕ) → i < c .rules → ruleIn (take u buf) (getD starts i 0) .byGroup ≡ true
+      → (getD holders i 0 < 64) × (getD holders i 0 < length (tableOf text .groups)) × (getD (tableOf text .groups) (getD holders i 0) [] ≡ ruleIn (take u buf) (getD starts i 0) .subject)
+  groups-are i l e =
+      let z : 0 + i ≡ i = omega arith in
+      let k : i < length (tableOf text .rules) = omega (arith, K .holds .rules-count) in
+      let h = (rw z at (holders-read (take u buf) starts holders (tableOf text .groups) (tableOf text .rules) 0 (K .holds .rules-are) (K .holds .holders-are) i k)) e in
+      (omega (arith, h .0, named-long, K .holds .few .0), h .0, h .1)
+
+  pub ready : Ready (tableOf text) (take u buf) starts holders (c .rules)
+  ready =
+      record {
+        orderly = accepted-orderly text (K .accepts);
+        rules = rules-are;
+        laid = laid;
+        few = K .holds .few .2;
+        short = omega (arith, front-is K, K .within .1);
+        groups = groups-are;
+      }
+
+  pub grouped : (user : Str) → Groups (tableOf text) user (setIn user (take u buf) users owners (c .members) 0 0)
+  grouped user g h = has-lists (tableOf text .groups) (tableOf text .members) user (take u buf) users owners (c .members) (K .holds .distinct) (K .holds .members-are) own-named g h
+
+  pub rooms : (c .rules ≤ length starts) × (c .rules ≤ length holders)
+  rooms = (omega (arith, K .holds .long .4, K .holds .few .2), omega (arith, K .holds .long .5, K .holds .few .2))
+
+  module _ (user : Str) (mode : ℕ) (origin path : Str) where
+    pub path-kept : pathAnswer checked.Accepted (requestRefusal user mode origin path) (decider (tableOf text) (request user mode origin path)) ≡ pathVerdict text user mode origin path
+    unfolding pathVerdict
+    path-kept = rw (K .accepts)
+
+    pub tree-kept : treeAnswer checked.Accepted (requestRefusal user mode origin path) (tree (tableOf text) (request user mode origin path)) ≡ treeVerdict text user mode origin path
+    unfolding treeVerdict
+    tree-kept = rw (K .accepts)
+
+module _ (text : Str) (r : Loaded) (buf groups users owners ids starts holders : List ℕ) (o : Outcome text r buf groups users owners ids starts holders)
+    (n l : ℕ) (e : r ≡ loaded.Refused n l) (user : Str) (mode : ℕ) (origin path : Str) where
+  pub path-refused : (x : PathAnswer) → x ≡ pathRefused r → x ≡ pathVerdict text user mode origin path
+  unfolding pathRefused pathVerdict pathAnswer
+  path-refused x i = rw (sym (outcome-refused text r buf groups users owners ids starts holders o n l e)) (i ∙ rw e)
+
+  pub tree-refused : (x : TreeAnswer) → x ≡ treeRefused r → x ≡ treeVerdict text user mode origin path
+  unfolding treeRefused treeVerdict treeAnswer
+  tree-refused x i = rw (sym (outcome-refused text r buf groups users owners ids starts holders o n l e)) (i ∙ rw e)

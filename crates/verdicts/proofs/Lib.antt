@@ -1,0 +1,3 @@
+pub mod RuleBytes
+pub mod Accepted
+pub mod Holding
