@@ -1,0 +1,4 @@
+pub mod Permutations
+pub mod Clean
+pub mod Fine
+pub mod Reordered
