@@ -7,17 +7,17 @@ use Rattle.table.specs.declared.Checked.the-variants as checked
 use Rattle.table.specs.declared.Counted.{Counted}
 use Rattle.table.specs.declared.Counted.the-variants as counted
 
--- n from bit k on, where there are `bits` bits for it
-abbrev pub field : ℕ → ℕ → ℕ → ℕ
-field k bits n = n % 2 ^ bits * 2 ^ k
+-- bits 8 to 39
+abbrev pub upper : ℕ → ℕ
+upper n = n % 2 ^ 32 * 2 ^ 8
 
 -- a refusal: bits 0 to 7 its number, bits 8 to 39 its line, which is 0 for a number that carries none
 unfoldable pub refusalWord : ℕ → ℕ → ℕ
-refusalWord number line = number + field 8 32 line
+refusalWord number line = number + upper line
 
 -- a path result: bits 8 to 39 its length
 unfoldable pub filledWord : Filled → ℕ
-filledWord (filled.Length n) = field 8 32 n
+filledWord (filled.Length n) = upper n
 filledWord (filled.Refused number) = refusalWord number 0
 
 -- a table check
@@ -27,6 +27,6 @@ checkedWord (checked.Refused number line) = refusalWord number line
 
 -- a user's groups: bits 8 to 15 their count, bits 16 to 31 the first one's number + 1, which is 0 for none
 unfoldable pub countedWord : Counted → ℕ
-countedWord (counted.Count n g) = field 8 8 n + field 16 16 (g .0 + 1)
+countedWord (counted.Count n g) = n * 2 ^ 8 + (g .0 + 1) * 2 ^ 16
 countedWord counted.NoGroup = 0
 countedWord (counted.Declined number line) = refusalWord number line

@@ -35,7 +35,7 @@ pub fn of_counted(c: Counted) -> u64
     match c {
         Counted::Count { count, first } => {
             let g = first.0;
-            (count % 256) as u64 * 256 + (g as u64 + 1) % 65536 * 65536
+            count as u64 * 256 + (g as u64 + 1) * 65536
         }
         Counted::NoGroup => 0,
         Counted::Declined { number, line } => of_refusal(number, line),
