@@ -3,7 +3,7 @@ use mathlib.Core.Path.{_≡_, refl, sym, ap, _∙_}
 use mathlib.Core.Bool.{Bool, true, false, not}
 use mathlib.Core.List.{List, [], _∷_}
 use mathlib.Core.Option.{Option, none, some, Option·map}
-use Prim.Native.Nat.{ℕ, _+_, _-_, _≤_, _<_}
+use Prim.Native.Nat.{ℕ, _+_, _-_, _/_, _≤_, _<_}
 use native.Mathlib.Omega.{arith}
 use borrow.Author.Tests.{le-leb, lt-leb, eq-eqb, ne-eqb}
 use lib.Dec.{leb, eqb}
@@ -29,7 +29,7 @@ use Rattle.path_text.specs.declared.Filled.{Filled}
 use Rattle.path_text.specs.declared.Filled.the-variants.{Length, Refused}
 use Rattle.path_text.specs.declared.reader.Stored.{Stored}
 use Rattle.path_text.specs.declared.reader.Stored.the-variants.{To, Unread}
-use Rattle.path_text.proofs.Longest.{text-length, bytes-bound}
+use Rattle.path_text.proofs.Longest.{text-length, text-twice, bytes-bound}
 use Rattle.path_text.proofs.Storing.{stored-to, stored-not}
 
 -- ---- the answer, and the lent bytes
@@ -38,6 +38,14 @@ module _ (out : List ℕ) (o : Option Str) where
   pub refused : o ≡ none → (Refused 22 ≡ answer out o) × (out ≡ lent out o)
   unfolding answer lent
   refused e = (rw e, rw e)
+
+  -- the result was stored into the lent bytes themselves
+  pub stored-there : (s : Str) → o ≡ some s → length s ≤ length out → (out′ : List ℕ) (n : ℕ) → Wrote out 0 s out′ n → (Length n ≡ answer out o) × (out′ ≡ lent out o)
+  unfolding answer lent if_then_else_
+  stored-there s e h out′ n w =
+      let l : leb (length s) (length out) ≡ true = le-leb (length s) (length out) h in
+      let i : n ≡ length s = omega (arith, w .ends) in
+      (rw (e, l) (ap Length i), rw (e, l) (w .same))
 
   -- n bytes of `made` are the result
   module _ (s : Str) (e : o ≡ some s) (z made : List ℕ) (n : ℕ) (w : Wrote z 0 s made n) where
@@ -85,6 +93,10 @@ module _ (f : Str) (b : Bool) (i : b ≡ isPath f) where
   pub text-fits : b ≡ true → (isRead (path f 0) ≡ true) × (length (written pathText (path f 0)) ≤ 13520)
   unfolding isPath
   text-fits e = let t = text-told f (path f 0) (sym i ∙ e) in (t .1, t .2)
+
+  -- there is surely room for the text where there is for twice the bytes
+  pub text-room : (d : List ℕ) → b ≡ true → length f ≤ length d / 2 → length (written pathText (path f 0)) ≤ length d
+  text-room d e h = omega (arith, text-twice f (written pathText (path f 0)) (text-good e))
 
 -- ---- reading
 
