@@ -24,13 +24,13 @@ use Rattle.path.proofs.Bytes.{bytes-are-path}
 use Rattle.path_text.specs.Text.{pathText}
 use Rattle.path_text.specs.TextReader.{each, element, elements, readText}
 use Rattle.path_text.specs.Calls.{bytesFor, textFor, answer, lent}
-use Rattle.path_text.specs.Steps.{isRead, written, Stores, Transcribed, filled-up, not-filled}
+use Rattle.path_text.specs.Steps.{isRead, written, Room, Stores, Transcribed, filled-up, not-filled}
 use Rattle.path_text.specs.declared.Filled.{Filled}
 use Rattle.path_text.specs.declared.Filled.the-variants.{Length, Refused}
 use Rattle.path_text.specs.declared.reader.Stored.{Stored}
 use Rattle.path_text.specs.declared.reader.Stored.the-variants.{To, Unread}
-use Rattle.path_text.proofs.Longest.{text-length, text-twice, bytes-bound}
-use Rattle.path_text.proofs.Storing.{stored-to, stored-not}
+use Rattle.path_text.proofs.Longest.{text-length, text-twice}
+use Rattle.path_text.proofs.Storing.{stored-to, stored-not, room-end}
 
 -- ---- the answer, and the lent bytes
 
@@ -131,20 +131,20 @@ module _ (s : Str) where
 
 -- s is the text, b whether it is the root's
 module _ (s : Str) (b : Bool) (i : b ≡ same s (bytes "/")) (d : List ℕ) where
-  pub root-transcribed : b ≡ true → 9377 ≤ length d → Transcribed (bytesFor s) d (set d 0 0) (To 1 1)
-  root-transcribed e h = rw (root-bytes s (sym i ∙ e)) (filled-up refl (wrote-byte d 0 0 (omega arith) .same))
+  pub root-transcribed : b ≡ true → 0 < length d → Transcribed (bytesFor s) d (set d 0 0) (To 1 1)
+  root-transcribed e h = rw (root-bytes s (sym i ∙ e)) (filled-up {f = 0 ∷ []} {d = d} refl (omega arith) (wrote-byte d 0 0 h .same))
 
   module _ (n : b ≡ false) (d′ : List ℕ) where
     pub empty-transcribed : length s ≡ 0 → Transcribed (bytesFor s) d d′ Unread
     empty-transcribed z = rw (empty-bytes s (sym i ∙ n) z) not-filled
 
-    module _ (m : length s ≡ 0 → ⊥) (r : Stored) (x : Stores 9377 (counted elemBytes) (each 47 16 element s 0) d 0 d′ r) where
+    module _ (m : length s ≡ 0 → ⊥) (r : Stored) (x : Stores 9377 17 (counted elemBytes) (each 47 16 element) s 0 d 0 d′ r) where
       pub none-transcribed : r ≡ Unread → Transcribed (bytesFor s) d d′ Unread
       none-transcribed e = rw (no-bytes s (sym i ∙ n) m (stored-not x e)) not-filled
 
       module _ (t end : ℕ) (e : r ≡ To t end) where
-        pub end-fits : end ≤ 9377
-        end-fits = let u = stored-to x e in omega (arith, u .3)
+        pub end-fits : Room 9377 17 s 0 d 0 → end ≤ length d
+        end-fits h = let u = stored-to x e in room-end 9377 17 s 0 d 0 h 9377 17 t end (u .3) (omega arith) (omega arith) (omega arith)
 
         pub part-transcribed : (t ≡ length s → ⊥) → Transcribed (bytesFor s) d d′ Unread
         part-transcribed h = let u = stored-to x e in rw (part-bytes s (sym i ∙ n) m (u .0) t (u .1) h) not-filled
@@ -162,22 +162,19 @@ module _ (s : Str) (b : Bool) (i : b ≡ same s (bytes "/")) (d : List ℕ) wher
           unfolding pathBytes
           good-wrote p w = (omega (arith, w .ends), w .same)
 
-          pub good-transcribed : g ≡ true → Transcribed (bytesFor s) d d′ (To t end)
-          good-transcribed f =
+          pub good-transcribed : g ≡ true → Room 9377 17 s 0 d 0 → Transcribed (bytesFor s) d d′ (To t end)
+          good-transcribed f k =
               let u = stored-to x e in
               let w = good-wrote (u .0) (u .2) in
-              rw (good-bytes s (sym i ∙ n) m (u .0) t (u .1) h (sym (stored-bytes (u .0) (u .2)) ∙ sym j ∙ f)) (filled-up (w .0) (w .1))
+              rw (good-bytes s (sym i ∙ n) m (u .0) t (u .1) h (sym (stored-bytes (u .0) (u .2)) ∙ sym j ∙ f)) (filled-up (w .0) (end-fits k) (w .1))
 
 -- what a transcription tells
-pub transcribed-to : {o : Option Str} {d d′ : List ℕ} {r : Stored} {next end : ℕ} → Transcribed o d d′ r → r ≡ To next end → (f : Str) × (o ≡ some f) × Wrote d 0 f d′ end
-transcribed-to {end = end} (filled-up {f = f} {end = n} l e) i =
+pub transcribed-to : {o : Option Str} {d d′ : List ℕ} {r : Stored} {next end : ℕ} → Transcribed o d d′ r → r ≡ To next end → (f : Str) × (o ≡ some f) × Wrote d 0 f d′ end × (end ≤ length d)
+transcribed-to {end = end} (filled-up {f = f} {end = n} l h e) i =
     let k : n ≡ end = cc in
-    (f, refl, record { ends = sym k ∙ l ∙ (let z : length f ≡ 0 + length f = omega arith in z); same = e })
+    (f, refl, record { ends = sym k ∙ l ∙ (let z : length f ≡ 0 + length f = omega arith in z); same = e }, rw k at h)
 transcribed-to not-filled i = let z : _≡_ {A = ℕ} 0 1 = cc in absurd (omega arith)
 
 pub transcribed-not : {o : Option Str} {d d′ : List ℕ} {r : Stored} → Transcribed o d d′ r → r ≡ Unread → o ≡ none
-transcribed-not (filled-up l e) i = let z : _≡_ {A = ℕ} 0 1 = cc in absurd (omega arith)
+transcribed-not (filled-up l h e) i = let z : _≡_ {A = ℕ} 0 1 = cc in absurd (omega arith)
 transcribed-not not-filled i = refl
-
-pub bytes-fit : (s : Str) {d d′ : List ℕ} {r : Stored} {next end : ℕ} → Transcribed (bytesFor s) d d′ r → r ≡ To next end → end ≤ 9377
-bytes-fit s x i = let u = transcribed-to x i in let b = bytes-bound s (u .0) (u .1) in omega (arith, u .2 .ends, b)
