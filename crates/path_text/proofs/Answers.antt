@@ -3,7 +3,7 @@ use mathlib.Core.Path.{_≡_, refl, sym, ap, _∙_}
 use mathlib.Core.Bool.{Bool, true, false, not}
 use mathlib.Core.List.{List, [], _∷_}
 use mathlib.Core.Option.{Option, none, some, Option·map}
-use Prim.Native.Nat.{ℕ, _+_, _-_, _≤_, _<_}
+use Prim.Native.Nat.{ℕ, _+_, _-_, _/_, _≤_, _<_}
 use native.Mathlib.Omega.{arith}
 use borrow.Author.Tests.{le-leb, lt-leb, eq-eqb, ne-eqb}
 use lib.Dec.{leb, eqb}
@@ -24,13 +24,13 @@ use Rattle.path.proofs.Bytes.{bytes-are-path}
 use Rattle.path_text.specs.Text.{pathText}
 use Rattle.path_text.specs.TextReader.{each, element, elements, readText}
 use Rattle.path_text.specs.Calls.{bytesFor, textFor, answer, lent}
-use Rattle.path_text.specs.Steps.{isRead, written, Stores, Transcribed, filled-up, not-filled}
+use Rattle.path_text.specs.Steps.{isRead, written, Room, Stores, Transcribed, filled-up, not-filled}
 use Rattle.path_text.specs.declared.Filled.{Filled}
 use Rattle.path_text.specs.declared.Filled.the-variants.{Length, Refused}
 use Rattle.path_text.specs.declared.reader.Stored.{Stored}
 use Rattle.path_text.specs.declared.reader.Stored.the-variants.{To, Unread}
-use Rattle.path_text.proofs.Longest.{text-length, bytes-bound}
-use Rattle.path_text.proofs.Storing.{stored-to, stored-not}
+use Rattle.path_text.proofs.Longest.{text-length, text-twice}
+use Rattle.path_text.proofs.Storing.{stored-to, stored-not, room-end}
 
 -- ---- the answer, and the lent bytes
 
@@ -38,6 +38,14 @@ module _ (out : List ℕ) (o : Option Str) where
   pub refused : o ≡ none → (Refused 22 ≡ answer out o) × (out ≡ lent out o)
   unfolding answer lent
   refused e = (rw e, rw e)
+
+  -- the result was stored into the lent bytes themselves
+  pub stored-there : (s : Str) → o ≡ some s → length s ≤ length out → (out′ : List ℕ) (n : ℕ) → Wrote out 0 s out′ n → (Length n ≡ answer out o) × (out′ ≡ lent out o)
+  unfolding answer lent if_then_else_
+  stored-there s e h out′ n w =
+      let l : leb (length s) (length out) ≡ true = le-leb (length s) (length out) h in
+      let i : n ≡ length s = omega (arith, w .ends) in
+      (rw (e, l) (ap Length i), rw (e, l) (w .same))
 
   -- n bytes of `made` are the result
   module _ (s : Str) (e : o ≡ some s) (z made : List ℕ) (n : ℕ) (w : Wrote z 0 s made n) where
@@ -86,6 +94,10 @@ module _ (f : Str) (b : Bool) (i : b ≡ isPath f) where
   unfolding isPath
   text-fits e = let t = text-told f (path f 0) (sym i ∙ e) in (t .1, t .2)
 
+  -- there is surely room for the text where there is for twice the bytes
+  pub text-room : (d : List ℕ) → b ≡ true → length f ≤ length d / 2 → length (written pathText (path f 0)) ≤ length d
+  text-room d e h = omega (arith, text-twice f (written pathText (path f 0)) (text-good e))
+
 -- ---- reading
 
 module _ (s : Str) where
@@ -119,20 +131,20 @@ module _ (s : Str) where
 
 -- s is the text, b whether it is the root's
 module _ (s : Str) (b : Bool) (i : b ≡ same s (bytes "/")) (d : List ℕ) where
-  pub root-transcribed : b ≡ true → 9377 ≤ length d → Transcribed (bytesFor s) d (set d 0 0) (To 1 1)
-  root-transcribed e h = rw (root-bytes s (sym i ∙ e)) (filled-up refl (wrote-byte d 0 0 (omega arith) .same))
+  pub root-transcribed : b ≡ true → 0 < length d → Transcribed (bytesFor s) d (set d 0 0) (To 1 1)
+  root-transcribed e h = rw (root-bytes s (sym i ∙ e)) (filled-up {f = 0 ∷ []} {d = d} refl (omega arith) (wrote-byte d 0 0 h .same))
 
   module _ (n : b ≡ false) (d′ : List ℕ) where
     pub empty-transcribed : length s ≡ 0 → Transcribed (bytesFor s) d d′ Unread
     empty-transcribed z = rw (empty-bytes s (sym i ∙ n) z) not-filled
 
-    module _ (m : length s ≡ 0 → ⊥) (r : Stored) (x : Stores 9377 (counted elemBytes) (each 47 16 element s 0) d 0 d′ r) where
+    module _ (m : length s ≡ 0 → ⊥) (r : Stored) (x : Stores 9377 17 (counted elemBytes) (each 47 16 element) s 0 d 0 d′ r) where
       pub none-transcribed : r ≡ Unread → Transcribed (bytesFor s) d d′ Unread
       none-transcribed e = rw (no-bytes s (sym i ∙ n) m (stored-not x e)) not-filled
 
       module _ (t end : ℕ) (e : r ≡ To t end) where
-        pub end-fits : end ≤ 9377
-        end-fits = let u = stored-to x e in omega (arith, u .3)
+        pub end-fits : Room 9377 17 s 0 d 0 → end ≤ length d
+        end-fits h = let u = stored-to x e in room-end 9377 17 s 0 d 0 h 9377 17 t end (u .3) (omega arith) (omega arith) (omega arith)
 
         pub part-transcribed : (t ≡ length s → ⊥) → Transcribed (bytesFor s) d d′ Unread
         part-transcribed h = let u = stored-to x e in rw (part-bytes s (sym i ∙ n) m (u .0) t (u .1) h) not-filled
@@ -150,22 +162,19 @@ module _ (s : Str) (b : Bool) (i : b ≡ same s (bytes "/")) (d : List ℕ) wher
           unfolding pathBytes
           good-wrote p w = (omega (arith, w .ends), w .same)
 
-          pub good-transcribed : g ≡ true → Transcribed (bytesFor s) d d′ (To t end)
-          good-transcribed f =
+          pub good-transcribed : g ≡ true → Room 9377 17 s 0 d 0 → Transcribed (bytesFor s) d d′ (To t end)
+          good-transcribed f k =
               let u = stored-to x e in
               let w = good-wrote (u .0) (u .2) in
-              rw (good-bytes s (sym i ∙ n) m (u .0) t (u .1) h (sym (stored-bytes (u .0) (u .2)) ∙ sym j ∙ f)) (filled-up (w .0) (w .1))
+              rw (good-bytes s (sym i ∙ n) m (u .0) t (u .1) h (sym (stored-bytes (u .0) (u .2)) ∙ sym j ∙ f)) (filled-up (w .0) (end-fits k) (w .1))
 
 -- what a transcription tells
-pub transcribed-to : {o : Option Str} {d d′ : List ℕ} {r : Stored} {next end : ℕ} → Transcribed o d d′ r → r ≡ To next end → (f : Str) × (o ≡ some f) × Wrote d 0 f d′ end
-transcribed-to {end = end} (filled-up {f = f} {end = n} l e) i =
+pub transcribed-to : {o : Option Str} {d d′ : List ℕ} {r : Stored} {next end : ℕ} → Transcribed o d d′ r → r ≡ To next end → (f : Str) × (o ≡ some f) × Wrote d 0 f d′ end × (end ≤ length d)
+transcribed-to {end = end} (filled-up {f = f} {end = n} l h e) i =
     let k : n ≡ end = cc in
-    (f, refl, record { ends = sym k ∙ l ∙ (let z : length f ≡ 0 + length f = omega arith in z); same = e })
+    (f, refl, record { ends = sym k ∙ l ∙ (let z : length f ≡ 0 + length f = omega arith in z); same = e }, rw k at h)
 transcribed-to not-filled i = let z : _≡_ {A = ℕ} 0 1 = cc in absurd (omega arith)
 
 pub transcribed-not : {o : Option Str} {d d′ : List ℕ} {r : Stored} → Transcribed o d d′ r → r ≡ Unread → o ≡ none
-transcribed-not (filled-up l e) i = let z : _≡_ {A = ℕ} 0 1 = cc in absurd (omega arith)
+transcribed-not (filled-up l h e) i = let z : _≡_ {A = ℕ} 0 1 = cc in absurd (omega arith)
 transcribed-not not-filled i = refl
-
-pub bytes-fit : (s : Str) {d d′ : List ℕ} {r : Stored} {next end : ℕ} → Transcribed (bytesFor s) d d′ r → r ≡ To next end → end ≤ 9377
-bytes-fit s x i = let u = transcribed-to x i in let b = bytes-bound s (u .0) (u .1) in omega (arith, u .2 .ends, b)

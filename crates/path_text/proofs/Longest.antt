@@ -1,4 +1,4 @@
--- "The longest path bytes are 9,377, the longest path text 13,520."
+-- "The longest path bytes are 9,377, the longest path text 13,520." And no path's text is more than twice as long as its bytes.
 use mathlib.Core.Path.{_≡_, refl}
 use mathlib.Core.Option.{Option, none, some, Option·map}
 use mathlib.Core.Bool.{Bool, true, false}
@@ -14,7 +14,7 @@ use Rattle.text.specs.Frame.{stringBytes}
 use Rattle.text.proofs.Tests.{by, or-false-l, or-false-r}
 use Rattle.path.specs.Path.{Key, Elem, Path}
 use Rattle.path.specs.Bytes.{counted, keyBytes, elemBytes, pathBytes}
-use Rattle.path.specs.Spells.{Reads, readBytes}
+use Rattle.path.specs.Spells.{Spells, Reads, readBytes}
 use Rattle.path.proofs.Bytes.{bytes-reader}
 use Rattle.path.specs.Faults.{unsized, keyOver, elemOver, overLimit, goodPath}
 use Rattle.path_text.specs.Text.{isMark, escaped, keyText, elemText, pathText}
@@ -101,23 +101,47 @@ unfolding pathText
 text-length [] g = omega arith
 text-length (e ∷ es) g = omega (arith, few-elements (e ∷ es) g, joined-length elemText elemOver 845 elem-text (e ∷ es) (elems-fine (e ∷ es) g))
 
+-- ---- the text, and the bytes
+
+key-twice : (k : Key) → length (keyText k) ≤ 2 * length (keyBytes k)
+unfolding keyText keyBytes stringBytes
+key-twice k = let m = value-length (k .value) in simp length-append (omega arith)
+
+joined-twice : {A : Type 0} (w b : A → Str) → ((a : A) → length (w a) ≤ 2 * length (b a)) → (xs : List A) → length (joined w xs) ≤ 2 * length (joined b xs)
+unfolding joined
+joined-twice w b h [] = omega arith
+joined-twice w b h (x ∷ xs) = omega (arith, length-append (w x) (joined w xs), length-append (b x) (joined b xs), h x, joined-twice w b h xs)
+
+elem-twice : (e : Elem) → length (elemText e) ≤ 2 * length (elemBytes e)
+unfolding elemText elemBytes stringBytes counted
+elem-twice e = let k = joined-twice keyText keyBytes key-twice (e .keys) in simp length-append (omega arith)
+
+path-twice : (p : Path) → length (pathText p) ≤ 2 * length (pathBytes p)
+unfolding pathText pathBytes counted
+path-twice [] = omega arith
+path-twice (e ∷ es) = omega (arith, joined-twice elemText elemBytes elem-twice (e ∷ es))
+
 -- ---- what the calls make is no longer
 
-bound : (read : Str → Option Path) (was write : Path → Str) (n : ℕ) → Reads was read → ((p : Path) → goodPath p ≡ true → length (write p) ≤ n)
-    → (s f : Str) → Option·map write (read s) ≡ some f → length f ≤ n
-bound read was write n r h s f e = go (read s) refl e
+bound : (read : Str → Option Path) (was write : Path → Str) (n : ℕ) → Reads was read → (s f : Str) → ((p : Path) → Spells was s p → length (write p) ≤ n)
+    → Option·map write (read s) ≡ some f → length f ≤ n
+bound read was write n r s f h e = go (read s) refl e
   where
     go : (x : Option Path) → read s ≡ x → Option·map write x ≡ some f → length f ≤ n
     go none i k = let z : _≡_ {A = ℕ} 0 1 = cc in absurd (omega arith)
     go (some p) i k =
         let j : write p ≡ f = cc in
-        let l = h p (r .only s p i .good) in
+        let l = h p (r .only s p i) in
         rw j at l
 
 pub bytes-bound : (s f : Str) → bytesFor s ≡ some f → length f ≤ 9377
 unfolding bytesFor
-bytes-bound s f e = bound readText pathText pathBytes 9377 text-reader bytes-length s f e
+bytes-bound s f e = bound readText pathText pathBytes 9377 text-reader s f (λ p h. bytes-length p (h .good)) e
 
 pub text-bound : (f s : Str) → textFor f ≡ some s → length s ≤ 13520
 unfolding textFor
-text-bound f s e = bound readBytes pathBytes pathText 13520 bytes-reader text-length f s e
+text-bound f s e = bound readBytes pathBytes pathText 13520 bytes-reader f s (λ p h. text-length p (h .good)) e
+
+pub text-twice : (f s : Str) → textFor f ≡ some s → length s ≤ 2 * length f
+unfolding textFor
+text-twice f s e = bound readBytes pathBytes pathText (2 * length f) bytes-reader f s (λ p h. rw (h .text) (path-twice p)) e

@@ -19,14 +19,14 @@ use Rattle.path.specs.Path.{Key, Elem, Path}
 use Rattle.path.specs.Bytes.{counted, keyBytes, elemBytes}
 use Rattle.path_text.specs.Text.{isMark}
 use Rattle.path_text.specs.TextReader.{literal, upTo, name, item, value, each, key, element}
-use Rattle.path_text.specs.Steps.{itemIn, itemOf, Stores}
+use Rattle.path_text.specs.Steps.{itemIn, itemOf, Within, Room, Stores, stores, nothing}
 use Rattle.path_text.specs.declared.reader.Stored.{Stored}
 use Rattle.path_text.specs.declared.reader.Item.{Item}
 use Rattle.path_text.specs.declared.reader.Item.the-variants as items
 use Rattle.path_text.specs.declared.reader.Stored.the-variants.{To, Unread}
-use Rattle.path_text.proofs.Sound.{inside, upTo-fits}
+use Rattle.path_text.proofs.Sound.{inside, upTo-fits, item-inside}
 use Rattle.path_text.proofs.Complete.{value-closed, value-open, each-open, each-end, each-none}
-use Rattle.path_text.proofs.Storing.{stores-to, stores-not, stored-to, stored-not}
+use Rattle.path_text.proofs.Storing.{stored-to, stored-not, within-after, room-end}
 
 -- ---- find
 
@@ -112,6 +112,10 @@ module _ (s : Str) (at : ℕ) (r : Item) (i : r ≡ itemOf s at) where
   pub end-inside : r ≡ items.End → getD s at 0 ≡ 93
   end-inside e = eqb-true _ _ (ended e)
 
+  -- the next byte stands further on in the text
+  pub byte-inside : (b t : ℕ) → r ≡ items.Byte b t → (at < t) × (t ≤ length s)
+  byte-inside b t e = item-inside s at b t (went-on b t e .1)
+
   pub value-end : (n : ℕ) → r ≡ items.End → value n s at ≡ got [] (at + 1)
   value-end n e = value-closed n s at (ended e)
 
@@ -128,6 +132,18 @@ module _ (s : Str) (at : ℕ) (r : Item) (i : r ≡ itemOf s at) where
       let h = went-on b t e in
       let k : suc n - 1 ≡ n = omega arith in
       value-open n s at (h .0) ∙ rw (h .1, k)
+
+-- the bytes of a value so far, where at most `left` more are read: what was read ends at p, and what was stored at q
+module _ (s : Str) (at left p to q : ℕ) (b : Within (64 - left) 0 s at p to q) (l : left ≤ 64) where
+  module _ (t : ℕ) (i : (p < t) × (t ≤ length s)) (z : left ≡ 0 → ⊥) where
+    pub plain-turn : Within (64 - (left - 1)) 0 s at t to (q + 1)
+    plain-turn = record { few = omega (arith, b .few); near = omega (arith, b .near, i .0); inside = i .1 }
+
+    pub plain-room : (d : List ℕ) → Room 64 0 s at d to → to ≤ q → q < length d
+    plain-room d r h = omega (arith, room-end 64 0 s at d to r _ 0 t (q + 1) plain-turn (omega arith) (omega arith) (omega arith))
+
+  pub plain-end : p < length s → Within 64 0 s at (p + 1) to q
+  plain-end h = record { few = omega (arith, b .few); near = omega (arith, b .near); inside = omega arith }
 
 abbrev pub single : ℕ → Str
 single b = b ∷ []
@@ -160,6 +176,13 @@ module _ (a b : ℕ) (s : Str) (at n : ℕ) (h : at ≤ length s) (e : n ≡ at 
   unfolding name if_then_else_
   name-got k = rw (le-ltb 64 (upTo a b (drop at s)) (omega arith)) (let i : at + upTo a b (drop at s) ≡ n = omega arith in rw i)
 
+  module _ (to : ℕ) (k : n - at ≤ 64) where
+    pub name-within : Within 65 1 s at n to (to + 1 + (n - at))
+    name-within = record { few = omega arith; near = omega (arith, name-low); inside = name-high }
+
+    pub name-room : (d : List ℕ) → Room 65 1 s at d to → to + 1 + (n - at) ≤ length d
+    name-room d r = room-end 65 1 s at d to r 65 1 n _ name-within (omega arith) (omega arith) (omega arith)
+
 -- the length byte, and then the bytes
 pub wrote-string : (d : List ℕ) (to n : ℕ) (s d′ : List ℕ) → n ≡ length s → to + 1 + n ≤ length d → d′ ≡ put (set d to n) (to + 1) s → Wrote d to (stringBytes s) d′ (to + 1 + n)
 unfolding stringBytes
@@ -177,11 +200,22 @@ part-length s at n h k = sym (length-take-le (n - at) (drop at s) (omega (arith,
 
 -- ---- read_value
 
+module _ (s : Str) (at : ℕ) (d : List ℕ) (to : ℕ) (r : Room 65 1 s at d to) where
+  pub value-room : Room 64 0 s at d (to + 1)
+  value-room = record { starts = r .starts; fits = λ n f g. omega (arith, r .fits (1 + n) (omega arith) (omega arith)) }
+
+  module _ (t end : ℕ) (b : Within 64 0 s at t (to + 1) end) where
+    pub value-within : Within 65 1 s at t to end
+    value-within = record { few = omega (arith, b .few); near = omega (arith, b .near); inside = b .inside }
+
+    pub value-fits : to ≤ end → end ≤ length d
+    value-fits h = room-end 65 1 s at d to r 65 1 t end value-within h (omega arith) (omega arith)
+
 -- the length byte, after the bytes
-pub wrote-value : (d : List ℕ) (to : ℕ) (v d′ : List ℕ) (end : ℕ) → to + 65 ≤ length d → end ≤ to + 1 + 64 → Wrote d (to + 1) v d′ end
+pub wrote-value : (d : List ℕ) (to : ℕ) (v d′ : List ℕ) (end : ℕ) → end ≤ length d → Wrote d (to + 1) v d′ end
     → Wrote d to (stringBytes v) (set d′ to (end - (to + 1))) end
 unfolding stringBytes
-wrote-value d to v d′ end h b w =
+wrote-value d to v d′ end h w =
     let l : end - (to + 1) ≡ length v = omega (arith, w .ends) in
     rw l (wrote-before d to (length v) v d′ end (omega (arith, w .ends)) w)
 
@@ -208,15 +242,16 @@ module _ (s : Str) (at : ℕ) where
 
 -- a name and a value, one after the other, are a key
 pub key-stores : (s : Str) (at : ℕ) (n : Str) (m : ℕ) (d : List ℕ) (to : ℕ) (d′ : List ℕ) (end : ℕ) (d″ : List ℕ) (r : Stored) → name 61 61 s at ≡ got n m → getD s m 0 ≡ 61
-    → Wrote d to (stringBytes n) d′ end → end ≤ to + 65 → to + 130 ≤ length d → Stores 65 stringBytes (value 64 s (m + 1)) d′ end d″ r → Stores 130 keyBytes (key s at) d to d″ r
+    → Wrote d to (stringBytes n) d′ end → Within 65 1 s at m to end → end ≤ length d → Stores 65 1 stringBytes (value 64) s (m + 1) d′ end d″ r → Stores 130 1 keyBytes key s at d to d″ r
 unfolding keyBytes
 key-stores s at n m d to d′ end d″ r e h w b room x = go r x
   where
-    go : (q : Stored) → Stores 65 stringBytes (value 64 s (m + 1)) d′ end d″ q → Stores 130 keyBytes (key s at) d to d″ q
+    go : (q : Stored) → Stores 65 1 stringBytes (value 64) s (m + 1) d′ end d″ q → Stores 130 1 keyBytes key s at d to d″ q
     go (To t last) y =
         let u = stored-to y refl in
-        stores-to (key-got s at n m e h (u .0) t (u .1)) (wrote-more d to (stringBytes n) d′ end w (omega (arith, w .ends)) (stringBytes (u .0)) d″ last (u .2)) (omega (arith, u .3))
-    go Unread y = stores-not (key-valueless s at n m e h (stored-not y refl))
+        stores (key-got s at n m e h (u .0) t (u .1)) (wrote-more d to (stringBytes n) d′ end w (omega (arith, w .ends)) (stringBytes (u .0)) d″ last (u .2))
+        (within-after 65 1 65 1 130 1 s at m (m + 1) t to end last b (u .3) (omega arith) (omega arith))
+    go Unread y = nothing (key-valueless s at n m e h (stored-not y refl))
 
 -- ---- read_keys, read_elements
 
@@ -271,12 +306,13 @@ unfolding element _>>=_ ret
 element-got s at n m ks t e i = rw (e, i)
 
 pub element-stores : (s : Str) (at : ℕ) (n : Str) (m : ℕ) (d : List ℕ) (to : ℕ) (d′ : List ℕ) (end : ℕ) (d″ : List ℕ) (r : Stored) → name 47 91 s at ≡ got n m
-    → Wrote d to (stringBytes n) d′ end → end ≤ to + 65 → to + 586 ≤ length d → Stores 521 (counted keyBytes) (each 91 4 key s m) d′ end d″ r → Stores 586 elemBytes (element s at) d to d″ r
+    → Wrote d to (stringBytes n) d′ end → Within 65 1 s at m to end → end ≤ length d → Stores 521 1 (counted keyBytes) (each 91 4 key) s m d′ end d″ r → Stores 586 2 elemBytes element s at d to d″ r
 unfolding elemBytes
 element-stores s at n m d to d′ end d″ r e w b room x = go r x
   where
-    go : (q : Stored) → Stores 521 (counted keyBytes) (each 91 4 key s m) d′ end d″ q → Stores 586 elemBytes (element s at) d to d″ q
+    go : (q : Stored) → Stores 521 1 (counted keyBytes) (each 91 4 key) s m d′ end d″ q → Stores 586 2 elemBytes element s at d to d″ q
     go (To t last) y =
         let u = stored-to y refl in
-        stores-to (element-got s at n m (u .0) t e (u .1)) (wrote-more d to (stringBytes n) d′ end w (omega (arith, w .ends)) (counted keyBytes (u .0)) d″ last (u .2)) (omega (arith, u .3))
-    go Unread y = stores-not (element-keyless s at n m e (stored-not y refl))
+        stores (element-got s at n m (u .0) t e (u .1)) (wrote-more d to (stringBytes n) d′ end w (omega (arith, w .ends)) (counted keyBytes (u .0)) d″ last (u .2))
+        (within-after 65 1 521 1 586 2 s at m m t to end last b (u .3) (omega arith) (omega arith))
+    go Unread y = nothing (element-keyless s at n m e (stored-not y refl))

@@ -93,6 +93,19 @@ item-took s at b t n e =
     (λ v. let e′ = rw (u, v) at e in got-move (λ x q. Took s at (escaped x) q) e′ (rw (escaped-plain (getD s at 0) (no-mark (getD s at 0) n v)) (one-took s at h))))
     (λ u. let e′ = rw u at e in never-got refl e′)
 
+-- the next byte of a value stands within the text
+pub item-inside : (s : Str) (at b t : ℕ) → item s at ≡ got b t → (at < t) × (t ≤ length s)
+unfolding item if_then_else_
+item-inside s at b t e =
+    by (ltb at (length s))
+    (λ u. let h : at < length s = ltb-true _ _ u in
+    by (eqb (getD s at 0) 92)
+    (λ v. by (isMark (getD s (at + 1) 0))
+    (λ w. let e′ = rw (u, v, w) at e in got-move (λ x q. (at < q) × (q ≤ length s)) e′ (omega arith, omega (arith, mark-inside s (at + 1) w)))
+    (λ w. let e′ = rw (u, v, w) at e in never-got refl e′))
+    (λ v. let e′ = rw (u, v) at e in got-move (λ x q. (at < q) × (q ≤ length s)) e′ (omega arith, omega arith)))
+    (λ u. let e′ = rw u at e in never-got refl e′)
+
 closed : (s : Str) (at : ℕ) → eqb (getD s at 0) 93 ≡ true → Took s at (joined escaped [] ++ 93 ∷ []) (at + 1)
 closed s at e = rw (joined-nil escaped) (byte-took s at 93 (omega arith) (eqb-true _ _ e))
 

@@ -5,32 +5,62 @@ use Prim.Native.Nat.{ℕ, _+_, _-_, _≤_, _<_}
 use native.Mathlib.Omega.{arith}
 use lib.ListN.{length, set, length-append}
 use Rattle.text.specs.String.{Str, joined}
-use Rattle.text.specs.Frame.{Parsed, got, unread, andThen}
+use Rattle.text.specs.Frame.{Parsed, got, unread, andThen, Reader}
 use Rattle.text.specs.Fill.{put, Wrote}
 use Rattle.text.proofs.Filling.{wrote-long, wrote-more, wrote-nothing}
-use Rattle.path_text.specs.Steps.{Stores, stores, nothing}
+use Rattle.path_text.specs.Steps.{Within, Room, Stores, stores, nothing}
 use Rattle.path_text.specs.declared.reader.Stored.{Stored}
 use Rattle.path_text.specs.declared.reader.Stored.the-variants.{To, Unread}
 
--- ---- what an answer tells, and how it is told
+-- ---- what an answer tells
 
-module _ {A : Type 0} {most : ℕ} {w : A → Str} {d : List ℕ} {to : ℕ} {d′ : List ℕ} where
-  pub stores-to : {x : Parsed A} {a : A} {t end : ℕ} → x ≡ got a t → Wrote d to (w a) d′ end → end ≤ to + most → Stores most w x d to d′ (To t end)
-  stores-to e v b = rw e (stores v b)
-
-  pub stores-not : {x : Parsed A} → x ≡ unread → Stores most w x d to d′ Unread
-  stores-not e = rw e nothing
-
-  pub stored-to : {x : Parsed A} {r : Stored} {next end : ℕ} → Stores most w x d to d′ r → r ≡ To next end → (a : A) × (x ≡ got a next) × Wrote d to (w a) d′ end × (end ≤ to + most)
-  stored-to {next = next} {end = end} (stores {a = a} {t = t} {end = e} v b) i =
+module _ {A : Type 0} {most more : ℕ} {w : A → Str} {r : Reader A} {s : Str} {at : ℕ} {d : List ℕ} {to : ℕ} {d′ : List ℕ} where
+  pub stored-to : {q : Stored} {next end : ℕ} → Stores most more w r s at d to d′ q → q ≡ To next end → (a : A) × (r s at ≡ got a next) × Wrote d to (w a) d′ end × Within most more s at next to end
+  stored-to {next = next} {end = end} (stores {a = a} {t = t} {end = e} i v b) h =
       let j : t ≡ next = cc in
       let k : e ≡ end = cc in
-      (a, ap (got a) j, rw k at v, rw k at b)
-  stored-to nothing i = let z : _≡_ {A = ℕ} 0 1 = cc in absurd (omega arith)
+      (a, i ∙ ap (got a) j, rw k at v, rw (j, k) at b)
+  stored-to (nothing i) h = let z : _≡_ {A = ℕ} 0 1 = cc in absurd (omega arith)
 
-  pub stored-not : {x : Parsed A} {r : Stored} → Stores most w x d to d′ r → r ≡ Unread → x ≡ unread
-  stored-not (stores v b) i = let z : _≡_ {A = ℕ} 0 1 = cc in absurd (omega arith)
-  stored-not nothing i = refl
+  pub stored-not : {q : Stored} → Stores most more w r s at d to d′ q → q ≡ Unread → r s at ≡ unread
+  stored-not (stores i v b) h = let z : _≡_ {A = ℕ} 0 1 = cc in absurd (omega arith)
+  stored-not (nothing i) h = i
+
+-- ---- bounds, and room
+
+-- one part after another, which starts at p₁
+pub within-after : (m k m₁ k₁ m₂ k₂ : ℕ) (s : Str) (at p p₁ p′ to q q′ : ℕ) → Within m k s at p to q → Within m₁ k₁ s p₁ p′ q q′ → m + m₁ ≤ m₂ → p + k + k₁ ≤ p₁ + k₂
+    → Within m₂ k₂ s at p′ to q′
+within-after m k m₁ k₁ m₂ k₂ s at p p₁ p′ to q q′ a b h i =
+    record { few = omega (arith, a .few, b .few); near = omega (arith, a .near, b .near); inside = b .inside }
+
+pub within-less : (m k m₁ k₁ : ℕ) (s : Str) (at p to q : ℕ) → Within m k s at p to q → m ≤ m₁ → k ≤ k₁ → Within m₁ k₁ s at p to q
+within-less m k m₁ k₁ s at p to q a h i = record { few = omega (arith, a .few); near = omega (arith, a .near); inside = a .inside }
+
+module _ (m k : ℕ) (s : Str) (at : ℕ) (d : List ℕ) (to : ℕ) (r : Room m k s at d to) where
+  pub room-start : to ≤ length d
+  room-start = omega (arith, r .fits 0 (omega arith) (omega (arith, r .starts)))
+
+  pub room-byte : 0 < m → 0 < k → to < length d
+  room-byte h i = omega (arith, r .fits 1 (omega arith) (omega (arith, r .starts)))
+
+  pub room-less : (m₁ k₁ : ℕ) → m₁ ≤ m → k₁ ≤ k → Room m₁ k₁ s at d to
+  room-less m₁ k₁ h i = record { starts = r .starts; fits = λ n f g. r .fits n (omega arith) (omega arith) }
+
+  -- a part was stored, up to q
+  module _ (m₁ k₁ p q : ℕ) (b : Within m₁ k₁ s at p to q) (l : to ≤ q) where
+    pub room-end : m₁ ≤ m → k₁ ≤ k → q ≤ length d
+    room-end h i = omega (arith, r .fits (q - to) (omega (arith, b .few)) (omega (arith, b .near, b .inside)))
+
+    -- the room for the next part, which is read from p₁ on
+    pub room-after : (m₂ k₂ p₁ : ℕ) (d′ : List ℕ) → length d′ ≡ length d → m₁ + m₂ ≤ m → p + k₁ + k₂ ≤ p₁ + k → p₁ ≤ length s → Room m₂ k₂ s p₁ d′ q
+    room-after m₂ k₂ p₁ d′ e i j z = record {
+      starts = z;
+      fits = λ n f g. omega (arith, r .fits (q - to + n) (omega (arith, b .few)) (omega (arith, b .near)));
+    }
+
+    pub room-then : (m₂ k₂ p₁ : ℕ) (v d′ : List ℕ) → Wrote d to v d′ q → m₁ ≤ m → k₁ ≤ k → m₁ + m₂ ≤ m → p + k₁ + k₂ ≤ p₁ + k → p₁ ≤ length s → Room m₂ k₂ s p₁ d′ q
+    room-then m₂ k₂ p₁ v d′ w h i = room-after m₂ k₂ p₁ d′ (wrote-long d to v d′ q w (omega (arith, w .ends, room-end h i)))
 
 -- ---- a list of things
 
@@ -71,6 +101,9 @@ module _ {A : Type 0} (w : A → Str) (d : List ℕ) (to : ℕ) (x : Parsed (Lis
   module _ (n : ℕ) (out : List ℕ) (q : ℕ) (y : Parsed (List A)) (s : Storing w d to x n out q y) where
     pub storing-long : length out ≡ length d
     storing-long = wrote-long d to (joined w (s .so-far)) out q (s .wrote) (s .room)
+
+    pub storing-from : to ≤ q
+    storing-from = omega (arith, s .wrote .ends)
 
     pub storing-none : y ≡ unread → x ≡ unread
     storing-none e = s .same ∙ ap (after (s .so-far)) e

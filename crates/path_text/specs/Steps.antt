@@ -8,7 +8,7 @@ use lib.Dec.{eqb}
 use lib.ListN.{length, getD}
 use Rattle.text.specs.Test.{if_then_else_}
 use Rattle.text.specs.String.{Str}
-use Rattle.text.specs.Frame.{Parsed, got, unread}
+use Rattle.text.specs.Frame.{Parsed, got, unread, Reader}
 use Rattle.text.specs.Fill.{put, Wrote}
 use Rattle.path_text.specs.TextReader.{item}
 use Rattle.path_text.specs.declared.reader.Stored.{Stored}
@@ -27,14 +27,26 @@ itemOf s at = if eqb (getD s at 0) 93 then items.End else itemIn (item s at)
 abbrev pub plainly : Str → Str
 plainly s = s
 
--- what was read, as w writes it, was stored into d from `to` on: at most `most` bytes, and nothing else; where nothing was read, nothing is said of d
-pub data Stores {A : Type 0} (most : ℕ) (w : A → Str) : Parsed A → List ℕ → ℕ → List ℕ → Stored → Type 0 where
-  stores : {a : A} {t : ℕ} {d : List ℕ} {to : ℕ} {d′ : List ℕ} {end : ℕ} → Wrote d to (w a) d′ end → end ≤ to + most → Stores most w (got a t) d to d′ (stored.To t end)
-  nothing : {d : List ℕ} {to : ℕ} {d′ : List ℕ} → Stores most w unread d to d′ stored.Unread
+-- what was read of s from `at` to `next` was stored from `to` to `end`: at most `most` bytes, and at most `more` more than were read
+pub record Within (most more : ℕ) (s : Str) (at next to end : ℕ) : Type 0 where
+  pub few : end ≤ to + most
+  pub near : end + at ≤ to + next + more
+  pub inside : next ≤ length s
+
+-- whatever is read of s from `at` on, there is room for it in d from `to` on, if it is stored within these bounds
+pub record Room (most more : ℕ) (s : Str) (at : ℕ) (d : List ℕ) (to : ℕ) : Type 0 where
+  pub starts : at ≤ length s
+  pub fits : (n : ℕ) → n ≤ most → at + n ≤ length s + more → to + n ≤ length d
+
+-- what r reads of s at `at`, as w writes it, was stored into d from `to` on, and nothing else; where it reads nothing, nothing is said of d
+pub data Stores {A : Type 0} (most more : ℕ) (w : A → Str) (r : Reader A) (s : Str) (at : ℕ) : List ℕ → ℕ → List ℕ → Stored → Type 0 where
+  stores : {a : A} {t : ℕ} {d : List ℕ} {to : ℕ} {d′ : List ℕ} {end : ℕ} → r s at ≡ got a t → Wrote d to (w a) d′ end → Within most more s at t to end
+      → Stores most more w r s at d to d′ (stored.To t end)
+  nothing : {d : List ℕ} {to : ℕ} {d′ : List ℕ} → r s at ≡ unread → Stores most more w r s at d to d′ stored.Unread
 
 -- the bytes fill the start of d, and nothing else does; where there are none, nothing is said of d
 pub data Transcribed : Option Str → List ℕ → List ℕ → Stored → Type 0 where
-  filled-up : {f : Str} {d d′ : List ℕ} {next end : ℕ} → end ≡ length f → d′ ≡ put d 0 f → Transcribed (some f) d d′ (stored.To next end)
+  filled-up : {f : Str} {d d′ : List ℕ} {next end : ℕ} → end ≡ length f → end ≤ length d → d′ ≡ put d 0 f → Transcribed (some f) d d′ (stored.To next end)
   not-filled : {d d′ : List ℕ} → Transcribed none d d′ stored.Unread
 
 -- it reads; what w writes for it; where it ends

@@ -6,7 +6,7 @@ ghost use Rattle.text.specs.Frame.{stringBytes};
 ghost use Rattle.path.specs.Bytes.{counted, keyBytes, elemBytes, pathBytes};
 ghost use Rattle.path_text.specs.TextReader.{upTo, name, value, each, key, element};
 ghost use Rattle.path_text.specs.Calls.{answer, lent, bytesFor};
-ghost use Rattle.path_text.specs.Steps.{itemOf, Stores, plainly, Transcribed};
+ghost use Rattle.path_text.specs.Steps.{itemOf, Room, Stores, plainly, Transcribed};
 use crate::Filled;
 
 // Where reading goes on in the text, and storing in the buffer.
@@ -47,8 +47,8 @@ pub fn find(text: &[u8], at: usize, a: u8, b: u8) -> usize
 
 // A name, which ends before the first a or b, with its length byte.
 fn read_name(text: &[u8], at: usize, a: u8, b: u8, out: &mut [u8], to: usize) -> Stored
-    requires { ⌜ (at ≤ length (now text)) × (to + 65 ≤ length (now out)) ⌝ }
-    ensures { λ r. ⌜ Stores 65 stringBytes (name a b (now (text .entry)) at) (now (out .entry)) to (now (out .exit)) r ⌝ }
+    requires { ⌜ Room 65 1 (now text) at (now out) to ⌝ }
+    ensures { λ r. ⌜ Stores 65 1 stringBytes (name a b) (now (text .entry)) at (now (out .entry)) to (now (out .exit)) r ⌝ }
 {
     let next = find(text, at, a, b);
     let n = next - at;
@@ -92,8 +92,8 @@ fn read_item(text: &[u8], at: usize) -> Item
 
 // The bytes of a value, up to its ].
 fn read_plain(text: &[u8], at: usize, out: &mut [u8], to: usize) -> Stored
-    requires { ⌜ to + 64 ≤ length (now out) ⌝ }
-    ensures { λ r. ⌜ Stores 64 plainly (value 64 (now (text .entry)) at) (now (out .entry)) to (now (out .exit)) r ⌝ }
+    requires { ⌜ Room 64 0 (now text) at (now out) to ⌝ }
+    ensures { λ r. ⌜ Stores 64 0 plainly (value 64) (now (text .entry)) at (now (out .entry)) to (now (out .exit)) r ⌝ }
 {
     let mut p = at;
     let mut q = to;
@@ -125,8 +125,8 @@ fn read_plain(text: &[u8], at: usize, out: &mut [u8], to: usize) -> Stored
 
 // A value with its length byte.
 fn read_value(text: &[u8], at: usize, out: &mut [u8], to: usize) -> Stored
-    requires { ⌜ to + 65 ≤ length (now out) ⌝ }
-    ensures { λ r. ⌜ Stores 65 stringBytes (value 64 (now (text .entry)) at) (now (out .entry)) to (now (out .exit)) r ⌝ }
+    requires { ⌜ Room 65 1 (now text) at (now out) to ⌝ }
+    ensures { λ r. ⌜ Stores 65 1 stringBytes (value 64) (now (text .entry)) at (now (out .entry)) to (now (out .exit)) r ⌝ }
 {
     let start = to + 1;
     let v = read_plain(text, at, out, start);
@@ -142,8 +142,8 @@ fn read_value(text: &[u8], at: usize, out: &mut [u8], to: usize) -> Stored
 
 // name=value], after its [.
 fn read_key(text: &[u8], at: usize, out: &mut [u8], to: usize) -> Stored
-    requires { ⌜ (at ≤ length (now text)) × (to + 130 ≤ length (now out)) ⌝ }
-    ensures { λ r. ⌜ Stores 130 keyBytes (key (now (text .entry)) at) (now (out .entry)) to (now (out .exit)) r ⌝ }
+    requires { ⌜ Room 130 1 (now text) at (now out) to ⌝ }
+    ensures { λ r. ⌜ Stores 130 1 keyBytes key (now (text .entry)) at (now (out .entry)) to (now (out .exit)) r ⌝ }
 {
     let n = read_name(text, at, 61, 61, out, to);
     let Stored::To { next, end } = n else {
@@ -157,8 +157,8 @@ fn read_key(text: &[u8], at: usize, out: &mut [u8], to: usize) -> Stored
 
 // The keys of an element, after their count.
 fn read_keys(text: &[u8], at: usize, out: &mut [u8], to: usize) -> Stored
-    requires { ⌜ to + 521 ≤ length (now out) ⌝ }
-    ensures { λ r. ⌜ Stores 521 (counted keyBytes) (each 91 4 key (now (text .entry)) at) (now (out .entry)) to (now (out .exit)) r ⌝ }
+    requires { ⌜ Room 521 1 (now text) at (now out) to ⌝ }
+    ensures { λ r. ⌜ Stores 521 1 (counted keyBytes) (each 91 4 key) (now (text .entry)) at (now (out .entry)) to (now (out .exit)) r ⌝ }
 {
     let mut p = at;
     let mut q = to + 1;
@@ -179,8 +179,8 @@ fn read_keys(text: &[u8], at: usize, out: &mut [u8], to: usize) -> Stored
 
 // An element, after its /.
 fn read_element(text: &[u8], at: usize, out: &mut [u8], to: usize) -> Stored
-    requires { ⌜ (at ≤ length (now text)) × (to + 586 ≤ length (now out)) ⌝ }
-    ensures { λ r. ⌜ Stores 586 elemBytes (element (now (text .entry)) at) (now (out .entry)) to (now (out .exit)) r ⌝ }
+    requires { ⌜ Room 586 2 (now text) at (now out) to ⌝ }
+    ensures { λ r. ⌜ Stores 586 2 elemBytes element (now (text .entry)) at (now (out .entry)) to (now (out .exit)) r ⌝ }
 {
     let n = read_name(text, at, 47, 91, out, to);
     let Stored::To { next, end } = n else {
@@ -191,8 +191,8 @@ fn read_element(text: &[u8], at: usize, out: &mut [u8], to: usize) -> Stored
 
 // The elements of a path, after their count.
 fn read_elements(text: &[u8], out: &mut [u8]) -> Stored
-    requires { ⌜ 9377 ≤ length (now out) ⌝ }
-    ensures { λ r. ⌜ Stores 9377 (counted elemBytes) (each 47 16 element (now (text .entry)) 0) (now (out .entry)) 0 (now (out .exit)) r ⌝ }
+    requires { ⌜ Room 9377 17 (now text) 0 (now out) 0 ⌝ }
+    ensures { λ r. ⌜ Stores 9377 17 (counted elemBytes) (each 47 16 element) (now (text .entry)) 0 (now (out .entry)) 0 (now (out .exit)) r ⌝ }
 {
     let mut p = 0;
     let mut q = 1;
@@ -213,7 +213,7 @@ fn read_elements(text: &[u8], out: &mut [u8]) -> Stored
 
 // The bytes of the good path whose text this is.
 fn transcribe(text: &[u8], out: &mut [u8]) -> Stored
-    requires { ⌜ 9377 ≤ length (now out) ⌝ }
+    requires { ⌜ Room 9377 17 (now text) 0 (now out) 0 ⌝ }
     ensures { λ r. ⌜ Transcribed (bytesFor (now (text .entry))) (now (out .entry)) (now (out .exit)) r ⌝ }
 {
     let root = [47u8];
@@ -240,19 +240,45 @@ fn transcribe(text: &[u8], out: &mut [u8]) -> Stored
     }
 }
 
-// Path text to path bytes, at the start of out. Nothing is stored there before all is checked.
-pub fn read_text(text: &[u8], out: &mut [u8]) -> Filled
+// The bytes are made apart, and copied where they fit.
+fn read_apart(text: &[u8], apart: &mut [u8], out: &mut [u8]) -> Filled
+    requires { ⌜ Room 9377 17 (now text) 0 (now apart) 0 ⌝ }
     ensures { λ r. ⌜ (r ≡ answer (now (out .entry)) (bytesFor (now (text .entry)))) × (now (out .exit) ≡ lent (now (out .entry)) (bytesFor (now (text .entry)))) ⌝ }
 {
-    // the longest path bytes
-    let mut bytes = [0u8; 9377];
-    let t = transcribe(text, &mut bytes);
+    let t = transcribe(text, apart);
     let Stored::To { next, end } = t else {
         return Filled::Refused(22);
     };
     if out.len() < end {
         return Filled::Refused(23);
     }
-    text::fill::copy(&bytes[..end], out, 0);
+    text::fill::copy(&apart[..end], out, 0);
     Filled::Length(end)
+}
+
+// The bytes are at most 17 more than the text: a count, and for each of 16 elements one more byte than its text has.
+fn read_short(text: &[u8], out: &mut [u8]) -> Filled
+    requires { ⌜ length (now text) ≤ 239 ⌝ }
+    ensures { λ r. ⌜ (r ≡ answer (now (out .entry)) (bytesFor (now (text .entry)))) × (now (out .exit) ≡ lent (now (out .entry)) (bytesFor (now (text .entry)))) ⌝ }
+{
+    let mut apart = [0u8; 256];
+    read_apart(text, &mut apart, out)
+}
+
+fn read_long(text: &[u8], out: &mut [u8]) -> Filled
+    ensures { λ r. ⌜ (r ≡ answer (now (out .entry)) (bytesFor (now (text .entry)))) × (now (out .exit) ≡ lent (now (out .entry)) (bytesFor (now (text .entry)))) ⌝ }
+{
+    // the longest path bytes
+    let mut apart = [0u8; 9377];
+    read_apart(text, &mut apart, out)
+}
+
+// Path text to path bytes, at the start of out. Nothing is stored there before all is checked.
+pub fn read_text(text: &[u8], out: &mut [u8]) -> Filled
+    ensures { λ r. ⌜ (r ≡ answer (now (out .entry)) (bytesFor (now (text .entry)))) × (now (out .exit) ≡ lent (now (out .entry)) (bytesFor (now (text .entry)))) ⌝ }
+{
+    if text.len() <= 239 {
+        return read_short(text, out);
+    }
+    read_long(text, out)
 }

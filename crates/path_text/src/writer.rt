@@ -7,6 +7,7 @@ ghost use Rattle.text.specs.String.{joined};
 ghost use Rattle.text.specs.Frame.{times};
 ghost use Rattle.text.specs.Fill.{Wrote};
 ghost use Rattle.path.specs.Bytes.{key, element, path};
+ghost use Rattle.path.specs.Walk.{isPath};
 ghost use Rattle.path_text.specs.Text.{escaped, keyText, elemText, pathText};
 ghost use Rattle.path_text.specs.Calls.{answer, lent, textFor};
 ghost use Rattle.path_text.specs.Steps.{isRead, written, endAt};
@@ -135,13 +136,11 @@ fn write_path(f: &[u8], out: &mut [u8]) -> usize
     e.to
 }
 
-// Path bytes to path text, at the start of out. Nothing is stored there before all is checked.
-pub fn write_text(f: &[u8], out: &mut [u8]) -> Filled
+// The text of a good path, made apart, and copied where it fits.
+fn write_apart(f: &[u8], out: &mut [u8]) -> Filled
+    requires { ⌜ true ≡ isPath (now f) ⌝ }
     ensures { λ r. ⌜ (r ≡ answer (now (out .entry)) (textFor (now (f .entry)))) × (now (out .exit) ≡ lent (now (out .entry)) (textFor (now (f .entry)))) ⌝ }
 {
-    if !path::frame::is_path(f) {
-        return Filled::Refused(22);
-    }
     // the longest path text
     let mut text = [0u8; 13520];
     let n = write_path(f, &mut text);
@@ -150,4 +149,19 @@ pub fn write_text(f: &[u8], out: &mut [u8]) -> Filled
     }
     text::fill::copy(&text[..n], out, 0);
     Filled::Length(n)
+}
+
+// Path bytes to path text, at the start of out. Nothing is stored there before all is checked.
+pub fn write_text(f: &[u8], out: &mut [u8]) -> Filled
+    ensures { λ r. ⌜ (r ≡ answer (now (out .entry)) (textFor (now (f .entry)))) × (now (out .exit) ≡ lent (now (out .entry)) (textFor (now (f .entry)))) ⌝ }
+{
+    if !path::frame::is_path(f) {
+        return Filled::Refused(22);
+    }
+    // no text is more than twice as long as its bytes
+    if f.len() <= out.len() / 2 {
+        let n = write_path(f, out);
+        return Filled::Length(n);
+    }
+    write_apart(f, out)
 }

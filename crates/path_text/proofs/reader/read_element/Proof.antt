@@ -1,8 +1,8 @@
 -- `read_element` stores the name, and then the keys.
 use borrow.Author.Needs.{needs}
 use native.Mathlib.Omega.{arith}
-use Rattle.text.proofs.Filling.{wrote-long}
-use Rattle.path_text.proofs.Storing.{stores-not, stored-to, stored-not}
+use Rattle.path_text.specs.Steps.{nothing}
+use Rattle.path_text.proofs.Storing.{stored-to, stored-not, room-less, room-end, room-then}
 use Rattle.path_text.proofs.Reading.{element-nameless, element-stores}
 use Rattle.path_text.proofs.reader.read_element.Statement.{statement}
 use Rattle.path_text.proofs.reader.read_element.Tie as tie
@@ -10,7 +10,7 @@ use Rattle.path_text.proofs.reader.read_element.Tie as tie
 read-name-requires : tie.Need-read-name-requires
 read-name-requires c κs =
     let at-start = c .before .before .before in
-    (at-start .pre .0, omega (arith, at-start .pre .1))
+    room-less _ _ _ _ _ _ (at-start .pre) 65 1 (omega arith) (omega arith)
 
 enum-known-n : tie.Need-enum-known-n
 enum-known-n c = search needs
@@ -25,7 +25,7 @@ returns : tie.Need-returns
 returns c =
     let at-enum-told = c .enum-told in
     let at-read-name = c .before .before .before .before .read-name in
-    stores-not (element-nameless _ _ (stored-not (at-read-name .ensures) (at-enum-told .given .1)))
+    nothing (element-nameless _ _ (stored-not (at-read-name .ensures) (at-enum-told .given .1)))
 
 read-keys-requires : tie.Need-read-keys-requires
 read-keys-requires c κs =
@@ -33,7 +33,7 @@ read-keys-requires c κs =
     let at-read-name = c .before .before .before .before .before .before .read-name in
     let at-start = c .before .before .before .before .before .before .before .before .before .before in
     let u = stored-to (at-read-name .ensures) (at-n .given .1) in
-    omega (arith, wrote-long _ _ _ _ _ (u .2) (omega (arith, u .2 .ends, u .3, at-start .pre .1)), u .3, at-start .pre .1)
+    room-then _ _ _ _ _ _ (at-start .pre) 65 1 _ _ (u .3) (omega (arith, u .2 .ends)) 521 1 _ _ _ (u .2) (omega arith) (omega arith) (omega arith) (omega arith) (u .3 .inside)
 
 same-length-2 : tie.Need-same-length-2
 same-length-2 c = search needs
@@ -44,7 +44,8 @@ returns-2 c =
     let at-n = c .before .before .before .before .before .n in
     let at-read-name = c .before .before .before .before .before .before .before .before .before .read-name in
     let at-start = c .before .before .before .before .before .before .before .before .before .before .before .before .before in
-    let u = stored-to (at-read-name .ensures) (at-n .given .1) in element-stores _ _ _ _ _ _ _ _ _ _ (u .1) (u .2) (u .3) (at-start .pre .1) (at-read-keys .ensures)
+    let u = stored-to (at-read-name .ensures) (at-n .given .1) in
+    element-stores _ _ _ _ _ _ _ _ _ _ (u .1) (u .2) (u .3) (room-end _ _ _ _ _ _ (at-start .pre) 65 1 _ _ (u .3) (omega (arith, u .2 .ends)) (omega arith) (omega arith)) (at-read-keys .ensures)
 
 pub read-element-spec : {M : Type 1} → statement M
 read-element-spec =

@@ -1,18 +1,18 @@
 -- `read_elements` stores the elements, and then their count.
 use borrow.Author.Needs.{needs}
 use native.Mathlib.Omega.{arith}
-use mathlib.Core.Path.{_≡_, refl, sym, _∙_}
-use Prim.Native.Nat.{_+_, _*_, _-_, _≤_}
+use Rattle.path_text.specs.Steps.{Within, stores, nothing}
+use Rattle.path_text.proofs.Storing.{Storing, storing-start, storing-long, storing-from, storing-none, storing-done, storing-turn, stored-to, stored-not, within-after, within-less, room-byte, room-end, room-after}
+use Prim.Native.Nat.{_*_, _-_, _≤_}
 use lib.ListN.{length-set}
 use Rattle.path.specs.Bytes.{elemBytes}
 use Rattle.path_text.specs.TextReader.{each, element}
-use Rattle.path_text.proofs.Storing.{Storing, storing-start, storing-long, storing-none, storing-done, storing-turn, stores-to, stores-not, stored-to, stored-not}
 use Rattle.path_text.proofs.Reading.{some-left, next-inside, each-turn, each-unread, each-done, wrote-counted}
 use Rattle.path_text.proofs.reader.read_elements.Statement.{statement}
 use Rattle.path_text.proofs.reader.read_elements.Tie as tie
 
 abbrev Inv-loop : tie.InvT-loop
-Inv-loop text out₀ p₀ q₀ left₀ out p q left = Storing elemBytes out₀ 1 (each 47 16 element text 0) (16 - left) out q (each 47 left element text p) × (left ≤ 16) × (q + 586 * left ≤ 9377)
+Inv-loop text out₀ p₀ q₀ left₀ out p q left = Storing elemBytes out₀ 1 (each 47 16 element text 0) (16 - left) out q (each 47 left element text p) × (left ≤ 16) × Within (9377 - 586 * left) (17 - left) text 0 p 0 q
 
 abbrev μ-loop : tie.MeasureT-loop
 μ-loop text out₀ p₀ q₀ left₀ out p q left = left
@@ -20,7 +20,7 @@ abbrev μ-loop : tie.MeasureT-loop
 loop-holds : tie.Need-loop-holds Inv-loop μ-loop
 loop-holds c =
     let at-start = c .before .before in
-    (storing-start elemBytes _ _ _ (omega (arith, at-start .pre)), omega arith, omega arith)
+    (storing-start elemBytes _ _ _ (omega (arith, room-byte _ _ _ _ _ _ (at-start .pre) (omega arith) (omega arith))), omega arith, record { few = omega arith; near = omega arith; inside = at-start .pre .starts })
 
 byte-at-requires : tie.Need-byte-at-requires Inv-loop μ-loop
 byte-at-requires c κs = search needs
@@ -38,10 +38,10 @@ read-element-requires c κs =
     let at-if1 = c .before .if1 in
     let at-byte-at = c .before .before .byte-at in
     let at-loop = c .before .before .before .loop in
-    let at-start = c .before .before .before .before .before .before in (
-      omega (arith, next-inside 47 (at-loop .left) (at-start .args .text .now) (at-loop .p) _ (at-byte-at .ensures) (at-if1 .taken) (omega arith)),
-      omega (arith, storing-long _ _ _ _ _ _ _ _ (at-loop .inv .0), some-left 47 (at-loop .left) (at-start .args .text .now) (at-loop .p) _ (at-byte-at .ensures) (at-if1 .taken), at-loop .inv .2, at-start .pre),
-    )
+    let at-start = c .before .before .before .before .before .before in
+    let i = next-inside 47 (at-loop .left) (at-start .args .text .now) (at-loop .p) _ (at-byte-at .ensures) (at-if1 .taken) (omega arith) in
+    let z = some-left 47 (at-loop .left) (at-start .args .text .now) (at-loop .p) _ (at-byte-at .ensures) (at-if1 .taken) in
+    room-after _ _ _ _ _ _ (at-start .pre) _ _ _ _ (at-loop .inv .2) (omega (arith, storing-from _ _ _ _ _ _ _ _ (at-loop .inv .0))) 586 2 _ _ (storing-long _ _ _ _ _ _ _ _ (at-loop .inv .0)) (omega (arith, z, at-loop .inv .1)) (omega (arith, z, at-loop .inv .1)) (omega (arith, i))
 
 enum-known-e : tie.Need-enum-known-e Inv-loop μ-loop
 enum-known-e c = search needs
@@ -63,7 +63,7 @@ returns c =
     let at-byte-at = c .before .before .before .before .before .before .before .byte-at in
     let at-loop = c .before .before .before .before .before .before .before .before .loop in
     let at-start = c .before .before .before .before .before .before .before .before .before .before .before in
-    stores-not (storing-none _ _ _ _ _ _ _ _ (at-loop .inv .0) (each-unread 47 (at-loop .left) (at-start .args .text .now) (at-loop .p) _ (at-byte-at .ensures) (at-if1 .taken) element (stored-not (at-read-element .ensures) (at-enum-told .given .1))))
+    nothing (storing-none _ _ _ _ _ _ _ _ (at-loop .inv .0) (each-unread 47 (at-loop .left) (at-start .args .text .now) (at-loop .p) _ (at-byte-at .ensures) (at-if1 .taken) element (stored-not (at-read-element .ensures) (at-enum-told .given .1))))
 
 sub-left : tie.Need-sub-left Inv-loop μ-loop
 sub-left c =
@@ -91,11 +91,14 @@ loop-again c =
     let at-start = c .before .before .before .before .before .before .before .before .before .before .before .before in
     let u = stored-to (at-read-element .ensures) (at-e .given .1) in
     let z = some-left 47 (at-loop .left) (at-start .args .text .now) (at-loop .p) _ (at-byte-at .ensures) (at-if1 .taken) in
-    let l = storing-long _ _ _ _ _ _ _ _ (at-loop .inv .0) in (
+    let l = storing-long _ _ _ _ _ _ _ _ (at-loop .inv .0) in
+    let o = storing-from _ _ _ _ _ _ _ _ (at-loop .inv .0) in
+    let w = within-after (9377 - 586 * at-loop .left) (17 - at-loop .left) 586 2 (9377 - 586 * (at-loop .left - 1)) (17 - (at-loop .left - 1)) _ _ _ _ _ _ _ _ (at-loop .inv .2) (u .3) (omega (arith, z, at-loop .inv .1)) (omega (arith, z, at-loop .inv .1)) in
+    let f = room-end _ _ _ _ _ _ (at-start .pre) (9377 - 586 * (at-loop .left - 1)) (17 - (at-loop .left - 1)) _ _ w (omega (arith, u .2 .ends)) (omega arith) (omega arith) in (
       storing-turn _ _ _ _ _ _ _ _ (at-loop .inv .0) (u .0) _ _ _ _ (each-turn 47 (at-loop .left) (at-start .args .text .now) (at-loop .p) _ (at-byte-at .ensures) (at-if1 .taken) element (u .0) _ (u .1)) (u .2)
-          (omega (arith, u .2 .ends, u .3, l, z, at-loop .inv .2, at-start .pre)) (omega (arith, z, at-loop .inv .1)),
+          (omega (arith, u .2 .ends, f)) (omega (arith, z, at-loop .inv .1)),
       omega (arith, at-loop .inv .1),
-      omega (arith, u .3, z, at-loop .inv .2),
+      w,
     )
 
 sub-count : tie.Need-sub-count Inv-loop μ-loop
@@ -110,7 +113,7 @@ slice-write-out : tie.Need-slice-write-out Inv-loop μ-loop
 slice-write-out c =
     let at-loop = c .before .before .loop in
     let at-start = c .before .before .before .before .before in
-    omega (arith, storing-long _ _ _ _ _ _ _ _ (at-loop .inv .0), at-start .pre)
+    omega (arith, storing-long _ _ _ _ _ _ _ _ (at-loop .inv .0), room-byte _ _ _ _ _ _ (at-start .pre) (omega arith) (omega arith))
 
 same-length-2 : tie.Need-same-length-2 Inv-loop μ-loop
 same-length-2 c =
@@ -123,8 +126,8 @@ returns-2 c =
     let at-byte-at = c .before .byte-at in
     let at-loop = c .before .before .loop in
     let at-start = c .before .before .before .before .before in
-    stores-to (storing-done _ _ _ _ _ _ _ _ (at-loop .inv .0) _ (each-done 47 (at-loop .left) (at-start .args .text .now) (at-loop .p) _ (at-byte-at .ensures) (at-if1 .left) element))
-    (wrote-counted elemBytes _ _ _ _ _ _ (at-loop .inv .0 .count) (at-loop .inv .0 .room) (at-loop .inv .0 .wrote)) (omega (arith, at-loop .inv .2))
+    stores (storing-done _ _ _ _ _ _ _ _ (at-loop .inv .0) _ (each-done 47 (at-loop .left) (at-start .args .text .now) (at-loop .p) _ (at-byte-at .ensures) (at-if1 .left) element))
+    (wrote-counted elemBytes _ _ _ _ _ _ (at-loop .inv .0 .count) (at-loop .inv .0 .room) (at-loop .inv .0 .wrote)) (within-less _ _ _ _ _ _ _ _ _ (at-loop .inv .2) (omega arith) (omega arith))
 
 pub read-elements-spec : {M : Type 1} → statement M
 read-elements-spec =

@@ -1,10 +1,10 @@
 -- `read_key` stores the name, and then the value.
 use borrow.Author.Needs.{needs}
 use native.Mathlib.Omega.{arith}
+use Rattle.path_text.specs.Steps.{nothing}
+use Rattle.path_text.proofs.Storing.{stored-to, stored-not, room-less, room-end, room-then}
 use mathlib.Core.Path.{sym, _∙_}
-use Rattle.text.proofs.Filling.{wrote-long}
 use Rattle.path_text.proofs.Sound.{inside}
-use Rattle.path_text.proofs.Storing.{stores-not, stored-to, stored-not}
 use Rattle.path_text.proofs.Reading.{key-nameless, key-unequal, key-stores}
 use Rattle.path_text.proofs.reader.read_key.Statement.{statement}
 use Rattle.path_text.proofs.reader.read_key.Tie as tie
@@ -12,7 +12,7 @@ use Rattle.path_text.proofs.reader.read_key.Tie as tie
 read-name-requires : tie.Need-read-name-requires
 read-name-requires c κs =
     let at-start = c .before .before .before in
-    (at-start .pre .0, omega (arith, at-start .pre .1))
+    room-less _ _ _ _ _ _ (at-start .pre) 65 1 (omega arith) (omega arith)
 
 enum-known-n : tie.Need-enum-known-n
 enum-known-n c = search needs
@@ -27,7 +27,7 @@ returns : tie.Need-returns
 returns c =
     let at-enum-told = c .enum-told in
     let at-read-name = c .before .before .before .before .read-name in
-    stores-not (key-nameless _ _ (stored-not (at-read-name .ensures) (at-enum-told .given .1)))
+    nothing (key-nameless _ _ (stored-not (at-read-name .ensures) (at-enum-told .given .1)))
 
 byte-at-requires : tie.Need-byte-at-requires
 byte-at-requires c κs = search needs
@@ -41,7 +41,7 @@ returns-2 c =
     let at-byte-at = c .before .byte-at in
     let at-n = c .before .before .before .n in
     let at-read-name = c .before .before .before .before .before .before .before .read-name in
-    let u = stored-to (at-read-name .ensures) (at-n .given .1) in stores-not (key-unequal _ _ _ _ (u .1) (λ z. at-if1 .taken (at-byte-at .ensures ∙ z)))
+    let u = stored-to (at-read-name .ensures) (at-n .given .1) in nothing (key-unequal _ _ _ _ (u .1) (λ z. at-if1 .taken (at-byte-at .ensures ∙ z)))
 
 add-read-value : tie.Need-add-read-value
 add-read-value c =
@@ -53,11 +53,14 @@ add-read-value c =
 
 read-value-requires : tie.Need-read-value-requires
 read-value-requires c κs =
+    let at-if1 = c .before .if1 in
+    let at-byte-at = c .before .before .byte-at in
     let at-n = c .before .before .before .before .n in
     let at-read-name = c .before .before .before .before .before .before .before .before .read-name in
     let at-start = c .before .before .before .before .before .before .before .before .before .before .before .before in
     let u = stored-to (at-read-name .ensures) (at-n .given .1) in
-    omega (arith, wrote-long _ _ _ _ _ (u .2) (omega (arith, u .2 .ends, u .3, at-start .pre .1)), u .3, at-start .pre .1)
+    room-then _ _ _ _ _ _ (at-start .pre) 65 1 _ _ (u .3) (omega (arith, u .2 .ends)) 65 1 _ _ _ (u .2) (omega arith) (omega arith) (omega arith) (omega arith)
+    (omega (arith, inside (at-start .args .text .now) (at-n .given .0 .0) 61 (omega arith) (sym (at-byte-at .ensures) ∙ at-if1 .left)))
 
 same-length-3 : tie.Need-same-length-3
 same-length-3 c = search needs
@@ -70,7 +73,8 @@ returns-3 c =
     let at-n = c .before .before .before .before .before .before .before .n in
     let at-read-name = c .before .before .before .before .before .before .before .before .before .before .before .read-name in
     let at-start = c .before .before .before .before .before .before .before .before .before .before .before .before .before .before .before in
-    let u = stored-to (at-read-name .ensures) (at-n .given .1) in key-stores _ _ _ _ _ _ _ _ _ _ (u .1) (sym (at-byte-at .ensures) ∙ at-if1 .left) (u .2) (u .3) (at-start .pre .1) (at-read-value .ensures)
+    let u = stored-to (at-read-name .ensures) (at-n .given .1) in
+    key-stores _ _ _ _ _ _ _ _ _ _ (u .1) (sym (at-byte-at .ensures) ∙ at-if1 .left) (u .2) (u .3) (room-end _ _ _ _ _ _ (at-start .pre) 65 1 _ _ (u .3) (omega (arith, u .2 .ends)) (omega arith) (omega arith)) (at-read-value .ensures)
 
 pub read-key-spec : {M : Type 1} → statement M
 read-key-spec =

@@ -1,29 +1,31 @@
 -- `read_keys` stores the keys, and then their count.
 use borrow.Author.Needs.{needs}
 use native.Mathlib.Omega.{arith}
-use mathlib.Core.Path.{_≡_, refl, sym, _∙_}
+use Rattle.path_text.specs.Steps.{Within, stores, nothing}
+use Rattle.path_text.proofs.Storing.{Storing, storing-start, storing-long, storing-from, storing-none, storing-done, storing-turn, stored-to, stored-not, within-after, within-less, room-byte, room-end, room-after}
 use Prim.Native.Nat.{_+_, _*_, _-_, _≤_}
 use lib.ListN.{length-set}
 use Rattle.path.specs.Bytes.{keyBytes}
 use Rattle.path_text.specs.TextReader.{each, key}
-use Rattle.path_text.proofs.Storing.{Storing, storing-start, storing-long, storing-none, storing-done, storing-turn, stores-to, stores-not, stored-to, stored-not}
 use Rattle.path_text.proofs.Reading.{some-left, next-inside, each-turn, each-unread, each-done, wrote-counted}
 use Rattle.path_text.proofs.reader.read_keys.Statement.{statement}
 use Rattle.path_text.proofs.reader.read_keys.Tie as tie
 
 abbrev Inv-loop : tie.InvT-loop
-Inv-loop text at out₀ to p₀ q₀ left₀ out p q left = Storing keyBytes out₀ (to + 1) (each 91 4 key text at) (4 - left) out q (each 91 left key text p) × (left ≤ 4) × (q + 130 * left ≤ to + 521)
+Inv-loop text at out₀ to p₀ q₀ left₀ out p q left = Storing keyBytes out₀ (to + 1) (each 91 4 key text at) (4 - left) out q (each 91 left key text p) × (left ≤ 4) × Within (521 - 130 * left) 1 text at p to q
 
 abbrev μ-loop : tie.MeasureT-loop
 μ-loop text at out₀ to p₀ q₀ left₀ out p q left = left
 
 add-q : tie.Need-add-q Inv-loop μ-loop
-add-q c = search needs
+add-q c =
+    let at-start = c .before .before in
+    omega (arith, room-byte _ _ _ _ _ _ (at-start .pre) (omega arith) (omega arith))
 
 loop-holds : tie.Need-loop-holds Inv-loop μ-loop
 loop-holds c =
     let at-start = c .before .before in
-    (storing-start keyBytes _ _ _ (omega (arith, at-start .pre)), omega arith, omega arith)
+    (storing-start keyBytes _ _ _ (omega (arith, room-byte _ _ _ _ _ _ (at-start .pre) (omega arith) (omega arith))), omega arith, record { few = omega arith; near = omega arith; inside = at-start .pre .starts })
 
 byte-at-requires : tie.Need-byte-at-requires Inv-loop μ-loop
 byte-at-requires c κs = search needs
@@ -41,10 +43,10 @@ read-key-requires c κs =
     let at-if1 = c .before .if1 in
     let at-byte-at = c .before .before .byte-at in
     let at-loop = c .before .before .before .loop in
-    let at-start = c .before .before .before .before .before .before in (
-      omega (arith, next-inside 91 (at-loop .left) (at-start .args .text .now) (at-loop .p) _ (at-byte-at .ensures) (at-if1 .taken) (omega arith)),
-      omega (arith, storing-long _ _ _ _ _ _ _ _ (at-loop .inv .0), some-left 91 (at-loop .left) (at-start .args .text .now) (at-loop .p) _ (at-byte-at .ensures) (at-if1 .taken), at-loop .inv .2, at-start .pre),
-    )
+    let at-start = c .before .before .before .before .before .before in
+    let i = next-inside 91 (at-loop .left) (at-start .args .text .now) (at-loop .p) _ (at-byte-at .ensures) (at-if1 .taken) (omega arith) in
+    let z = some-left 91 (at-loop .left) (at-start .args .text .now) (at-loop .p) _ (at-byte-at .ensures) (at-if1 .taken) in
+    room-after _ _ _ _ _ _ (at-start .pre) _ _ _ _ (at-loop .inv .2) (omega (arith, storing-from _ _ _ _ _ _ _ _ (at-loop .inv .0))) 130 1 _ _ (storing-long _ _ _ _ _ _ _ _ (at-loop .inv .0)) (omega (arith, z, at-loop .inv .1)) (omega (arith, z, at-loop .inv .1)) (omega (arith, i))
 
 enum-known-k : tie.Need-enum-known-k Inv-loop μ-loop
 enum-known-k c = search needs
@@ -66,7 +68,7 @@ returns c =
     let at-byte-at = c .before .before .before .before .before .before .before .byte-at in
     let at-loop = c .before .before .before .before .before .before .before .before .loop in
     let at-start = c .before .before .before .before .before .before .before .before .before .before .before in
-    stores-not (storing-none _ _ _ _ _ _ _ _ (at-loop .inv .0) (each-unread 91 (at-loop .left) (at-start .args .text .now) (at-loop .p) _ (at-byte-at .ensures) (at-if1 .taken) key (stored-not (at-read-key .ensures) (at-enum-told .given .1))))
+    nothing (storing-none _ _ _ _ _ _ _ _ (at-loop .inv .0) (each-unread 91 (at-loop .left) (at-start .args .text .now) (at-loop .p) _ (at-byte-at .ensures) (at-if1 .taken) key (stored-not (at-read-key .ensures) (at-enum-told .given .1))))
 
 sub-left : tie.Need-sub-left Inv-loop μ-loop
 sub-left c =
@@ -94,11 +96,14 @@ loop-again c =
     let at-start = c .before .before .before .before .before .before .before .before .before .before .before .before in
     let u = stored-to (at-read-key .ensures) (at-k .given .1) in
     let z = some-left 91 (at-loop .left) (at-start .args .text .now) (at-loop .p) _ (at-byte-at .ensures) (at-if1 .taken) in
-    let l = storing-long _ _ _ _ _ _ _ _ (at-loop .inv .0) in (
+    let l = storing-long _ _ _ _ _ _ _ _ (at-loop .inv .0) in
+    let o = storing-from _ _ _ _ _ _ _ _ (at-loop .inv .0) in
+    let w = within-after (521 - 130 * at-loop .left) 1 130 1 (521 - 130 * (at-loop .left - 1)) 1 _ _ _ _ _ _ _ _ (at-loop .inv .2) (u .3) (omega (arith, z, at-loop .inv .1)) (omega (arith, z, at-loop .inv .1)) in
+    let f = room-end _ _ _ _ _ _ (at-start .pre) (521 - 130 * (at-loop .left - 1)) 1 _ _ w (omega (arith, u .2 .ends)) (omega arith) (omega arith) in (
       storing-turn _ _ _ _ _ _ _ _ (at-loop .inv .0) (u .0) _ _ _ _ (each-turn 91 (at-loop .left) (at-start .args .text .now) (at-loop .p) _ (at-byte-at .ensures) (at-if1 .taken) key (u .0) _ (u .1)) (u .2)
-          (omega (arith, u .2 .ends, u .3, l, z, at-loop .inv .2, at-start .pre)) (omega (arith, z, at-loop .inv .1)),
+          (omega (arith, u .2 .ends, f)) (omega (arith, z, at-loop .inv .1)),
       omega (arith, at-loop .inv .1),
-      omega (arith, u .3, z, at-loop .inv .2),
+      w,
     )
 
 sub-count : tie.Need-sub-count Inv-loop μ-loop
@@ -113,7 +118,7 @@ slice-write-out : tie.Need-slice-write-out Inv-loop μ-loop
 slice-write-out c =
     let at-loop = c .before .before .loop in
     let at-start = c .before .before .before .before .before in
-    omega (arith, storing-long _ _ _ _ _ _ _ _ (at-loop .inv .0), at-start .pre)
+    omega (arith, storing-long _ _ _ _ _ _ _ _ (at-loop .inv .0), room-byte _ _ _ _ _ _ (at-start .pre) (omega arith) (omega arith))
 
 same-length-2 : tie.Need-same-length-2 Inv-loop μ-loop
 same-length-2 c =
@@ -126,8 +131,8 @@ returns-2 c =
     let at-byte-at = c .before .byte-at in
     let at-loop = c .before .before .loop in
     let at-start = c .before .before .before .before .before in
-    stores-to (storing-done _ _ _ _ _ _ _ _ (at-loop .inv .0) _ (each-done 91 (at-loop .left) (at-start .args .text .now) (at-loop .p) _ (at-byte-at .ensures) (at-if1 .left) key))
-    (wrote-counted keyBytes _ _ _ _ _ _ (at-loop .inv .0 .count) (at-loop .inv .0 .room) (at-loop .inv .0 .wrote)) (omega (arith, at-loop .inv .2))
+    stores (storing-done _ _ _ _ _ _ _ _ (at-loop .inv .0) _ (each-done 91 (at-loop .left) (at-start .args .text .now) (at-loop .p) _ (at-byte-at .ensures) (at-if1 .left) key))
+    (wrote-counted keyBytes _ _ _ _ _ _ (at-loop .inv .0 .count) (at-loop .inv .0 .room) (at-loop .inv .0 .wrote)) (within-less _ _ _ _ _ _ _ _ _ (at-loop .inv .2) (omega arith) (omega arith))
 
 pub read-keys-spec : {M : Type 1} → statement M
 read-keys-spec =

@@ -1,24 +1,26 @@
 -- `read_plain` stores the bytes of the value, one after another.
 use borrow.Author.Needs.{needs}
 use native.Mathlib.Omega.{arith}
-use mathlib.Core.Path.{_≡_, refl, sym, _∙_}
-use Prim.Native.Nat.{_+_, _-_, _≤_}
+use Rattle.path_text.specs.Steps.{Within, stores, nothing}
+use Rattle.path_text.proofs.Storing.{storing-from, room-start, Storing, storing-start, storing-long, storing-none, storing-done, storing-turn}
+use Rattle.path_text.proofs.Reading.{byte-inside, plain-turn, plain-room, plain-end, single, wrote-plain, end-inside, value-end, value-stop, value-full, value-turn}
+use Prim.Native.Nat.{_-_, _≤_}
 use Rattle.text.proofs.Filling.{wrote-byte}
 use Rattle.path_text.specs.TextReader.{value}
 use Rattle.path_text.proofs.Sound.{inside}
-use Rattle.path_text.proofs.Storing.{Storing, storing-start, storing-long, storing-none, storing-done, storing-turn, stores-to, stores-not}
-use Rattle.path_text.proofs.Reading.{single, wrote-plain, end-inside, value-end, value-stop, value-full, value-turn}
 use Rattle.path_text.proofs.reader.read_plain.Statement.{statement}
 use Rattle.path_text.proofs.reader.read_plain.Tie as tie
 
 abbrev Inv-loop : tie.InvT-loop
-Inv-loop text at out₀ to p₀ q₀ left₀ out p q left = Storing single out₀ to (value 64 text at) (64 - left) out q (value left text p) × (left ≤ 64) × (q + left ≡ to + 64)
+Inv-loop text at out₀ to p₀ q₀ left₀ out p q left = Storing single out₀ to (value 64 text at) (64 - left) out q (value left text p) × (left ≤ 64) × Within (64 - left) 0 text at p to q
 
 abbrev μ-loop : tie.MeasureT-loop
 μ-loop text at out₀ to p₀ q₀ left₀ out p q left = left
 
 loop-holds : tie.Need-loop-holds Inv-loop μ-loop
-loop-holds c = (storing-start single _ _ _ (omega arith), omega arith, refl)
+loop-holds c =
+    let at-start = c .before .before in
+    (storing-start single _ _ _ (room-start _ _ _ _ _ _ (at-start .pre)), omega arith, record { few = omega arith; near = omega arith; inside = at-start .pre .starts })
 
 read-item-requires : tie.Need-read-item-requires Inv-loop μ-loop
 read-item-requires c κs = search needs
@@ -37,21 +39,25 @@ returns c =
     let at-i = c .before .before .i in
     let at-read-item = c .before .before .before .before .read-item in
     let at-loop = c .before .before .before .before .before .loop in
-    stores-not (storing-none _ _ _ _ _ _ _ _ (at-loop .inv .0) (value-full _ _ _ (at-read-item .ensures) (at-loop .left) _ _ (at-if1 .taken) (at-i .given .1)))
+    nothing (storing-none _ _ _ _ _ _ _ _ (at-loop .inv .0) (value-full _ _ _ (at-read-item .ensures) (at-loop .left) _ _ (at-if1 .taken) (at-i .given .1)))
 
 slice-write-out : tie.Need-slice-write-out Inv-loop μ-loop
 slice-write-out c =
     let at-if1 = c .if1 in
+    let at-i = c .before .before .i in
+    let at-read-item = c .before .before .before .before .read-item in
     let at-loop = c .before .before .before .before .before .loop in
     let at-start = c .before .before .before .before .before .before .before .before in
-    omega (arith, storing-long _ _ _ _ _ _ _ _ (at-loop .inv .0), at-loop .inv .2, at-start .pre, at-if1 .left)
+    omega (arith, plain-room _ _ (at-loop .left) _ _ _ (at-loop .inv .2) (at-loop .inv .1) _ (byte-inside _ _ _ (at-read-item .ensures) _ _ (at-i .given .1)) (at-if1 .left) _ (at-start .pre) (storing-from _ _ _ _ _ _ _ _ (at-loop .inv .0)), storing-long _ _ _ _ _ _ _ _ (at-loop .inv .0))
 
 add-q : tie.Need-add-q Inv-loop μ-loop
 add-q c =
     let at-if1 = c .if1 in
+    let at-i = c .before .before .i in
+    let at-read-item = c .before .before .before .before .read-item in
     let at-loop = c .before .before .before .before .before .loop in
     let at-start = c .before .before .before .before .before .before .before .before in
-    omega (arith, at-loop .inv .2, at-start .pre, at-if1 .left)
+    omega (arith, plain-room _ _ (at-loop .left) _ _ _ (at-loop .inv .2) (at-loop .inv .1) _ (byte-inside _ _ _ (at-read-item .ensures) _ _ (at-i .given .1)) (at-if1 .left) _ (at-start .pre) (storing-from _ _ _ _ _ _ _ _ (at-loop .inv .0)))
 
 sub-left : tie.Need-sub-left Inv-loop μ-loop
 sub-left c =
@@ -69,13 +75,14 @@ loop-again c =
     let at-i = c .before .before .i in
     let at-read-item = c .before .before .before .before .read-item in
     let at-loop = c .before .before .before .before .before .loop in
-    let at-start = c .before .before .before .before .before .before .before .before in (
+    let at-start = c .before .before .before .before .before .before .before .before in
+    let i = byte-inside _ _ _ (at-read-item .ensures) _ _ (at-i .given .1) in
+    let l = plain-room _ _ (at-loop .left) _ _ _ (at-loop .inv .2) (at-loop .inv .1) _ i (at-if1 .left) _ (at-start .pre) (storing-from _ _ _ _ _ _ _ _ (at-loop .inv .0)) in
+    let o = storing-long _ _ _ _ _ _ _ _ (at-loop .inv .0) in (
       storing-turn _ _ _ _ _ _ _ _ (at-loop .inv .0) _ _ _ _ _ (value-turn _ _ _ (at-read-item .ensures) (at-loop .left) _ _ (at-if1 .left) (at-i .given .1))
-          (wrote-byte _ _ _ (omega (arith, storing-long _ _ _ _ _ _ _ _ (at-loop .inv .0), at-loop .inv .2, at-start .pre, at-if1 .left)))
-          (omega (arith, storing-long _ _ _ _ _ _ _ _ (at-loop .inv .0), at-loop .inv .2, at-start .pre, at-if1 .left))
-          (omega (arith, at-loop .inv .1, at-if1 .left)),
+          (wrote-byte _ _ _ (omega arith)) (omega arith) (omega (arith, at-loop .inv .1, at-if1 .left)),
       omega (arith, at-loop .inv .1),
-      omega (arith, at-loop .inv .2, at-if1 .left),
+      plain-turn _ _ (at-loop .left) _ _ _ (at-loop .inv .2) (at-loop .inv .1) _ i (at-if1 .left),
     )
 
 enum-told : tie.Need-enum-told Inv-loop μ-loop
@@ -99,7 +106,9 @@ returns-2 c =
     let at-enum-told = c .enum-told in
     let at-read-item = c .before .before .read-item in
     let at-loop = c .before .before .before .loop in
-    stores-to (storing-done _ _ _ _ _ _ _ _ (at-loop .inv .0) _ (value-end _ _ _ (at-read-item .ensures) (at-loop .left) (at-enum-told .given .1))) (wrote-plain _ _ _ _ _ (at-loop .inv .0 .wrote)) (omega (arith, at-loop .inv .2))
+    let at-start = c .before .before .before .before .before .before in
+    stores (storing-done _ _ _ _ _ _ _ _ (at-loop .inv .0) _ (value-end _ _ _ (at-read-item .ensures) (at-loop .left) (at-enum-told .given .1))) (wrote-plain _ _ _ _ _ (at-loop .inv .0 .wrote))
+    (plain-end _ _ (at-loop .left) _ _ _ (at-loop .inv .2) (at-loop .inv .1) (inside (at-start .args .text .now) (at-loop .p) 93 (omega arith) (end-inside (at-start .args .text .now) (at-loop .p) _ (at-read-item .ensures) (at-enum-told .given .1))))
 
 enum-told-2 : tie.Need-enum-told-2 Inv-loop μ-loop
 enum-told-2 c = search needs
@@ -114,7 +123,7 @@ returns-3 c =
     let at-enum-told2 = c .enum-told2 in
     let at-read-item = c .before .before .read-item in
     let at-loop = c .before .before .before .loop in
-    stores-not (storing-none _ _ _ _ _ _ _ _ (at-loop .inv .0) (value-stop _ _ _ (at-read-item .ensures) (at-loop .left) (at-enum-told2 .given .1)))
+    nothing (storing-none _ _ _ _ _ _ _ _ (at-loop .inv .0) (value-stop _ _ _ (at-read-item .ensures) (at-loop .left) (at-enum-told2 .given .1)))
 
 pub read-plain-spec : {M : Type 1} → statement M
 read-plain-spec =

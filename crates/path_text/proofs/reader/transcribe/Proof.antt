@@ -1,7 +1,8 @@
 -- `transcribe` stores the bytes of the good path whose text it is given: what was stored is checked as path bytes.
 use borrow.Author.Needs.{needs}
 use native.Mathlib.Omega.{arith}
-use mathlib.Core.Path.{_≡_, refl, sym, _∙_}
+use Rattle.path_text.proofs.Storing.{room-byte}
+use mathlib.Core.Path.{sym}
 use borrow.Author.Tests.{not-true, not-false}
 use lib.Seq.{length-take-le}
 use Rattle.path_text.proofs.Answers.{root-transcribed, empty-transcribed, none-transcribed, end-fits, part-transcribed, bad-transcribed, good-transcribed}
@@ -15,7 +16,9 @@ is-same-requires : tie.Need-is-same-requires
 is-same-requires c κs = search needs
 
 slice-write-out : tie.Need-slice-write-out
-slice-write-out c = search needs
+slice-write-out c =
+    let at-start = c .before .before .before .before .before in
+    room-byte _ _ _ _ _ _ (at-start .pre) (omega arith) (omega arith)
 
 same-length : tie.Need-same-length
 same-length c = search needs
@@ -25,7 +28,7 @@ returns c =
     let at-if1 = c .if1 in
     let at-is-same = c .before .is-same in
     let at-start = c .before .before .before .before .before in
-    root-transcribed _ _ (at-is-same .ensures) _ (at-if1 .taken) (at-start .pre)
+    root-transcribed _ _ (at-is-same .ensures) _ (at-if1 .taken) (room-byte _ _ _ _ _ _ (at-start .pre) (omega arith) (omega arith))
 
 returns-2 : tie.Need-returns-2
 returns-2 c =
@@ -35,7 +38,9 @@ returns-2 c =
     empty-transcribed _ _ (at-is-same .ensures) _ (at-if1 .left) _ (at-if2 .taken)
 
 read-elements-requires : tie.Need-read-elements-requires
-read-elements-requires c κs = search needs
+read-elements-requires c κs =
+    let at-start = c .before .before .before .before .before .before .before in
+    at-start .pre
 
 enum-known-e : tie.Need-enum-known-e
 enum-known-e c = search needs
@@ -76,7 +81,7 @@ slice-reshare-prefix-is-path c =
     let at-if1 = c .before .before .before .before .before .before .before .before .before .if1 in
     let at-is-same = c .before .before .before .before .before .before .before .before .before .before .is-same in
     let at-start = c .before .before .before .before .before .before .before .before .before .before .before .before .before .before in
-    omega (arith, end-fits _ _ (at-is-same .ensures) _ (at-if1 .left) _ (at-if2 .left) _ (at-read-elements .ensures) _ _ (at-e .given .1), at-start .pre)
+    omega (arith, end-fits _ _ (at-is-same .ensures) _ (at-if1 .left) _ (at-if2 .left) _ (at-read-elements .ensures) _ _ (at-e .given .1) (at-start .pre))
 
 slice-aggregate-is-path : tie.Need-slice-aggregate-is-path
 slice-aggregate-is-path c =
@@ -86,7 +91,7 @@ slice-aggregate-is-path c =
     let at-if1 = c .before .before .before .before .before .before .before .before .before .before .if1 in
     let at-is-same = c .before .before .before .before .before .before .before .before .before .before .before .is-same in
     let at-start = c .before .before .before .before .before .before .before .before .before .before .before .before .before .before .before in
-    sym (length-take-le _ _ (omega (arith, end-fits _ _ (at-is-same .ensures) _ (at-if1 .left) _ (at-if2 .left) _ (at-read-elements .ensures) _ _ (at-e .given .1), at-start .pre)))
+    sym (length-take-le _ _ (omega (arith, end-fits _ _ (at-is-same .ensures) _ (at-if1 .left) _ (at-if2 .left) _ (at-read-elements .ensures) _ _ (at-e .given .1) (at-start .pre))))
 
 is-path-requires : tie.Need-is-path-requires
 is-path-requires c κs = search needs
@@ -119,7 +124,8 @@ returns-6 c =
     let at-if2 = c .before .before .before .before .before .before .before .before .before .before .before .if2 in
     let at-if1 = c .before .before .before .before .before .before .before .before .before .before .before .before .if1 in
     let at-is-same = c .before .before .before .before .before .before .before .before .before .before .before .before .before .is-same in
-    good-transcribed _ _ (at-is-same .ensures) _ (at-if1 .left) _ (at-if2 .left) _ (at-read-elements .ensures) _ _ (at-e .given .1) (at-if3 .left) _ (at-is-path .ensures) (not-false _ (at-if4 .left))
+    let at-start = c .before .before .before .before .before .before .before .before .before .before .before .before .before .before .before .before .before in
+    good-transcribed _ _ (at-is-same .ensures) _ (at-if1 .left) _ (at-if2 .left) _ (at-read-elements .ensures) _ _ (at-e .given .1) (at-if3 .left) _ (at-is-path .ensures) (not-false _ (at-if4 .left)) (at-start .pre)
 
 pub transcribe-spec : {M : Type 1} → statement M
 transcribe-spec =

@@ -1,12 +1,8 @@
--- `write_text` answers and leaves what the definitions say: the text is made apart, and copied where it fits.
+-- `write_text` answers and leaves what the definitions say: the text is stored where it is asked for if there is surely room, and is made apart otherwise.
 use borrow.Author.Needs.{needs}
-use native.Mathlib.Omega.{arith}
 use borrow.Author.Tests.{not-true, not-false}
 use mathlib.Core.Path.{sym, _∙_}
-use lib.ListN.{length-take, length-replicate}
-use lib.Seq.{length-take-le}
-use Prim.Native.Nat.{ℕ}
-use Rattle.path_text.proofs.Answers.{refused, unfit, filled, text-bad, text-good, text-fits}
+use Rattle.path_text.proofs.Answers.{refused, stored-there, text-bad, text-good, text-fits, text-room}
 use Rattle.path_text.proofs.writer.write_text.Statement.{statement}
 use Rattle.path_text.proofs.writer.write_text.Tie as tie
 
@@ -20,56 +16,38 @@ returns c =
     let at-start = c .before .before .before .before in
     refused (at-start .args .out .now) _ (text-bad (at-start .args .f .now) _ (at-is-path .ensures) (not-true _ (at-if1 .taken)))
 
-slice-aggregate-write-path : tie.Need-slice-aggregate-write-path
-slice-aggregate-write-path c = search needs
-
 write-path-requires : tie.Need-write-path-requires
 write-path-requires c κs =
-    let at-if1 = c .before .if1 in
-    let at-is-path = c .before .before .is-path in
-    let at-start = c .before .before .before .before .before in
-    text-fits (at-start .args .f .now) _ (at-is-path .ensures) (not-false _ (at-if1 .left))
-
-returns-2 : tie.Need-returns-2
-returns-2 c =
-    let at-if2 = c .if2 in
-    let at-write-path = c .before .before .write-path in
-    let at-if1 = c .before .before .before .before .if1 in
-    let at-is-path = c .before .before .before .before .before .is-path in
-    let at-start = c .before .before .before .before .before .before .before .before in
-    unfit (at-start .args .out .now) _ _ (text-good (at-start .args .f .now) _ (at-is-path .ensures) (not-false _ (at-if1 .left))) _ _ _ (at-write-path .ensures) (at-if2 .taken)
-
-array-share-prefix-text : tie.Need-array-share-prefix-text
-array-share-prefix-text c =
-    let at-write-path = c .before .before .write-path in
-    let at-if1 = c .before .before .before .before .if1 in
-    let at-is-path = c .before .before .before .before .before .is-path in
-    let at-start = c .before .before .before .before .before .before .before .before in
-    let h = text-fits (at-start .args .f .now) _ (at-is-path .ensures) (not-false _ (at-if1 .left)) in omega (arith, h .1, at-write-path .ensures .ends, at-write-path .kept .1 .0, length-replicate {A = ℕ} 13520 0)
-
-slice-aggregate-copy : tie.Need-slice-aggregate-copy
-slice-aggregate-copy c =
-    let at-write-path = c .before .before .before .write-path in
-    let at-if1 = c .before .before .before .before .before .if1 in
-    let at-is-path = c .before .before .before .before .before .before .is-path in
-    let at-start = c .before .before .before .before .before .before .before .before .before in
-    sym (length-take-le _ _ (let h = text-fits (at-start .args .f .now) _ (at-is-path .ensures) (not-false _ (at-if1 .left)) in omega (arith, h .1, at-write-path .ensures .ends, at-write-path .kept .1 .0, length-replicate {A = ℕ} 13520 0)))
-
-copy-requires : tie.Need-copy-requires
-copy-requires c κs = simp length-take (omega arith)
+    let at-if2 = c .before .if2 in
+    let at-if1 = c .before .before .if1 in
+    let at-is-path = c .before .before .before .is-path in
+    let at-start = c .before .before .before .before .before .before in
+    (text-fits (at-start .args .f .now) _ (at-is-path .ensures) (not-false _ (at-if1 .left)) .0, text-room (at-start .args .f .now) _ (at-is-path .ensures) (at-start .args .out .now) (not-false _ (at-if1 .left)) (at-if2 .taken))
 
 same-length : tie.Need-same-length
 same-length c = search needs
 
+returns-2 : tie.Need-returns-2
+returns-2 c =
+    let at-write-path = c .before .before .write-path in
+    let at-if2 = c .before .before .before .before .if2 in
+    let at-if1 = c .before .before .before .before .before .if1 in
+    let at-is-path = c .before .before .before .before .before .before .is-path in
+    let at-start = c .before .before .before .before .before .before .before .before .before in
+    stored-there (at-start .args .out .now) _ _ (text-good (at-start .args .f .now) _ (at-is-path .ensures) (not-false _ (at-if1 .left)))
+    (text-room (at-start .args .f .now) _ (at-is-path .ensures) (at-start .args .out .now) (not-false _ (at-if1 .left)) (at-if2 .taken)) _ _ (at-write-path .ensures)
+
+write-apart-requires : tie.Need-write-apart-requires
+write-apart-requires c κs =
+    let at-if1 = c .before .before .if1 in
+    let at-is-path = c .before .before .before .is-path in
+    sym (not-false _ (at-if1 .left)) ∙ at-is-path .ensures
+
+same-length-2 : tie.Need-same-length-2
+same-length-2 c = search needs
+
 returns-3 : tie.Need-returns-3
-returns-3 c =
-    let at-copy = c .before .before .copy in
-    let at-if2 = c .before .before .before .before .before .if2 in
-    let at-write-path = c .before .before .before .before .before .before .before .write-path in
-    let at-if1 = c .before .before .before .before .before .before .before .before .before .if1 in
-    let at-is-path = c .before .before .before .before .before .before .before .before .before .before .is-path in
-    let at-start = c .before .before .before .before .before .before .before .before .before .before .before .before .before in
-    filled (at-start .args .out .now) _ _ (text-good (at-start .args .f .now) _ (at-is-path .ensures) (not-false _ (at-if1 .left))) _ _ _ (at-write-path .ensures) (at-if2 .left) _ (at-copy .ensures)
+returns-3 c = search needs
 
 pub write-text-spec : {M : Type 1} → statement M
 write-text-spec =
@@ -77,11 +55,9 @@ write-text-spec =
     (tie.spec
     is-path-requires
     returns
-    slice-aggregate-write-path
     write-path-requires
-    returns-2
-    array-share-prefix-text
-    slice-aggregate-copy
-    copy-requires
     same-length
+    returns-2
+    write-apart-requires
+    same-length-2
     returns-3)

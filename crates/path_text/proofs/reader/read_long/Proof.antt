@@ -1,0 +1,21 @@
+-- `read_long`: there is room apart for the longest path bytes.
+use borrow.Author.Needs.{needs}
+use native.Mathlib.Omega.{arith}
+use Rattle.path_text.proofs.reader.read_long.Statement.{statement}
+use Rattle.path_text.proofs.reader.read_long.Tie as tie
+
+slice-aggregate-read-apart : tie.Need-slice-aggregate-read-apart
+slice-aggregate-read-apart c = search needs
+
+read-apart-requires : tie.Need-read-apart-requires
+read-apart-requires c κs = record { starts = omega arith; fits = λ n f g. omega arith }
+
+same-length : tie.Need-same-length
+same-length c = search needs
+
+returns : tie.Need-returns
+returns c = search needs
+
+pub read-long-spec : {M : Type 1} → statement M
+read-long-spec =
+    tie.close (tie.spec slice-aggregate-read-apart read-apart-requires same-length returns)
