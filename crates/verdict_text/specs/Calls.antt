@@ -1,5 +1,5 @@
 -- The answers of the two verdict calls, over the texts that they are given.
-use Prim.Native.Nat.{ℕ, _+_, _*_}
+use Prim.Native.Nat.{ℕ, _+_, _*_, _%_}
 use mathlib.Core.Bool.{Bool, true, false, not}
 use mathlib.Core.List.{List, []}
 use mathlib.Core.Option.{Option, none, some}
@@ -77,7 +77,7 @@ unfoldable pub pathWord : PathAnswer → ℕ
 pathWord (path.Permit r) = 256 + 65536 * (r .0 + 1)
 pathWord (path.Deny r) = 65536 * (r .0 + 1)
 pathWord path.Default = 0
-pathWord (path.Refused n l) = n + 256 * l
+pathWord (path.Refused n l) = n + 256 * (l % 4294967296)
 
 -- ---- the tree verdict
 
@@ -99,4 +99,4 @@ unfoldable pub treeWord : TreeAnswer → ℕ
 treeWord trees.All = 256
 treeWord trees.None = 0
 treeWord (trees.Mixed r) = 512 + 65536 * (r .0 + 1)
-treeWord (trees.Refused n l) = n + 256 * l
+treeWord (trees.Refused n l) = n + 256 * (l % 4294967296)

@@ -1,6 +1,7 @@
 // The single-path verdict and the tree verdict on texts.
 pub mod answer;
 pub mod request;
+pub mod word;
 
 use table::RuleNumber;
 
