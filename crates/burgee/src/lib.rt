@@ -5,6 +5,7 @@ ghost use mathlib.Core.Path.{_≡_};
 ghost use Rattle.path_text.specs.Calls.{bytesFor, textFor, answer, lent};
 ghost use Rattle.table.specs.Text.{check};
 ghost use Rattle.table.specs.Group.{groupCount};
+ghost use Rattle.verdict_text.specs.Calls.{pathVerdict, treeVerdict, pathWord, treeWord};
 ghost use Rattle.burgee.specs.Word.{filledWord, checkedWord, countedWord};
 
 // Path text to path bytes.
@@ -37,4 +38,32 @@ pub extern "C" fn burgee_group_count(table: &[u8], user: &[u8]) -> u64
     ensures { λ r. ⌜ r ≡ countedWord (groupCount (now (table .entry)) (now (user .entry))) ⌝ }
 {
     word::of_counted(groups::count_groups(table, user))
+}
+
+// The action for one path, and the deciding rule.
+#[no_mangle]
+pub extern "C" fn burgee_path_verdict(
+    table: &[u8],
+    user: &[u8],
+    mode: u32,
+    origin: &[u8],
+    path: &[u8],
+) -> u64
+    ensures { λ r. ⌜ r ≡ pathWord (pathVerdict (now (table .entry)) (now (user .entry)) mode (now (origin .entry)) (now (path .entry))) ⌝ }
+{
+    verdict_text::word::of_path(verdicts::path_verdict(table, user, mode, origin, path))
+}
+
+// ALL, NONE or MIXED for the paths at or beneath, and the rule that MIXED names.
+#[no_mangle]
+pub extern "C" fn burgee_tree_verdict(
+    table: &[u8],
+    user: &[u8],
+    mode: u32,
+    origin: &[u8],
+    path: &[u8],
+) -> u64
+    ensures { λ r. ⌜ r ≡ treeWord (treeVerdict (now (table .entry)) (now (user .entry)) mode (now (origin .entry)) (now (path .entry))) ⌝ }
+{
+    verdict_text::word::of_tree(verdicts::tree_verdict(table, user, mode, origin, path))
 }

@@ -1,2 +1,3 @@
 pub mod Demands
 pub mod ComesBack
+pub mod Verdicts

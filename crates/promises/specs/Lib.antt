@@ -1,1 +1,2 @@
 pub mod PathReturn
+pub mod Verdicts

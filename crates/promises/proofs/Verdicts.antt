@@ -1,0 +1,78 @@
+-- Demand 3, kept.
+use mathlib.Core.Path.{_≡_, refl, sym, ap, _∙_}
+use mathlib.Core.Bool.{Bool, true, false, not}
+use mathlib.Core.List.{[]}
+use mathlib.Core.Option.{Option, none, some}
+use Prim.Native.Nat.{ℕ}
+use native.Mathlib.Omega.{arith}
+use borrow.Author.Tests.{not-true, eqb-true}
+use lib.Dec.{eqb}
+use Rattle.text.specs.Test.{_or_, if_then_else_}
+use Rattle.text.specs.String.{Str}
+use Rattle.text.specs.Refusal.{_when_else_, clear}
+use Rattle.text.proofs.Tests.{by, clash, or-false-l, or-false-r}
+use Rattle.path.specs.Path.{Path}
+use Rattle.path.specs.Faults.{overLimit, strayByte, misplaced, keyTwice, goodPath}
+use Rattle.path_text.specs.TextReader.{readText}
+use Rattle.path_text.proofs.RoundTrip.{text-reader}
+use Rattle.table.specs.Table.{Table}
+use Rattle.table.specs.Text.{check, tableOf}
+use Rattle.table.specs.Group.{badUser}
+use Rattle.table.specs.declared.Checked.{Checked}
+use Rattle.table.specs.declared.Checked.the-variants.{Accepted}
+use Rattle.verdict.specs.Verdict.{Request, decider, tree}
+use Rattle.verdict.proofs.Theorems.{verdict, verdict-unique, tree-verdict, reordered}
+use Rattle.acceptance.specs.Reordering.{ReorderedLines}
+use Rattle.acceptance.proofs.Reordered.{accepted-again, tables-reordered, accepted-orderly}
+use Rattle.verdict_text.specs.Calls.{badMode, badOrigin, unspelled, requestRefusal, spelled, request, pathAnswer, pathVerdict, treeAnswer, treeVerdict, decidedBy, spread}
+use Rattle.promises.specs.Verdicts.{PathPromise, TreePromise, OrderPromise}
+
+-- ---- an accepted request has a path with no key twice
+
+spelled-well : (a b c : Bool) → (20 when a else 21 when b else 22 when c else clear) ≡ clear → c ≡ false
+unfolding if_then_else_
+spelled-well true b c e = absurd (omega arith)
+spelled-well false true c e = absurd (omega arith)
+spelled-well false false true e = absurd (omega arith)
+spelled-well false false false e = refl
+
+is-spelled : (user : Str) (mode : ℕ) (origin text : Str) → requestRefusal user mode origin text ≡ clear → unspelled (readText text) ≡ false
+unfolding requestRefusal
+is-spelled user mode origin text e = spelled-well (badUser user or badMode mode) (badOrigin origin) _ e
+
+no-key-twice : (p : Path) → goodPath p ≡ true → keyTwice p ≡ false
+unfolding goodPath
+no-key-twice p g = or-false-r (misplaced p) (keyTwice p) (or-false-r (strayByte p) _ (or-false-r (overLimit p) _ (not-true _ g)))
+
+keys-of : (text : Str) (o : Option Path) → readText text ≡ o → unspelled o ≡ false → keyTwice (spelled o) ≡ false
+unfolding unspelled spelled
+keys-of text none e h = clash refl h
+keys-of text (some p) e h = no-key-twice p (text-reader .only text p e .good)
+
+keys-once : (text : Str) → unspelled (readText text) ≡ false → keyTwice (spelled (readText text)) ≡ false
+keys-once text h = keys-of text (readText text) refl h
+
+module _ (x user : Str) (mode : ℕ) (origin text : Str) (ok : check x ≡ Accepted) (fine : requestRefusal user mode origin text ≡ clear) where
+  path-keys : keyTwice (request user mode origin text .path) ≡ false
+  unfolding request
+  path-keys = keys-once text (is-spelled user mode origin text fine)
+
+  path-answers : pathVerdict x user mode origin text ≡ decidedBy (decider (tableOf x) (request user mode origin text))
+  unfolding pathVerdict pathAnswer if_then_else_
+  path-answers = rw (ok, fine)
+
+  tree-answers : treeVerdict x user mode origin text ≡ spread (tree (tableOf x) (request user mode origin text))
+  unfolding treeVerdict treeAnswer if_then_else_
+  tree-answers = rw (ok, fine)
+
+  pub path-promise : PathPromise x user mode origin text ok fine
+  path-promise = record { answers = path-answers; decided = verdict _ _; only = verdict-unique _ _ (accepted-orderly x ok) }
+
+  pub tree-promise : TreePromise x user mode origin text ok fine
+  tree-promise = record { answers = tree-answers; exact = tree-verdict _ _ (accepted-orderly x ok) path-keys }
+
+  pub order-promise : (y : Str) (other : ReorderedLines x y) → OrderPromise x user mode origin text ok fine y other
+  order-promise y other = record {
+    accepted = accepted-again x y ok other;
+    answers = reordered (tableOf x) (tableOf y) (accepted-orderly x ok) (tables-reordered x y other) .1 (request user mode origin text);
+  }

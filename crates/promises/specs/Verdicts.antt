@@ -1,0 +1,49 @@
+-- Demand 3: "For any accepted table and request: action and deciding rule are paper 01's; tree answers are ALL exactly if every path at or beneath
+-- is permitted, of any length and any keys, NONE exactly if every one is denied, else MIXED with the rule that 01 picks, and there always is one; and
+-- none of it (by id) depends on the order of group, member and rule lines."
+-- The definitions named here are those of the contracts of `burgee_path_verdict` and `burgee_tree_verdict`: a table text is accepted where `check`
+-- says so, `tableOf` is the table that it holds, a request is accepted where `requestRefusal` gives no number, and `request` is what it asks.
+-- What is not promised: rule numbers and line numbers change with the order of lines; only ids do not.
+use Prim.Native.Nat.{ℕ}
+use mathlib.Core.Path.{_≡_}
+use mathlib.Core.Option.{Option}
+use Rattle.text.specs.String.{Str}
+use Rattle.text.specs.Refusal.{clear}
+use Rattle.table.specs.Table.{Table}
+use Rattle.table.specs.Text.{check, tableOf}
+use Rattle.table.specs.declared.Checked.{Checked}
+use Rattle.table.specs.declared.Checked.the-variants.{Accepted}
+use Rattle.verdict.specs.Order.{Numbered}
+use Rattle.verdict.specs.Verdict.{Request, decider, tree}
+use Rattle.verdict.specs.Laws.{Decided, TreeVerdict, SameAnswers}
+use Rattle.acceptance.specs.Reordering.{ReorderedLines}
+use Rattle.verdict_text.specs.Calls.{requestRefusal, request, pathVerdict, treeVerdict, decidedBy, spread}
+use Rattle.verdict_text.specs.declared.PathAnswer.{PathAnswer}
+use Rattle.verdict_text.specs.declared.TreeAnswer.{TreeAnswer}
+
+-- an accepted table text x, and an accepted request
+module _ (x user : Str) (mode : ℕ) (origin text : Str) (ok : check x ≡ Accepted) (fine : requestRefusal user mode origin text ≡ clear) where
+  abbrev pub t : Table
+  t = tableOf x
+
+  abbrev pub q : Request
+  q = request user mode origin text
+
+  pub record PathPromise : Type 0 where
+    -- the call answers with the deciding rule, or the default
+    pub answers : pathVerdict x user mode origin text ≡ decidedBy (decider t q)
+    -- which is 01's: no rule matches, or it is the best of those that match
+    pub decided : Decided t q (decider t q)
+    -- and nothing else is
+    pub only : (o : Option Numbered) → Decided t q o → decider t q ≡ o
+
+  pub record TreePromise : Type 0 where
+    -- the call answers with the tree answer
+    pub answers : treeVerdict x user mode origin text ≡ spread (tree t q)
+    -- ALL and NONE exactly where they hold of every path at or beneath; otherwise MIXED, with a rule that opposes and none such of smaller id
+    pub exact : TreeVerdict t q
+
+  -- any text y with x's lines in another order, each among its own kind: accepted too, with the same answers by id
+  pub record OrderPromise (y : Str) (other : ReorderedLines x y) : Type 0 where
+    pub accepted : check y ≡ Accepted
+    pub answers : SameAnswers t (tableOf y) q
