@@ -6,11 +6,16 @@
 
 pub mod boundary;
 pub mod charset;
+pub mod fault;
+pub mod frame;
 pub mod generate;
+pub mod hex;
 pub mod lent;
 pub mod limits;
 pub mod measure;
 pub mod path;
 pub mod random;
 pub mod refusal;
+pub mod table;
+pub mod vectors;
 pub mod word;

@@ -1,5 +1,11 @@
 //! The limits of paper 01.
 
+/// "Rule table text: at most 32,768 bytes."
+pub const TABLE_TEXT: usize = 32_768;
+/// "At most 64 groups, 512 members, 256 rules".
+pub const GROUPS: usize = 64;
+pub const MEMBERS: usize = 512;
+pub const RULES: usize = 256;
 /// "16 elements".
 pub const ELEMENTS: usize = 16;
 /// "4 keys an element".

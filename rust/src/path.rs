@@ -4,6 +4,7 @@
 //! the second fills the buffer; so a refused call stores nothing.
 
 use crate::charset::{is_name_byte, is_printable};
+use crate::frame::Taker;
 use crate::limits;
 use crate::refusal::{Refusal, PATH, PATH_BUFFER};
 
@@ -221,33 +222,10 @@ impl Filler<'_> {
     }
 }
 
-/// Takes counts and strings from the start of path bytes.
-struct Taker<'b> {
-    rest: &'b [u8],
-}
-
-impl<'b> Taker<'b> {
-    fn byte(&mut self) -> Option<u8> {
-        let (first, rest) = self.rest.split_first()?;
-        self.rest = rest;
-        Some(*first)
-    }
-
-    fn string(&mut self) -> Option<&'b [u8]> {
-        let len = usize::from(self.byte()?);
-        if len > self.rest.len() {
-            return None;
-        }
-        let (string, rest) = self.rest.split_at(len);
-        self.rest = rest;
-        Some(string)
-    }
-}
-
 /// The length of the path text of path bytes; none for bytes that aren't exactly
 /// one good path.
 fn measure_text_of(bytes: &[u8]) -> Option<usize> {
-    let mut taker = Taker { rest: bytes };
+    let mut taker = Taker::new(bytes);
     let elements = taker.byte()?;
     if usize::from(elements) > limits::ELEMENTS {
         return None;
@@ -269,12 +247,12 @@ fn measure_text_of(bytes: &[u8]) -> Option<usize> {
             len += 3 + name.len() + value.len() + escapes;
         }
     }
-    taker.rest.is_empty().then_some(len)
+    taker.is_at_end().then_some(len)
 }
 
 /// Fills `out`, which has the measured length, from good path bytes.
 fn fill_text(bytes: &[u8], out: &mut [u8]) {
-    let (mut taker, mut filler) = (Taker { rest: bytes }, Filler { out, at: 0 });
+    let (mut taker, mut filler) = (Taker::new(bytes), Filler { out, at: 0 });
     let filled = fill_elements(&mut taker, &mut filler);
     debug_assert!(filled.is_some() && filler.at == filler.out.len());
 }

@@ -18,3 +18,28 @@ impl Refusal {
 pub const PATH: Refusal = Refusal::plain(22);
 /// 23: "the path result doesn't fit the lent buffer".
 pub const PATH_BUFFER: Refusal = Refusal::plain(23);
+
+/// The numbers of a table line, 2 to 9.
+pub mod line {
+    /// "not a hex line as above"
+    pub const HEX: u8 = 2;
+    /// "unknown kind or code byte, frame too short or long"
+    pub const FRAME: u8 = 3;
+    /// "order of kinds; empty text counts here, at line 1"
+    pub const ORDER: u8 = 4;
+    /// "a limit passed, or an empty string that may not be"
+    pub const LIMIT: u8 = 5;
+    /// "a byte outside its set (an `*` in an element or key name is 7)"
+    pub const BYTE: u8 = 6;
+    /// "wildcard misplaced, or `...`"
+    pub const WILDCARD: u8 = 7;
+    /// "group name, member in a group, rule id, or key in an element twice"
+    pub const TWICE: u8 = 8;
+    /// "group not listed"
+    pub const UNLISTED: u8 = 9;
+}
+
+/// 1: "table text over 32,768 bytes (line 0)".
+pub const TABLE_LONG: Refusal = Refusal::plain(1);
+/// 20: "user or mode not as a table allows".
+pub const USER_OR_MODE: Refusal = Refusal::plain(20);

@@ -1,6 +1,7 @@
 //! The answer word of the C boundary: bits 0-7 are 0 or the refusal number.
 
 use crate::refusal::Refusal;
+use crate::table::GroupCount;
 
 /// Bits 8-39 of a refusal are its line.
 pub fn refused(refusal: Refusal) -> u64 {
@@ -23,4 +24,27 @@ pub fn filled(answer: Result<usize, Refusal>) -> u64 {
 /// The length in an answer that is not a refusal.
 pub fn length(word: u64) -> usize {
     (word >> 8) as usize
+}
+
+/// The line in a refusal that carries one.
+pub fn line(word: u64) -> u32 {
+    (word >> 8) as u32
+}
+
+/// The calls that only check: 0 where nothing is refused.
+pub fn checked(answer: Result<(), Refusal>) -> u64 {
+    answer.map_or_else(refused, |()| 0)
+}
+
+/// The group count: bits 8-15 the count, bits 16-31 the first group's number + 1.
+pub fn group_count(answer: Result<GroupCount, Refusal>) -> u64 {
+    match answer {
+        Ok(groups) => u64::from(groups.count) << 8 | numbered(groups.first.map(|group| group.0)) << 16,
+        Err(refusal) => refused(refusal),
+    }
+}
+
+/// A number + 1, or 0 for none.
+fn numbered(number: Option<u8>) -> u64 {
+    number.map_or(0, |n| u64::from(n) + 1)
 }
