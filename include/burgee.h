@@ -22,9 +22,19 @@ extern "C" {
 
 /* ---- The answer ---------------------------------------------------------------- */
 
-/* The refusal numbers of the path calls. */
-#define BURGEE_REFUSED_PATH 22u   /* not path text, or not the bytes of one path   */
-#define BURGEE_REFUSED_BUFFER 23u /* the result doesn't fit into the lent buffer   */
+/* Refusal numbers. Those of a table, 1 to 9, carry a line; 1 has line 0. */
+#define BURGEE_REFUSED_TABLE_LENGTH 1u   /* more than 32,768 bytes                        */
+#define BURGEE_REFUSED_TABLE_HEX 2u      /* not a line of hex digits with its LF          */
+#define BURGEE_REFUSED_TABLE_FRAME 3u    /* unknown kind or code, too short or too long   */
+#define BURGEE_REFUSED_TABLE_ORDER 4u    /* kinds out of order, or no line at all         */
+#define BURGEE_REFUSED_TABLE_LIMIT 5u    /* past a limit, or empty where not allowed      */
+#define BURGEE_REFUSED_TABLE_BYTE 6u     /* a byte outside its set                        */
+#define BURGEE_REFUSED_TABLE_WILDCARD 7u /* an asterisk misplaced, or an element `...`    */
+#define BURGEE_REFUSED_TABLE_TWICE 8u    /* a group, member, rule id or key twice         */
+#define BURGEE_REFUSED_TABLE_UNLISTED 9u /* a group that isn't listed                     */
+#define BURGEE_REFUSED_USER_OR_MODE 20u  /* a user or a mode that no table has            */
+#define BURGEE_REFUSED_PATH 22u          /* not path text, or not the bytes of one path   */
+#define BURGEE_REFUSED_BUFFER 23u        /* the result doesn't fit into the lent buffer   */
 
 /* The refusal number, or 0 where the call was not refused. */
 static inline unsigned burgee_answer_refusal(uint64_t answer)
@@ -32,10 +42,29 @@ static inline unsigned burgee_answer_refusal(uint64_t answer)
     return (unsigned)(answer & 0xFFu);
 }
 
+/* Of a refusal that carries a line: the line, counted from 1 (0 with number 1). */
+static inline uint32_t burgee_answer_line(uint64_t answer)
+{
+    return (uint32_t)(answer >> 8);
+}
+
 /* Of burgee_path_read and burgee_path_write: how many bytes were filled. */
 static inline uint32_t burgee_answer_length(uint64_t answer)
 {
     return (uint32_t)(answer >> 8);
+}
+
+/* Of burgee_group_count: how many groups hold the user, 0 to 64. */
+static inline unsigned burgee_answer_group_count(uint64_t answer)
+{
+    return (unsigned)(answer >> 8 & 0xFFu);
+}
+
+/* Of burgee_group_count: the smallest number of a group that holds the user, groups
+ * being numbered from 0 in the order of the table; -1 where none does. */
+static inline int burgee_answer_first_group(uint64_t answer)
+{
+    return (int)(answer >> 16 & 0xFFFFu) - 1;
 }
 
 /* ---- Paths --------------------------------------------------------------------- */
@@ -53,6 +82,18 @@ uint64_t burgee_path_read(const uint8_t *text, size_t text_len, uint8_t *out, si
 
 /* Path bytes to path text, likewise. */
 uint64_t burgee_path_write(const uint8_t *bytes, size_t bytes_len, uint8_t *out, size_t out_len);
+
+/* ---- Rule tables --------------------------------------------------------------- */
+
+#define BURGEE_TABLE_TEXT_MAX 32768u
+
+/* Checks a whole table text. Answers 0, or a refusal from 1 to 9 with its line: the
+ * first line at fault, and of its faults the smallest number. */
+uint64_t burgee_table_check(const uint8_t *table, size_t table_len);
+
+/* How many groups of the table hold the user. Refused as burgee_table_check is, then
+ * with 20. */
+uint64_t burgee_group_count(const uint8_t *table, size_t table_len, const uint8_t *user, size_t user_len);
 
 #ifdef __cplusplus
 }

@@ -42,7 +42,7 @@ impl HexLines {
 
     /// Decodes one line; false where it is no hex line.
     fn push(&mut self, line: &[u8]) -> bool {
-        if line.is_empty() || line.len() % 2 != 0 {
+        if line.is_empty() || !line.len().is_multiple_of(2) {
             return false;
         }
         for pair in line.chunks_exact(2) {

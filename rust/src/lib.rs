@@ -17,5 +17,6 @@ pub mod path;
 pub mod random;
 pub mod refusal;
 pub mod table;
+pub mod tally;
 pub mod vectors;
 pub mod word;

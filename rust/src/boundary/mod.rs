@@ -4,3 +4,4 @@
 //! library itself is named in `build.rs`.
 
 pub mod path;
+pub mod table;

@@ -2,3 +2,5 @@
 
 pub mod damage;
 pub mod path;
+pub mod table;
+pub mod table_fault;
