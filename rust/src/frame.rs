@@ -85,12 +85,33 @@ impl<'b> Paths<'b> {
         Some(PathAt(start..self.elements.len() as u32))
     }
 
+    /// Puts in, alone, the joined path of two: "as many elements as the longer of the
+    /// two, and the definite keys of both". The names agree as far as both go.
+    pub fn join(&mut self, one: (&Paths<'b>, &PathAt), other: (&Paths<'b>, &PathAt)) -> PathAt {
+        self.elements.clear();
+        self.keys.clear();
+        let (ones, others) = (one.0.elements(one.1), other.0.elements(other.1));
+        for at in 0..ones.len().max(others.len()) {
+            let first_key = self.keys.len() as u32;
+            let (from_one, from_other) = (ones.get(at), others.get(at));
+            self.keys.extend(from_one.into_iter().flat_map(|e| one.0.definite_keys(e)));
+            self.keys.extend(from_other.into_iter().flat_map(|e| other.0.definite_keys(e)));
+            let name = from_one.or(from_other).map_or(&[][..], |e| e.name);
+            self.elements.push(Element { name, keys: first_key..self.keys.len() as u32 });
+        }
+        PathAt(0..self.elements.len() as u32)
+    }
+
     pub fn elements(&self, path: &PathAt) -> &[Element<'b>] {
         &self.elements[path.0.start as usize..path.0.end as usize]
     }
 
     pub fn keys(&self, element: &Element) -> &[Key<'b>] {
         &self.keys[element.keys.start as usize..element.keys.end as usize]
+    }
+
+    pub fn definite_keys<'s>(&'s self, element: &Element) -> impl Iterator<Item = Key<'b>> + use<'s, 'b> {
+        self.keys(element).iter().copied().filter(Key::is_definite)
     }
 }
 

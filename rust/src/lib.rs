@@ -5,6 +5,7 @@
 //! byte, and the programs in `benches/` compare their speed.
 
 pub mod boundary;
+pub mod brute;
 pub mod charset;
 pub mod fault;
 pub mod frame;
@@ -16,7 +17,9 @@ pub mod measure;
 pub mod path;
 pub mod random;
 pub mod refusal;
+pub mod request;
 pub mod table;
 pub mod tally;
 pub mod vectors;
+pub mod verdict;
 pub mod word;

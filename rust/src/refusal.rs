@@ -43,3 +43,5 @@ pub mod line {
 pub const TABLE_LONG: Refusal = Refusal::plain(1);
 /// 20: "user or mode not as a table allows".
 pub const USER_OR_MODE: Refusal = Refusal::plain(20);
+/// 21: "origin likewise".
+pub const ORIGIN: Refusal = Refusal::plain(21);

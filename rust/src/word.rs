@@ -1,7 +1,9 @@
 //! The answer word of the C boundary: bits 0-7 are 0 or the refusal number.
 
+use crate::frame::Action;
 use crate::refusal::Refusal;
 use crate::table::GroupCount;
+use crate::verdict::{PathVerdict, TreeVerdict};
 
 /// Bits 8-39 of a refusal are its line.
 pub fn refused(refusal: Refusal) -> u64 {
@@ -41,6 +43,31 @@ pub fn group_count(answer: Result<GroupCount, Refusal>) -> u64 {
     match answer {
         Ok(groups) => u64::from(groups.count) << 8 | numbered(groups.first.map(|group| group.0)) << 16,
         Err(refusal) => refused(refusal),
+    }
+}
+
+/// Bits 8-15 the action, bits 16-31 the deciding rule's number + 1.
+pub fn path_verdict(answer: Result<PathVerdict, Refusal>) -> u64 {
+    match answer {
+        Ok(verdict) => action(verdict.action) << 8 | numbered(verdict.rule.map(|rule| rule.0)) << 16,
+        Err(refusal) => refused(refusal),
+    }
+}
+
+/// Bits 8-15 are 0 for NONE, 1 for ALL, 2 for MIXED; bits 16-31 the rule named + 1.
+pub fn tree_verdict(answer: Result<TreeVerdict, Refusal>) -> u64 {
+    match answer {
+        Ok(TreeVerdict::None) => 0,
+        Ok(TreeVerdict::All) => 1 << 8,
+        Ok(TreeVerdict::Mixed(rule)) => 2 << 8 | numbered(Some(rule.0)) << 16,
+        Err(refusal) => refused(refusal),
+    }
+}
+
+fn action(action: Action) -> u64 {
+    match action {
+        Action::Deny => 0,
+        Action::Permit => 1,
     }
 }
 

@@ -75,6 +75,13 @@ impl Line {
         }
     }
 
+    pub fn as_rule(&self) -> Option<&Rule> {
+        match self {
+            Line::Rule(rule) => Some(rule),
+            _ => None,
+        }
+    }
+
     pub fn version(version: &str) -> Line {
         Line::Version { version: version.into(), time: [0, 0, 0, 0, 0, 0, 0, 1] }
     }
@@ -110,6 +117,11 @@ pub struct Shape {
     /// Out of how many key names the keys are taken, and how many values.
     pub key_names: usize,
     pub values: usize,
+}
+
+impl Shape {
+    /// Few groups and members; the rest is to be chosen.
+    pub const SMALL: Shape = Shape { groups: 2, members: 4, rules: 6, depth: 3, key_names: 2, values: 2 };
 }
 
 pub const GROUP_NAMES: [&str; 6] = ["g", "h", "admin", "engineers", "u", "g "];
@@ -159,6 +171,49 @@ pub fn table_of_shape(random: &mut Random, shape: Shape) -> Vec<Line> {
         }
     }
     lines
+}
+
+/// A table whose rules are all about reading by user `u` with an empty origin: by
+/// name, or by one of two groups that hold `u`.
+pub fn focused_table(random: &mut Random, shape: Shape) -> Vec<Line> {
+    let mut lines = vec![Line::version("v1")];
+    lines.extend(["g", "h"].map(Line::group));
+    lines.extend(["g", "h"].map(|group| Line::member(group, "u")));
+    let mut ids = HashSet::new();
+    while ids.len() < shape.rules {
+        let id = some_id(random);
+        if ids.insert(id.clone()) {
+            let (subject_kind, subject) = *random.pick(&[(0, b"u"), (1, b"g"), (1, b"h")]);
+            let action = random.below(2) as u8;
+            let path = dense_path(random, &shape);
+            let subject = subject.to_vec();
+            lines.push(Line::Rule(Rule { action, mode: 1, subject_kind, subject, id, origin: Vec::new(), path }));
+        }
+    }
+    lines
+}
+
+/// A path to ask about: out of the same names and values, or near that of a rule.
+pub fn path_near(random: &mut Random, lines: &[Line], shape: &Shape) -> Path {
+    let rules: Vec<&Rule> = lines.iter().filter_map(Line::as_rule).collect();
+    if rules.is_empty() || random.one_in(3) {
+        return dense_path(random, shape);
+    }
+    let mut path = random.pick(&rules).path.clone();
+    match random.below(5) {
+        0 => path.elements.truncate(random.below(path.elements.len() + 1)),
+        1 if path.elements.len() < shape.depth => path.elements.push(dense_element(random, shape)),
+        2 if !path.elements.is_empty() => {
+            let at = random.below(path.elements.len());
+            path.elements[at].keys.pop();
+        }
+        3 if !path.elements.is_empty() => {
+            let at = random.below(path.elements.len());
+            path.elements[at] = dense_element(random, shape);
+        }
+        _ => {}
+    }
+    path
 }
 
 /// Short ids, many of them a beginning of another.
