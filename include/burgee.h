@@ -33,6 +33,7 @@ extern "C" {
 #define BURGEE_REFUSED_TABLE_TWICE 8u    /* a group, member, rule id or key twice         */
 #define BURGEE_REFUSED_TABLE_UNLISTED 9u /* a group that isn't listed                     */
 #define BURGEE_REFUSED_USER_OR_MODE 20u  /* a user or a mode that no table has            */
+#define BURGEE_REFUSED_ORIGIN 21u        /* an origin that no table has                   */
 #define BURGEE_REFUSED_PATH 22u          /* not path text, or not the bytes of one path   */
 #define BURGEE_REFUSED_BUFFER 23u        /* the result doesn't fit into the lent buffer   */
 
@@ -67,6 +68,30 @@ static inline int burgee_answer_first_group(uint64_t answer)
     return (int)(answer >> 16 & 0xFFFFu) - 1;
 }
 
+/* Of a verdict: 0 deny, 1 permit. */
+#define BURGEE_DENY 0u
+#define BURGEE_PERMIT 1u
+static inline unsigned burgee_answer_action(uint64_t answer)
+{
+    return (unsigned)(answer >> 8 & 0xFFu);
+}
+
+/* Of a tree verdict: 0 NONE, 1 ALL, 2 MIXED. */
+#define BURGEE_TREE_NONE 0u
+#define BURGEE_TREE_ALL 1u
+#define BURGEE_TREE_MIXED 2u
+static inline unsigned burgee_answer_tree(uint64_t answer)
+{
+    return (unsigned)(answer >> 8 & 0xFFu);
+}
+
+/* The number of the rule that decided, or that MIXED names, rules being numbered
+ * from 0 in the order of their text; -1 where there is none, as by default. */
+static inline int burgee_answer_rule(uint64_t answer)
+{
+    return (int)(answer >> 16 & 0xFFFFu) - 1;
+}
+
 /* ---- Paths --------------------------------------------------------------------- */
 
 /* Buffers of these lengths hold the result for every path. */
@@ -94,6 +119,27 @@ uint64_t burgee_table_check(const uint8_t *table, size_t table_len);
 /* How many groups of the table hold the user. Refused as burgee_table_check is, then
  * with 20. */
 uint64_t burgee_group_count(const uint8_t *table, size_t table_len, const uint8_t *user, size_t user_len);
+
+/* The modes of a request. */
+#define BURGEE_READ 1u
+#define BURGEE_WRITE 2u
+
+/*
+ * The verdict for one path: whether the user may read or write there, and by which
+ * rule. Refused as burgee_table_check is, then with 20 to 22. A subscription is
+ * accepted on this verdict, whatever the tree verdict.
+ */
+uint64_t burgee_path_verdict(const uint8_t *table, size_t table_len, const uint8_t *user, size_t user_len,
+                             uint32_t mode, const uint8_t *origin, size_t origin_len, const uint8_t *path,
+                             size_t path_len);
+
+/*
+ * The verdict for everything at and beneath the path: all of it permitted, none of it,
+ * or some; with MIXED comes a rule that makes the difference. Refused likewise.
+ */
+uint64_t burgee_tree_verdict(const uint8_t *table, size_t table_len, const uint8_t *user, size_t user_len,
+                             uint32_t mode, const uint8_t *origin, size_t origin_len, const uint8_t *path,
+                             size_t path_len);
 
 #ifdef __cplusplus
 }

@@ -19,12 +19,13 @@ pub struct Table;
 impl Table {
     pub fn new(title: &str) -> Table {
         println!("\n### {title}\n");
-        println!("| input | Rattle median | best | Rust median | best | Rattle/Rust |");
+        println!("| input | Rattle median | best | Rust median | best | Rattle/Rust (best) |");
         println!("|---|---:|---:|---:|---:|---:|");
         Table
     }
 
-    /// Times two calls that give the same answer word, taking samples in turn.
+    /// Times two calls that give the same answer word, taking samples in turn. The
+    /// ratio is that of the best times, which other work on the machine disturbs least.
     pub fn row(&self, input: &str, mut rattle: impl FnMut() -> u64, mut rust: impl FnMut() -> u64) {
         assert_eq!(rattle(), rust(), "the answers differ on {input}");
         let rattle_count = calls_in_a_sample(&mut rattle);
@@ -41,7 +42,7 @@ impl Table {
             shown(rattle.best),
             shown(rust.median),
             shown(rust.best),
-            rattle.median / rust.median
+            rattle.best / rust.best
         );
     }
 }

@@ -190,7 +190,7 @@ mod tests {
     fn message_paths_of_001() {
         let asks = |user, mode, path| asks(MESSAGE_PATHS, user, mode, "foo", path);
         assert_eq!(asks("stevie", READ, "/this/is/a/message_path/the/one/that/knocks").0, Some(0));
-        assert_eq!(asks("stevie", WRITE, "/this/is/a/message_path").1, false);
+        assert!(!asks("stevie", WRITE, "/this/is/a/message_path").1);
         assert_eq!(asks("brian", READ, "/this/is/a/different/message_path/foo").0, Some(1));
         assert_eq!(asks("brian", WRITE, "/this/is/a/different/message_path/bar").0, Some(2));
         assert_eq!(asks("crusty", READ, "/this/is/a/keyed[Ethernet=1/2/3]/message_path").0, Some(3));
