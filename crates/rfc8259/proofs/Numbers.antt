@@ -38,7 +38,7 @@ digit-numeric c e = digit-pointed c (pointed-numeric c e)
 
 pub digit-unsigned : (c : ℕ) → DIGIT c ≡ true → minus-or-plus c ≡ false
 unfolding DIGIT minus-or-plus
-digit-unsigned c e = let h = in-range 0x30 0x39 c e in neither _ _ (ne-eqb c 0x2D (λ z. omega arith)) (ne-eqb c 0x2B (λ z. omega arith))
+digit-unsigned c e = let h = in-range 0x30 0x39 c e in rw (ne-eqb c 0x2D (λ z. omega arith), ne-eqb c 0x2B (λ z. omega arith))
 
 nonzero-unsigned : (c : ℕ) → digit1-9 c ≡ true → is 0x2D c ≡ false
 unfolding digit1-9
@@ -50,11 +50,7 @@ nonzero-not-zero c e = let h = in-range 0x31 0x39 c e in ne-eqb c 0x30 (λ z. om
 
 e-unpointed : (c : ℕ) → e-or-E c ≡ true → pointed c ≡ false
 unfolding e-or-E pointed DIGIT _or_
-e-unpointed c e = go (or-cases (is 0x65 c) (is 0x45 c) e)
-  where
-    go : (is 0x65 c ≡ true) ⊎ (is 0x45 c ≡ true) → pointed c ≡ false
-    go (inl h) = lit pointed 0x65 c h refl
-    go (inr h) = lit pointed 0x45 c h refl
+e-unpointed c e = by (is 0x65 c) (λ h. lit pointed 0x65 c h refl) (λ h. lit pointed 0x45 c (rw h at e) refl)
 
 e-no-digit : (c : ℕ) → e-or-E c ≡ true → DIGIT c ≡ false
 e-no-digit c e = digit-pointed c (e-unpointed c e)

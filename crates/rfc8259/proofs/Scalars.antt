@@ -83,7 +83,7 @@ number-first v (seq absent (seq (second (seq (one {c} e) m)) x)) = let z = in-ra
 
 number-dark : (c : ℕ) → 0x2D ≤ c → c ≤ 0x39 → white c ≡ false
 unfolding white
-number-dark c l h = neither _ _ (ne-eqb c 0x20 (λ z. omega arith)) (neither _ _ (ne-eqb c 0x09 (λ z. omega arith)) (neither _ _ (ne-eqb c 0x0A (λ z. omega arith)) (ne-eqb c 0x0D (λ z. omega arith))))
+number-dark c l h = rw (ne-eqb c 0x20 (λ z. omega arith), ne-eqb c 0x09 (λ z. omega arith), ne-eqb c 0x0A (λ z. omega arith), ne-eqb c 0x0D (λ z. omega arith))
 
 scalar-number : (c : ℕ) (s : List ℕ) → 0x2D ≤ c → c ≤ 0x39 → readScalar (c ∷ s) ≡ (readNumber (c ∷ s) >>= spaced jnumber)
 unfolding readScalar
