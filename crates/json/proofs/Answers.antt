@@ -43,7 +43,7 @@ recognises s =
     whole s (valueAt 16 s (whiteAt s 0)) (readValue 16 (skip white s))
     (subst (λ (y : List ℕ). Same (skip white) s (valueAt 16 s (whiteAt s 0)) (readValue 16 y)) (ws-drop s 0 (omega arith)) (value-same s (string-same s) (scalar-same s) 16 (whiteAt s 0) (ws-within s 0 (omega arith))))
 
-there : {A : Type 0} (o : Option A) → answered o ≡ true → (a : A) × (o ≡ some a)
+pub there : {A : Type 0} (o : Option A) → answered o ≡ true → (a : A) × (o ≡ some a)
 unfolding answered
 there none e = clash e refl
 there (some a) e = (a, refl)
