@@ -1,0 +1,60 @@
+-- The recogniser says yes exactly where the parser answers, so exactly to the texts of RFC 8259.
+use mathlib.Core.Path.{_≡_, refl, sym, ap, _∙_, subst}
+use mathlib.Core.Bool.{Bool, true, false, cond}
+use mathlib.Core.List.{List, [], _∷_, _++_}
+use mathlib.Core.Option.{Option, none, some}
+use Prim.Native.Nat.{ℕ, zero, suc, _+_, _-_, _≤_, _<_}
+use native.Mathlib.Omega.{arith}
+use lib.ListN.{length, getD, drop}
+use lib.Dec.{eqb}
+use borrow.Author.Tests.{eq-eqb, ne-eqb}
+use Rattle.json.specs.declared.scan.Next.{Next}
+use Rattle.json.specs.declared.scan.Next.the-variants.{At, Bad}
+use Rattle.json.specs.Scan.{whiteAt}
+use Rattle.json.specs.Value.{valueAt, atEnd, isJson}
+use Rattle.rfc8259.specs.Json.{Json}
+use Rattle.rfc8259.specs.Grammar.{white, Text}
+use Rattle.rfc8259.specs.Parser.{_>>=_, skip, readValue, atEnd as atLast, parse}
+use Rattle.text.proofs.Tests.{clash}
+use Rattle.rfc8259.proofs.Basics.{binds, binds-none}
+use Rattle.rfc8259.proofs.Promises.{parse-sound, parse-complete}
+use Rattle.json.specs.Meaning.{Same, answered}
+use Rattle.json.proofs.Places.{inside, outside, ws-drop, ws-within}
+use Rattle.json.proofs.Values.{value-same}
+use Rattle.json.proofs.Strings.{string-same}
+use Rattle.json.proofs.Scalars.{scalar-same}
+
+ends : (s : List ℕ) (e : ℕ) → e ≤ length s → (j : Json) (t : List ℕ) → drop (whiteAt s e) s ≡ t → eqb (whiteAt s e) (length s) ≡ answered (atLast j t)
+unfolding atLast answered
+ends s e l j [] f = let a = outside s (whiteAt s e) f in let b = ws-within s e l in eq-eqb (whiteAt s e) (length s) (omega arith)
+ends s e l j (c ∷ t) f = let a = inside s (whiteAt s e) c t f in ne-eqb (whiteAt s e) (length s) (λ z. omega arith)
+
+answered-none : answered {A = Json} none ≡ false
+unfolding answered
+answered-none = refl
+
+whole : (s : List ℕ) (n : Next) (o : Option (Json × List ℕ)) → Same (skip white) s n o → atEnd s n ≡ answered (o >>= λ r. atLast (r .0) (r .1))
+whole s (At e) o r = rw (binds (λ r. atLast (r .0) (r .1)) (r .2)) (ends s e (r .1) (r .0) _ (ws-drop s e (r .1)))
+whole s Bad o r = sym (ap answered (binds-none (λ r. atLast (r .0) (r .1)) r) ∙ answered-none)
+
+pub recognises : (s : List ℕ) → isJson s ≡ answered (parse s)
+unfolding isJson parse
+recognises s =
+    whole s (valueAt 16 s (whiteAt s 0)) (readValue 16 (skip white s))
+    (subst (λ (y : List ℕ). Same (skip white) s (valueAt 16 s (whiteAt s 0)) (readValue 16 y)) (ws-drop s 0 (omega arith)) (value-same s (string-same s) (scalar-same s) 16 (whiteAt s 0) (ws-within s 0 (omega arith))))
+
+pub there : {A : Type 0} (o : Option A) → answered o ≡ true → (a : A) × (o ≡ some a)
+unfolding answered
+there none e = clash e refl
+there (some a) e = (a, refl)
+
+answered-some : {A : Type 0} {o : Option A} {a : A} → o ≡ some a → answered o ≡ true
+unfolding answered
+answered-some e = rw e
+
+-- a yes is for a JSON text, and every JSON text gets one
+pub yes-is-json : (s : List ℕ) → isJson s ≡ true → (j : Json) × Text s j
+yes-is-json s e = let a = there (parse s) (sym (recognises s) ∙ e) in (a .0, parse-sound s (a .0) (a .1))
+
+pub json-is-yes : {s : List ℕ} {j : Json} → Text s j → isJson s ≡ true
+json-is-yes {s} m = recognises s ∙ answered-some (parse-complete m)

@@ -1,0 +1,3 @@
+pub mod Scan
+pub mod Value
+pub mod Meaning

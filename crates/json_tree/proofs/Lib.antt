@@ -1,0 +1,6 @@
+pub mod Walks
+pub mod Openings
+pub mod Members
+pub mod Steps
+pub mod Repeats
+pub mod Whole

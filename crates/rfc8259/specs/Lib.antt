@@ -1,0 +1,4 @@
+pub mod Abnf
+pub mod Json
+pub mod Grammar
+pub mod Parser

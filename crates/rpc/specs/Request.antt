@@ -1,0 +1,79 @@
+-- "A request has an identity (empty without a client certificate), a path, and header lines `name`, `:`, `value`, LF."
+use mathlib.Core.Bool.{Bool, true, false, not}
+use mathlib.Core.List.{List, [], _∷_, _++_, map}
+use mathlib.Core.Option.{Option, none, some}
+use Prim.Native.Nat.{ℕ, zero, suc}
+use lib.Dec.{eqb, ltb}
+use lib.ListN.{length}
+use Rattle.text.specs.Test.{_and_, _or_, if_then_else_, all, only}
+use Rattle.text.specs.Byte.{isPrint}
+use Rattle.text.specs.String.{Str, same}
+use Rattle.text.specs.Refusal.{_when_else_, clear}
+use Rattle.policy.specs.Text.{empty, isHeaderByte}
+
+pub record Line : Type 0 where
+  pub name : Str
+  pub value : Str
+
+pub record Request : Type 0 where
+  pub identity : Str
+  pub path : Str
+  pub headers : List Line
+
+unfoldable pub longer : ℕ → Option (Str × Str) → Option (Str × Str)
+longer c none = none
+longer c (some r) = some (c ∷ r .0, r .1)
+
+-- what stands before the first byte b, and what after it
+unfoldable pub cutAt : ℕ → Str → Option (Str × Str)
+cutAt b [] = none
+cutAt b (c ∷ s) = if eqb c b then some ([], s) else longer c (cutAt b s)
+
+-- "Header names are nonempty lower-case letters, digits and `-_.`"; a value is any bytes 0x20 to 0x7E
+unfoldable pub lineOf : Option (Str × Str) → Option Line
+lineOf none = none
+lineOf (some r) = if not (empty (r .0)) and all isHeaderByte (r .0) and all isPrint (r .1) then some (record { name = r .0; value = r .1 }) else none
+
+unfoldable pub cons : {A : Type 0} → Option A → Option (List A) → Option (List A)
+cons none l = none
+cons (some a) none = none
+cons (some a) (some l) = some (a ∷ l)
+
+unfoldable pub lineThen : (Str → Option (List Line)) → Option (Str × Str) → Option (List Line)
+lineThen rest none = none
+lineThen rest (some r) = cons (lineOf (cutAt 58 (r .0))) (rest (r .1))
+
+-- the lines of a text, at most n of them: each ends with LF
+unfoldable pub linesOf : ℕ → Str → Option (List Line)
+linesOf zero s = if empty s then some [] else none
+linesOf (suc n) s = if empty s then some [] else lineThen (linesOf n) (cutAt 10 s)
+
+-- a text of n bytes has at most n lines
+abbrev pub headersOf : Str → Option (List Line)
+headersOf s = linesOf (length s) s
+
+unfoldable pub readable : {A : Type 0} → Option A → Bool
+readable none = false
+readable (some a) = true
+
+-- 40: "identity or path over 256 bytes or a byte outside 0x20 to 0x7E"
+unfoldable pub badText : Str → Bool
+badText s = ltb 256 (length s) or not (all isPrint s)
+
+-- 41: "header lines ill-formed, a value byte outside that range, or over 8,192 bytes together"
+unfoldable pub badHeaders : Str → Bool
+badHeaders s = ltb 8192 (length s) or not (readable (headersOf s))
+
+-- the refusal number of a request; `clear` where there is none
+unfoldable pub requestFault : Str → Str → Str → ℕ
+requestFault identity path headers = 40 when (badText identity or badText path) else 41 when badHeaders headers else clear
+
+-- "Values of one name are joined by commas in order."
+unfoldable pub joined : List Str → Str
+joined [] = []
+joined (v ∷ []) = v
+joined (v ∷ w ∷ l) = v ++ (44 ∷ joined (w ∷ l))
+
+-- "A header that the request doesn't carry counts as an empty value."
+unfoldable pub headerValue : Str → Request → Str
+headerValue n r = joined (map (λ (l : Line). l .value) (only (λ (l : Line). same (l .name) n) (r .headers)))

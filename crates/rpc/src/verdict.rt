@@ -1,0 +1,7 @@
+// The answer of an RPC verdict.
+pub enum Verdict {
+    Refused(u8),
+    Denied(usize),
+    Permitted(usize),
+    Default,
+}
