@@ -53,11 +53,6 @@ fn is_dots(name: &[u8]) -> bool {
     name == b"..."
 }
 
-/// "A value that is exactly `*` is a wildcard; any other value holds no `*`."
-fn is_value(value: &[u8]) -> bool {
-    is_good_len(value.len()) && (value == b"*" || value.iter().all(|b| is_printable(*b) && *b != b'*'))
-}
-
 /// "In a value `]` and `\` are preceded by `\`, and nothing else is".
 fn is_escaped(byte: u8) -> bool {
     byte == b']' || byte == b'\\'
@@ -131,25 +126,24 @@ fn split_name(text: &[u8]) -> (&[u8], &[u8]) {
 fn measure_value(text: &[u8]) -> Option<(usize, &[u8])> {
     let mut len = 0;
     let mut star = false;
-    let mut at = 0;
+    let mut bytes = text.iter();
     loop {
-        match *text.get(at)? {
+        match *bytes.next()? {
             b']' => break,
-            b'\\' => {
-                if !is_escaped(*text.get(at + 1)?) {
-                    return None;
-                }
-                at += 1;
-            }
+            b'\\' if is_escaped(*bytes.next()?) => {}
+            b'\\' => return None,
             b'*' => star = true,
             byte if is_printable(byte) => {}
             _ => return None,
         }
-        at += 1;
         len += 1;
     }
-    let good_star = !star || len == 1;
-    (is_good_len(len) && good_star).then(|| (len, &text[at + 1..]))
+    is_good_value(len, star).then_some((len, bytes.as_slice()))
+}
+
+/// "A value that is exactly `*` is a wildcard; any other value holds no `*`."
+fn is_good_value(len: usize, star: bool) -> bool {
+    is_good_len(len) && (!star || len == 1)
 }
 
 /// Fills `out`, which has the measured length, from good path text.
@@ -180,16 +174,39 @@ fn fill_bytes(text: &[u8], out: &mut [u8]) {
 /// Fills in the value at the start of good text, and gives what follows its `]`.
 fn fill_value<'t>(text: &'t [u8], filler: &mut Filler) -> &'t [u8] {
     let len_at = filler.skip();
-    let mut at = 0;
-    while text[at] != b']' {
-        if text[at] == b'\\' {
-            at += 1;
+    let (len, rest) = unescape(text, filler.rest());
+    filler.at += len;
+    filler.out[len_at] = len as u8;
+    rest
+}
+
+/// Takes the escapes out of a good value that ends with `]`; gives its length and what
+/// follows it.
+fn unescape<'t>(text: &'t [u8], out: &mut [u8]) -> (usize, &'t [u8]) {
+    let mut bytes = text.iter();
+    let mut len = 0;
+    loop {
+        match bytes.next() {
+            None | Some(b']') => return (len, bytes.as_slice()),
+            Some(b'\\') => out[len] = bytes.next().copied().unwrap_or_default(),
+            Some(byte) => out[len] = *byte,
         }
-        filler.byte(text[at]);
-        at += 1;
+        len += 1;
     }
-    filler.out[len_at] = (filler.at - len_at - 1) as u8;
-    &text[at + 1..]
+}
+
+/// Puts the escapes into a value, and gives the length of its text.
+fn escape(value: &[u8], out: &mut [u8]) -> usize {
+    let mut len = 0;
+    for byte in value {
+        if is_escaped(*byte) {
+            out[len] = b'\\';
+            len += 1;
+        }
+        out[len] = *byte;
+        len += 1;
+    }
+    len
 }
 
 /// Stores bytes one after another in a buffer that is long enough.
@@ -213,6 +230,11 @@ impl Filler<'_> {
     fn string(&mut self, string: &[u8]) {
         self.byte(string.len() as u8);
         self.bytes(string);
+    }
+
+    /// What is still to be filled.
+    fn rest(&mut self) -> &mut [u8] {
+        &mut self.out[self.at..]
     }
 
     /// Leaves a place for a count to be stored later.
@@ -240,14 +262,27 @@ fn measure_text_of(bytes: &[u8]) -> Option<usize> {
         let mut keys = KeyNames::new();
         for _ in 0..taker.byte()? {
             let (name, value) = (taker.string()?, taker.string()?);
-            if !is_name(name) || !is_value(value) || !keys.add(name) {
+            if !is_name(name) || !keys.add(name) {
                 return None;
             }
-            let escapes = value.iter().filter(|b| is_escaped(**b)).count();
-            len += 3 + name.len() + value.len() + escapes;
+            len += 3 + name.len() + measure_escaped(value)?;
         }
     }
     taker.is_at_end().then_some(len)
+}
+
+/// The length of a value's text; none for bytes that are no value.
+fn measure_escaped(value: &[u8]) -> Option<usize> {
+    let mut escapes = 0;
+    let mut star = false;
+    for byte in value {
+        if !is_printable(*byte) {
+            return None;
+        }
+        star |= *byte == b'*';
+        escapes += usize::from(is_escaped(*byte));
+    }
+    is_good_value(value.len(), star).then_some(value.len() + escapes)
 }
 
 /// Fills `out`, which has the measured length, from good path bytes.
@@ -269,12 +304,7 @@ fn fill_elements(taker: &mut Taker, filler: &mut Filler) -> Option<()> {
             filler.byte(b'[');
             filler.bytes(taker.string()?);
             filler.byte(b'=');
-            for byte in taker.string()? {
-                if is_escaped(*byte) {
-                    filler.byte(b'\\');
-                }
-                filler.byte(*byte);
-            }
+            filler.at += escape(taker.string()?, filler.rest());
             filler.byte(b']');
         }
     }
