@@ -1,9 +1,9 @@
-//! The faults of one table line. "Table: the first faulty line, and in it the
-//! smallest number", so all faults of a line are gathered before one is named.
+//! The faults of one table line or of one policy. The paper gives each its smallest
+//! number, so all faults are gathered before one is named.
 
 /// A set of refusal numbers.
 #[derive(Clone, Copy, Default)]
-pub struct Faults(u16);
+pub struct Faults(u64);
 
 impl Faults {
     pub fn add(&mut self, number: u8) {
@@ -16,7 +16,7 @@ impl Faults {
         }
     }
 
-    /// Nothing where the line has no fault, else the smallest number.
+    /// Nothing where there is no fault, else the smallest number.
     pub fn verdict(self) -> Result<(), u8> {
         match self.0 {
             0 => Ok(()),

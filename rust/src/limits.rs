@@ -17,3 +17,15 @@ pub const LONG_STRING: usize = 64;
 /// "The longest path bytes are 9,377, the longest path text 13,520."
 pub const PATH_BYTES: usize = 9_377;
 pub const PATH_TEXT: usize = 13_520;
+
+/// "Text is at most 16,384 bytes", "objects and lists may nest to depth 16".
+pub const POLICY_TEXT: usize = 16_384;
+pub const JSON_DEPTH: usize = 16;
+/// "At most 64 rules a list, 32 entries in any other list, 256 bytes a string".
+pub const POLICY_RULES: usize = 64;
+pub const POLICY_ENTRIES: usize = 32;
+pub const POLICY_STRING: usize = 256;
+
+/// "identity or path over 256 bytes"; header lines "over 8,192 bytes together".
+pub const REQUEST_STRING: usize = 256;
+pub const HEADER_LINES: usize = 8_192;

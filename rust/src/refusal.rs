@@ -45,3 +45,30 @@ pub const TABLE_LONG: Refusal = Refusal::plain(1);
 pub const USER_OR_MODE: Refusal = Refusal::plain(20);
 /// 21: "origin likewise".
 pub const ORIGIN: Refusal = Refusal::plain(21);
+
+/// The numbers of a policy text, 30 to 38.
+pub mod policy {
+    /// "policy over 16,384 bytes"
+    pub const LONG: u8 = 30;
+    /// "not one JSON value (RFC 8259) in our bytes and depth"
+    pub const JSON: u8 = 31;
+    /// "member name twice in one object, compared as written"
+    pub const MEMBER_TWICE: u8 = 32;
+    /// "not the schema"
+    pub const SCHEMA: u8 = 33;
+    /// "backslash in a schema string"
+    pub const BACKSLASH: u8 = 34;
+    /// "a limit passed, or empty where not allowed"
+    pub const LIMIT: u8 = 35;
+    /// "asterisk"
+    pub const ASTERISK: u8 = 36;
+    /// "barred or ill-spelt header key"
+    pub const HEADER_KEY: u8 = 37;
+    /// "rule name twice in a list"
+    pub const RULE_TWICE: u8 = 38;
+}
+
+/// 40: "identity or path over 256 bytes or a byte outside 0x20 to 0x7E".
+pub const IDENTITY_OR_PATH: Refusal = Refusal::plain(40);
+/// 41: "header lines ill-formed, a value byte outside that range, or over 8,192 bytes".
+pub const HEADERS: Refusal = Refusal::plain(41);

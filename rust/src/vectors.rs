@@ -1,4 +1,4 @@
-//! Tables that the papers show, as text.
+//! Tables and policies that the papers show, as text.
 
 /// A table with its 01 line only: "accepted and denies all".
 pub const VERSION_ONLY: &str = "010276310000000000000001\n";
@@ -89,6 +89,115 @@ pub const MESSAGE_PATHS: &str = "\
 0400010005627269616e0e77796c642d7374616c6c696f6e7303666f6f0504746869730002697300016100056b65796564010845746865726e6574012a0c6d6573736167655f7061746800
 ";
 
-/// All of them.
+/// All tables.
 pub const TABLES: [&str; 8] =
     [VERSION_ONLY, EXAMPLES_E_TO_K, EXAMPLE_A, EXAMPLE_B, EXAMPLE_C, EXAMPLE_D, INTERFACES, MESSAGE_PATHS];
+
+/// A policy that permits nobody.
+pub const POLICY_OF_NOBODY: &str = r#"{"name":"p","allow_rules":[]}"#;
+
+/// The example of document 000: alice and bob may call all of gNSI.ssh.
+pub const SSH_POLICY: &str = r#"{
+  "name": "gNSI.ssh policy",
+  "allow_rules": [{
+    "name": "admin-access",
+    "source": {
+      "principals": [
+        "spiffe://company.com/sa/alice",
+        "spiffe://company.com/sa/bob"
+      ]
+    },
+    "request": {
+      "paths": [
+        "/gnsi.ssh.Ssh/*"
+      ]
+    }
+  }]
+}
+"#;
+
+/// The policy that document 000 uploads: the same, with denials for marge and don.
+pub const SSH_POLICY_WITH_DENIALS: &str = r#"{
+       "name": "gNSI.ssh policy",
+       "allow_rules": [{
+         "name": "admin-access",
+         "source": {
+           "principals": [
+             "spiffe://company.com/sa/alice",
+             "spiffe://company.com/sa/bob"
+           ]
+         },
+         "request": {
+           "paths": [
+             "/gnsi.ssh.Ssh/*"
+           ]
+         }
+       }],
+       "deny_rules": [{
+         "name": "sales-access",
+         "source": {
+           "principals": [
+             "spiffe://company.com/sa/marge",
+             "spiffe://company.com/sa/don"
+           ]
+         },
+         "request": {
+           "paths": [
+             "/gnsi.ssh.Ssh/MutateAccountCredentials",
+             "/gnsi.ssh.Ssh/MutateHostCredentials"
+           ]
+         }
+       }]
+     }
+"#;
+
+/// The example of document 002.
+pub const EXAMPLE_POLICY: &str = r#"{
+	"name": "example-policy",
+	"allow_rules": [
+		{
+			"name": "admin-access",
+			"source": {
+				"principals": [
+					"spiffe://foo.com/sa/admin1",
+					"spiffe://foo.com/sa/admin2"
+				]
+			},
+			"request": {
+				"paths": ["/pkg.service/*"]
+			}
+		},
+		{
+			"name": "dev-access",
+			"source": {
+				"principals": ["*", ""]
+			},
+			"request": {
+				"paths": [
+					"/pkg.service/foo",
+					"/pkg.service/bar"
+				],
+				"headers": [
+					{
+						"key": "dev-path",
+						"values": ["/dev/path/*"]
+					}
+				]
+			}
+		}
+	],
+	"deny_rules": [
+		{
+			"name": "deny-access",
+			"request": {
+				"paths": [
+					"*/secret"
+				]
+			}
+		}
+	]
+}
+"#;
+
+/// All policies.
+pub const POLICIES: [&str; 4] = [POLICY_OF_NOBODY, SSH_POLICY, SSH_POLICY_WITH_DENIALS, EXAMPLE_POLICY];

@@ -2,6 +2,7 @@
 
 use crate::frame::Action;
 use crate::refusal::Refusal;
+use crate::rpc::RpcVerdict;
 use crate::table::GroupCount;
 use crate::verdict::{PathVerdict, TreeVerdict};
 
@@ -60,6 +61,14 @@ pub fn tree_verdict(answer: Result<TreeVerdict, Refusal>) -> u64 {
         Ok(TreeVerdict::None) => 0,
         Ok(TreeVerdict::All) => 1 << 8,
         Ok(TreeVerdict::Mixed(rule)) => 2 << 8 | numbered(Some(rule.0)) << 16,
+        Err(refusal) => refused(refusal),
+    }
+}
+
+/// Bits 8-15 the action, bits 16-31 the rule's number + 1 in the list it names.
+pub fn rpc_verdict(answer: Result<RpcVerdict, Refusal>) -> u64 {
+    match answer {
+        Ok(verdict) => action(verdict.action) << 8 | numbered(verdict.rule) << 16,
         Err(refusal) => refused(refusal),
     }
 }
