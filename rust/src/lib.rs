@@ -21,6 +21,7 @@ pub mod policy;
 pub mod random;
 pub mod refusal;
 pub mod request;
+pub mod rotation;
 pub mod rpc;
 pub mod table;
 pub mod tally;

@@ -29,3 +29,6 @@ pub const POLICY_STRING: usize = 256;
 /// "identity or path over 256 bytes"; header lines "over 8,192 bytes together".
 pub const REQUEST_STRING: usize = 256;
 pub const HEADER_LINES: usize = 8_192;
+
+/// "the store is two slots of 32,768 bytes"
+pub const SLOT: usize = 32_768;

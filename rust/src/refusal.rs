@@ -72,3 +72,19 @@ pub mod policy {
 pub const IDENTITY_OR_PATH: Refusal = Refusal::plain(40);
 /// 41: "header lines ill-formed, a value byte outside that range, or over 8,192 bytes".
 pub const HEADERS: Refusal = Refusal::plain(41);
+
+/// The numbers of the calls on the record, 11 to 16.
+pub mod rotation {
+    /// "store shorter than 65,536 bytes"
+    pub const STORE: u8 = 11;
+    /// "start while on"
+    pub const ON: u8 = 12;
+    /// "upload, finalize or close while off"
+    pub const OFF: u8 = 13;
+    /// "finalize without candidate"
+    pub const NO_CANDIDATE: u8 = 14;
+    /// "record: kind not 1 or 2, slot over 1, length over 32,768, candidate while off"
+    pub const RECORD: u8 = 15;
+    /// "RPC probe on a kind 2 record, path or tree probe on a kind 1 record"
+    pub const KIND: u8 = 16;
+}
