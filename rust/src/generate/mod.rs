@@ -2,5 +2,7 @@
 
 pub mod damage;
 pub mod path;
+pub mod policy;
+pub mod policy_fault;
 pub mod table;
 pub mod table_fault;

@@ -1,0 +1,275 @@
+//! RPC policies and requests: good ones, out of a few names so that they match often.
+
+use crate::random::Random;
+
+type Bytes = Vec<u8>;
+
+#[derive(Clone, Debug)]
+pub struct Header {
+    pub key: Bytes,
+    pub values: Vec<Bytes>,
+}
+
+#[derive(Clone, Debug, Default)]
+pub struct Request {
+    pub paths: Option<Vec<Bytes>>,
+    pub headers: Option<Vec<Header>>,
+}
+
+#[derive(Clone, Debug, Default)]
+pub struct Source {
+    pub principals: Option<Vec<Bytes>>,
+}
+
+#[derive(Clone, Debug, Default)]
+pub struct Rule {
+    pub name: Bytes,
+    pub source: Option<Source>,
+    pub request: Option<Request>,
+}
+
+/// A policy as its parts; strings as they are written between quotes.
+#[derive(Clone, Debug, Default)]
+pub struct Policy {
+    pub name: Bytes,
+    pub deny_rules: Option<Vec<Rule>>,
+    pub allow_rules: Vec<Rule>,
+}
+
+/// JSON as its parts, in the order in which it is written.
+#[derive(Clone, Debug)]
+pub enum Node {
+    Object(Vec<(Bytes, Node)>),
+    List(Vec<Node>),
+    String(Bytes),
+    /// Anything, as it is.
+    Raw(Bytes),
+}
+
+impl Policy {
+    /// The policy as JSON, its members in a random order.
+    pub fn node(&self, random: &mut Random) -> Node {
+        let mut members = vec![member("name", string(&self.name))];
+        members.extend(self.deny_rules.as_ref().map(|rules| member("deny_rules", list(random, rules, rule_node))));
+        members.push(member("allow_rules", list(random, &self.allow_rules, rule_node)));
+        object(random, members)
+    }
+
+    pub fn text(&self, random: &mut Random) -> Bytes {
+        let spaces = random.one_in(2);
+        self.node(random).text(random, spaces)
+    }
+}
+
+fn member(name: &str, node: Node) -> (Bytes, Node) {
+    (name.as_bytes().to_vec(), node)
+}
+
+fn string(bytes: &Bytes) -> Node {
+    Node::String(bytes.clone())
+}
+
+fn object(random: &mut Random, mut members: Vec<(Bytes, Node)>) -> Node {
+    random.shuffle(&mut members);
+    Node::Object(members)
+}
+
+fn list<T>(random: &mut Random, items: &[T], node: fn(&mut Random, &T) -> Node) -> Node {
+    Node::List(items.iter().map(|item| node(random, item)).collect())
+}
+
+fn strings(items: &[Bytes]) -> Node {
+    Node::List(items.iter().map(string).collect())
+}
+
+fn rule_node(random: &mut Random, rule: &Rule) -> Node {
+    let mut members = vec![member("name", string(&rule.name))];
+    if let Some(source) = &rule.source {
+        let principals = source.principals.as_ref().map(|list| member("principals", strings(list)));
+        members.push(member("source", Node::Object(principals.into_iter().collect())));
+    }
+    if let Some(request) = &rule.request {
+        let paths = request.paths.as_ref().map(|paths| member("paths", strings(paths)));
+        let headers = request.headers.as_ref().map(|headers| member("headers", list(random, headers, header_node)));
+        members.push(member("request", object(random, paths.into_iter().chain(headers).collect())));
+    }
+    object(random, members)
+}
+
+fn header_node(random: &mut Random, header: &Header) -> Node {
+    object(random, vec![member("key", string(&header.key)), member("values", strings(&header.values))])
+}
+
+impl Node {
+    /// The text, with white space everywhere or nowhere.
+    pub fn text(&self, random: &mut Random, spaces: bool) -> Bytes {
+        let mut writer = Writer { text: Vec::new(), random, spaces };
+        writer.node(self);
+        writer.text
+    }
+}
+
+struct Writer<'r> {
+    text: Bytes,
+    random: &'r mut Random,
+    spaces: bool,
+}
+
+impl Writer<'_> {
+    fn space(&mut self) {
+        if self.spaces && self.random.one_in(2) {
+            let len = self.random.between(1, 3);
+            self.text.extend(self.random.bytes_of(b" \t\n\r  ", len));
+        }
+    }
+
+    fn mark(&mut self, byte: u8) {
+        self.space();
+        self.text.push(byte);
+        self.space();
+    }
+
+    fn string(&mut self, string: &[u8]) {
+        self.text.push(b'"');
+        self.text.extend(string);
+        self.text.push(b'"');
+    }
+
+    fn node(&mut self, node: &Node) {
+        self.space();
+        match node {
+            Node::Object(members) => {
+                self.mark(b'{');
+                for (at, (name, value)) in members.iter().enumerate() {
+                    if at > 0 {
+                        self.mark(b',');
+                    }
+                    self.string(name);
+                    self.mark(b':');
+                    self.node(value);
+                }
+                self.mark(b'}');
+            }
+            Node::List(items) => {
+                self.mark(b'[');
+                for (at, item) in items.iter().enumerate() {
+                    if at > 0 {
+                        self.mark(b',');
+                    }
+                    self.node(item);
+                }
+                self.mark(b']');
+            }
+            Node::String(bytes) => self.string(bytes),
+            Node::Raw(bytes) => self.text.extend(bytes),
+        }
+        self.space();
+    }
+}
+
+const PRINCIPALS: [&str; 10] = ["alice", "bob", "*", "", "a*", "*e", "al*", "*ce", "alice*", "*alice"];
+const PATHS: [&str; 10] = ["/p.S/m", "/p.S/*", "*/m", "*", "", "/*", "*m", "/p.S/n", "/p.T/*", "*/p.S/m"];
+const VALUES: [&str; 9] = ["v", "w", "v,w", "", "*", "v*", "*w", "v,*", "*,w"];
+pub const KEYS: [&str; 4] = ["k", "x-a", "k_.1", "grpc"];
+
+pub fn good_policy(random: &mut Random) -> Policy {
+    let deny_rules = match random.below(4) {
+        0 => None,
+        1 => Some(Vec::new()),
+        _ => Some(good_rules(random)),
+    };
+    Policy { name: good_string(random), deny_rules, allow_rules: good_rules(random) }
+}
+
+fn good_string(random: &mut Random) -> Bytes {
+    let len = random.between(1, 6);
+    random.bytes_of(b"ab *{}[],:'/~", len)
+}
+
+fn good_rules(random: &mut Random) -> Vec<Rule> {
+    let count = random.below(4);
+    (0..count).map(|number| good_rule(random, number)).collect()
+}
+
+fn good_rule(random: &mut Random, number: usize) -> Rule {
+    let source = (!random.one_in(3)).then(|| Source { principals: some_strings(random, &PRINCIPALS) });
+    let request = (!random.one_in(3)).then(|| Request {
+        paths: some_strings(random, &PATHS),
+        headers: random.one_in(2).then(|| {
+            let count = random.below(3);
+            (0..count).map(|_| good_header(random)).collect()
+        }),
+    });
+    let mut name = good_string(random);
+    name.extend(number.to_string().bytes());
+    Rule { name, source, request }
+}
+
+/// A list that is missing, empty, or has a few entries.
+fn some_strings(random: &mut Random, from: &[&str]) -> Option<Vec<Bytes>> {
+    match random.below(6) {
+        0 => None,
+        1 => Some(Vec::new()),
+        _ => Some(entries(random, from)),
+    }
+}
+
+fn entries(random: &mut Random, from: &[&str]) -> Vec<Bytes> {
+    let count = random.between(1, 3);
+    (0..count).map(|_| random.pick(from).as_bytes().to_vec()).collect()
+}
+
+pub fn good_header(random: &mut Random) -> Header {
+    Header { key: random.pick(&KEYS).as_bytes().to_vec(), values: entries(random, &VALUES) }
+}
+
+/// A request as the daemon gives it.
+#[derive(Clone, Debug)]
+pub struct Rpc {
+    pub identity: Bytes,
+    pub path: Bytes,
+    pub headers: Bytes,
+}
+
+pub fn good_rpc(random: &mut Random) -> Rpc {
+    let identity = *random.pick(&["", "alice", "bob", "a", "alicex", "xalice", "marge", "eve"]);
+    let path = *random.pick(&["", "/p.S/m", "/p.S/n", "/p.S/", "/p.S/mm", "m", "/p.T/m", "/", "x/p.S/m"]);
+    let mut headers = Vec::new();
+    for _ in 0..random.below(5) {
+        let name = *random.pick(&["k", "k", "k", "x-a", "k_.1", "grpc", "host", "grpc-x", "other", "kk"]);
+        let value = *random.pick(&["", "v", "w", "v,w", " v", ":", "v:w", "vw", "x"]);
+        headers.extend(format!("{name}:{value}\n").bytes());
+    }
+    Rpc { identity: identity.into(), path: path.into(), headers }
+}
+
+/// A good policy of about `len` bytes, without white space, and with at most 64 rules
+/// in each list.
+pub fn policy_of_length(len: usize) -> Bytes {
+    let mut policy = Policy { name: b"policy".to_vec(), deny_rules: Some(Vec::new()), allow_rules: Vec::new() };
+    let mut random = Random::new(1);
+    let rule = |number: usize| Rule {
+        name: format!("rule-{number:03}").into_bytes(),
+        source: Some(Source {
+            principals: Some(
+                (0..3).map(|n| format!("spiffe://company.com/sa/user-{number}-{n}").into_bytes()).collect(),
+            ),
+        }),
+        request: Some(Request {
+            paths: Some(vec![format!("/gnmi.gNMI/{number}/*").into_bytes(), format!("*/Set{number}").into_bytes()]),
+            headers: None,
+        }),
+    };
+    for number in 0.. {
+        let list = if number % 2 == 0 { &mut policy.allow_rules } else { policy.deny_rules.get_or_insert_default() };
+        list.push(rule(number));
+        let text = policy.node(&mut random).text(&mut random, false);
+        if text.len() > len {
+            let list =
+                if number % 2 == 0 { &mut policy.allow_rules } else { policy.deny_rules.get_or_insert_default() };
+            list.pop();
+            break;
+        }
+    }
+    policy.node(&mut random).text(&mut random, false)
+}
