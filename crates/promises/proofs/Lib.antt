@@ -1,3 +1,4 @@
 pub mod Demands
+pub mod Marked
 pub mod ComesBack
 pub mod Verdicts
