@@ -1,3 +1,4 @@
 pub mod Pattern
 pub mod Request
 pub mod Verdict
+pub mod Call

@@ -1,2 +1,3 @@
 pub mod pattern;
 pub mod verdict;
+pub mod word;

@@ -1,0 +1,34 @@
+-- The answer of the RPC verdict, over the texts that it is given.
+use mathlib.Core.List.{List, []}
+use mathlib.Core.Option.{Option, none, some}
+use Prim.Native.Nat.{ℕ}
+use lib.Dec.{eqb}
+use Rattle.text.specs.Test.{if_then_else_}
+use Rattle.text.specs.String.{Str}
+use Rattle.text.specs.Refusal.{clear}
+use Rattle.policy.specs.Policy.{Policy, judgement, policyOf}
+use Rattle.rpc.specs.Request.{Line, Request, headersOf, requestFault}
+use Rattle.rpc.specs.Verdict.{verdict}
+use Rattle.rpc.specs.declared.verdict.Verdict.{Verdict}
+use Rattle.rpc.specs.declared.verdict.Verdict.the-variants.{Refused, Default}
+
+unfoldable pub written : Option (List Line) → List Line
+written none = []
+written (some l) = l
+
+-- "A request has an identity (empty without a client certificate), a path, and header lines"
+unfoldable pub request : Str → Str → Str → Request
+request identity path headers = record { identity = identity; path = path; headers = written (headersOf headers) }
+
+unfoldable pub verdictBy : Option Policy → Request → Verdict
+verdictBy none r = Default
+verdictBy (some p) r = verdict p r
+
+-- a refusal number comes before an answer
+unfoldable pub unless : ℕ → Verdict → Verdict
+unless number v = if eqb number clear then v else Refused number
+
+-- "text before request, and in each the smallest number"
+unfoldable pub rpcVerdict : Str → Str → Str → Str → Verdict
+rpcVerdict policy identity path headers =
+    unless (judgement policy) (unless (requestFault identity path headers) (verdictBy (policyOf policy) (request identity path headers)))
