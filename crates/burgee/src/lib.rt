@@ -1,4 +1,5 @@
 // The C boundary: every exported function. Each takes numbers and byte slices and answers one word.
+mod policies;
 mod word;
 
 ghost use mathlib.Core.Path.{_≡_};
