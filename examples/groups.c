@@ -1,11 +1,7 @@
 /*
  * Checks a table, counts the groups of some users, and shows a refusal with its line.
  */
-#include <stdint.h>
-#include <stdio.h>
-#include <string.h>
-
-#include "burgee.h"
+#include "example.h"
 
 /* Groups g and h; u is in both, v in h. */
 static const char table[] =
@@ -18,23 +14,15 @@ static const char table[] =
 
 static void check(const char *name, const char *text)
 {
-    uint64_t answer = burgee_table_check((const uint8_t *)text, strlen(text));
-    if (burgee_answer_refusal(answer) == 0) {
-        printf("%s: accepted\n", name);
-    } else {
-        printf("%s: refused with %u at line %u\n", name, burgee_answer_refusal(answer),
-               (unsigned)burgee_answer_line(answer));
-    }
+    print_check(name, burgee_table_check(SLICE(text)));
 }
 
 static void count(const char *user)
 {
-    uint64_t answer = burgee_group_count((const uint8_t *)table, strlen(table), (const uint8_t *)user, strlen(user));
-    if (burgee_answer_refusal(answer) != 0) {
-        printf("user `%s`: refused with %u\n", user, burgee_answer_refusal(answer));
-    } else {
-        printf("user `%s`: %u groups, the first is %d\n", user, burgee_answer_group_count(answer),
-               burgee_answer_first_group(answer));
+    uint64_t answer = burgee_group_count(SLICE(table), SLICE(user));
+    printf("user `%s`: ", user);
+    if (!print_refusal(answer)) {
+        printf("%u groups, the first is %d\n", burgee_answer_group_count(answer), burgee_answer_first_group(answer));
     }
 }
 

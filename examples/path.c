@@ -2,11 +2,7 @@
  * Reads path text into path bytes, prints them, writes them back as text, and shows
  * what refusals look like.
  */
-#include <stdint.h>
-#include <stdio.h>
-#include <string.h>
-
-#include "burgee.h"
+#include "example.h"
 
 static uint8_t path_bytes[BURGEE_PATH_BYTES_MAX];
 static uint8_t path_text[BURGEE_PATH_TEXT_MAX];
@@ -21,11 +17,10 @@ static void print_hex(const uint8_t *bytes, size_t len)
 
 static void show(const char *text)
 {
-    printf("text  %s\n", text);
+    printf("\ntext  %s\n", text);
 
-    uint64_t read = burgee_path_read((const uint8_t *)text, strlen(text), path_bytes, sizeof path_bytes);
-    if (burgee_answer_refusal(read) != 0) {
-        printf("refused with %u\n\n", burgee_answer_refusal(read));
+    uint64_t read = burgee_path_read(SLICE(text), path_bytes, sizeof path_bytes);
+    if (print_refusal(read)) {
         return;
     }
     size_t bytes_len = burgee_answer_length(read);
@@ -33,21 +28,19 @@ static void show(const char *text)
     print_hex(path_bytes, bytes_len);
 
     uint64_t written = burgee_path_write(path_bytes, bytes_len, path_text, sizeof path_text);
-    if (burgee_answer_refusal(written) != 0) {
-        printf("refused with %u\n\n", burgee_answer_refusal(written));
+    if (print_refusal(written)) {
         return;
     }
-    printf("back  %.*s\n\n", (int)burgee_answer_length(written), (const char *)path_text);
+    printf("back  %.*s\n", (int)burgee_answer_length(written), (const char *)path_text);
 }
 
 static void show_small_buffer(const char *text, size_t room)
 {
-    uint64_t read = burgee_path_read((const uint8_t *)text, strlen(text), path_bytes, room);
-    printf("text  %s into %zu bytes\n", text, room);
-    if (burgee_answer_refusal(read) != 0) {
-        printf("refused with %u\n\n", burgee_answer_refusal(read));
-    } else {
-        printf("fits: %u bytes\n\n", (unsigned)burgee_answer_length(read));
+    printf("\ntext  %s into %zu bytes\n", text, room);
+
+    uint64_t read = burgee_path_read(SLICE(text), path_bytes, room);
+    if (!print_refusal(read)) {
+        printf("fits: %u bytes\n", (unsigned)burgee_answer_length(read));
     }
 }
 

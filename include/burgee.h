@@ -36,6 +36,15 @@ extern "C" {
 #define BURGEE_REFUSED_ORIGIN 21u        /* an origin that no table has                   */
 #define BURGEE_REFUSED_PATH 22u          /* not path text, or not the bytes of one path   */
 #define BURGEE_REFUSED_BUFFER 23u        /* the result doesn't fit into the lent buffer   */
+#define BURGEE_REFUSED_POLICY_LENGTH 30u /* more than 16,384 bytes                        */
+#define BURGEE_REFUSED_POLICY_JSON 31u   /* not one JSON value in our bytes and depth     */
+#define BURGEE_REFUSED_POLICY_TWICE 32u  /* a member name twice in one object             */
+#define BURGEE_REFUSED_POLICY_SCHEMA 33u /* not the schema                                */
+#define BURGEE_REFUSED_POLICY_ESCAPE 34u /* a backslash in a string                       */
+#define BURGEE_REFUSED_POLICY_LIMIT 35u  /* past a limit, or empty where not allowed      */
+#define BURGEE_REFUSED_POLICY_STAR 36u   /* an asterisk misplaced, or two                 */
+#define BURGEE_REFUSED_POLICY_KEY 37u    /* a barred or ill-spelt header key              */
+#define BURGEE_REFUSED_POLICY_RULE 38u   /* a rule name twice in a list                   */
 
 /* The refusal number, or 0 where the call was not refused. */
 static inline unsigned burgee_answer_refusal(uint64_t answer)
@@ -140,6 +149,13 @@ uint64_t burgee_path_verdict(const uint8_t *table, size_t table_len, const uint8
 uint64_t burgee_tree_verdict(const uint8_t *table, size_t table_len, const uint8_t *user, size_t user_len,
                              uint32_t mode, const uint8_t *origin, size_t origin_len, const uint8_t *path,
                              size_t path_len);
+
+/* ---- RPC policies -------------------------------------------------------------- */
+
+#define BURGEE_POLICY_TEXT_MAX 16384u
+
+/* Checks a whole policy text. Answers 0, or a refusal from 30 to 38, without a line. */
+uint64_t burgee_policy_check(const uint8_t *policy, size_t policy_len);
 
 #ifdef __cplusplus
 }

@@ -3,6 +3,7 @@
 use burgee_rust::boundary::path::{path_read, path_write};
 use burgee_rust::generate::damage::damage;
 use burgee_rust::generate::path::{good_path, longest_path, put_fault, Path, FAULTS, FRAME_MARKS, TEXT_MARKS};
+use burgee_rust::generate::short::for_each_short_string;
 use burgee_rust::lent::{Given, Lent, SURROUNDINGS};
 use burgee_rust::limits;
 use burgee_rust::path::{path_bytes, path_text, read_path_text, write_path_text};
@@ -163,7 +164,7 @@ fn each_fault_alone_and_in_pairs() {
 #[test]
 fn every_short_text() {
     let mut tally = Tally::default();
-    for_each_short_string(b"/a[]=\\*.", 6, &mut |text| {
+    for_each_short_string(b"/a[]=\\*.", 6, |text| {
         tally.count(compare_read(text, 10).0);
         tally.count(compare_read(&[b"/a[a=", text].concat(), 12).0);
         if text.len() <= 4 {
@@ -179,32 +180,16 @@ fn every_short_text() {
 #[test]
 fn every_short_frame() {
     let mut tally = Tally::default();
-    for_each_short_string(&[0, 1, 2, 3, b'a', b'*', b']'], 6, &mut |bytes| {
+    for_each_short_string(&[0, 1, 2, 3, b'a', b'*', b']'], 6, |bytes| {
         tally.count(compare_write(bytes, 12).0);
     });
-    for_each_short_string(&[0, 1, 2, b'a', b'*', b'\\'], 4, &mut |tail| {
+    for_each_short_string(&[0, 1, 2, b'a', b'*', b'\\'], 4, |tail| {
         let bytes = [b"\x01\x01a\x01\x01k", tail].concat();
         for room in [5, 6, 7, 8] {
             tally.count(compare_write(&bytes, room).0);
         }
     });
     tally.assert_at_least(&[(0, 10), (22, 140_000), (23, 20)]);
-}
-
-fn for_each_short_string(set: &[u8], longest: usize, each: &mut impl FnMut(&[u8])) {
-    let mut string = Vec::with_capacity(longest);
-    extend_each(set, longest, &mut string, each);
-}
-
-fn extend_each(set: &[u8], longest: usize, string: &mut Vec<u8>, each: &mut impl FnMut(&[u8])) {
-    each(string);
-    if string.len() < longest {
-        for byte in set {
-            string.push(*byte);
-            extend_each(set, longest, string, each);
-            string.pop();
-        }
-    }
 }
 
 /// Every byte at every place of a small text, stored over and put between.

@@ -4,5 +4,6 @@
 //! library itself is named in `build.rs`.
 
 pub mod path;
+pub mod policy;
 pub mod table;
 pub mod verdict;

@@ -4,5 +4,6 @@ pub mod damage;
 pub mod path;
 pub mod policy;
 pub mod policy_fault;
+pub mod short;
 pub mod table;
 pub mod table_fault;

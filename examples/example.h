@@ -1,0 +1,62 @@
+/*
+ * What the examples share: C strings lent as slices, and answers in words.
+ */
+#ifndef EXAMPLE_H
+#define EXAMPLE_H
+
+#include <stdbool.h>
+#include <stdint.h>
+#include <stdio.h>
+#include <string.h>
+
+#include "burgee.h"
+
+/* A C string as the two arguments that lend a slice. */
+#define SLICE(string) (const uint8_t *)(string), strlen(string)
+
+/* Says whether a call was refused, and prints how. */
+static inline bool print_refusal(uint64_t answer)
+{
+    unsigned number = burgee_answer_refusal(answer);
+    if (number == 0) {
+        return false;
+    }
+    printf("refused with %u", number);
+    if (number <= BURGEE_REFUSED_TABLE_UNLISTED) {
+        printf(" at line %u", (unsigned)burgee_answer_line(answer));
+    }
+    printf("\n");
+    return true;
+}
+
+/* Of a check: whether the text was accepted. */
+static inline void print_check(const char *name, uint64_t answer)
+{
+    printf("%s: ", name);
+    if (!print_refusal(answer)) {
+        printf("accepted\n");
+    }
+}
+
+/* Of a verdict: the action, and the rule that decided. */
+static inline void print_action(uint64_t answer)
+{
+    printf("%s", burgee_answer_action(answer) == BURGEE_PERMIT ? "permit" : "deny");
+    if (burgee_answer_rule(answer) >= 0) {
+        printf(" by rule %d", burgee_answer_rule(answer));
+    } else {
+        printf(" by default");
+    }
+}
+
+/* Of a tree verdict: its word, and the rule that MIXED names. */
+static inline void print_tree(uint64_t answer)
+{
+    static const char *const words[] = {"NONE", "ALL", "MIXED"};
+    printf("%s", words[burgee_answer_tree(answer)]);
+    if (burgee_answer_tree(answer) == BURGEE_TREE_MIXED) {
+        printf(" by rule %d", burgee_answer_rule(answer));
+    }
+}
+
+#endif /* EXAMPLE_H */
