@@ -1,4 +1,3 @@
-pub mod Demands
-pub mod Marked
-pub mod ComesBack
+pub mod Examples
+pub mod PathReturn
 pub mod Verdicts

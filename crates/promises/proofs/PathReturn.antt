@@ -1,4 +1,4 @@
--- The demands, kept.
+-- Path text and path bytes come back, kept.
 use Rattle.path.specs.Bytes.{pathBytes}
 use Rattle.path.specs.Spells.{readBytes}
 use Rattle.path.proofs.Bytes.{bytes-reader}
