@@ -1,3 +1,4 @@
 pub mod Examples
 pub mod PathReturn
+pub mod Rpc
 pub mod Verdicts
