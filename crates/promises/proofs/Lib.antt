@@ -1,4 +1,5 @@
 pub mod Examples
+pub mod Groups
 pub mod PathReturn
 pub mod Rpc
 pub mod Verdicts

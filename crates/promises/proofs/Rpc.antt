@@ -20,7 +20,8 @@ use Rattle.rpc.specs.Call.{request, verdictBy, unless, rpcVerdict}
 use Rattle.rpc.specs.declared.verdict.Verdict.{Verdict}
 use Rattle.rpc.specs.declared.verdict.Verdict.the-variants.{Denied, Permitted, Default}
 use Rattle.rpc.proofs.Promises.{denied, permitted, by-default, permits-exactly, nobody}
-use Rattle.promises.specs.Rpc.{First, here, later, RpcPromise}
+use Rattle.promises.specs.First.{First, here, later}
+use Rattle.promises.specs.Rpc.{RpcPromise}
 
 -- ---- the number found is the first's
 

@@ -1,4 +1,6 @@
 pub mod Examples
+pub mod First
+pub mod Groups
 pub mod PathReturn
 pub mod Rpc
 pub mod Verdicts

@@ -1,10 +1,10 @@
 -- The RPC verdict: "Deny rules are judged first, then allow rules; the answer names the list and the first matching rule in it (numbered from 0), or
 -- default deny." The definitions named here are those of the contracts of `burgee_policy_check` and `burgee_rpc_verdict`: a policy text is accepted where
 -- `judgement` gives no number, `policyOf` is the policy that it holds, and a request is accepted where `requestFault` gives no number.
-use Prim.Native.Nat.{ℕ, zero, suc}
+use Prim.Native.Nat.{ℕ}
 use mathlib.Core.Path.{_≡_}
 use mathlib.Core.Bool.{Bool, true, false, not}
-use mathlib.Core.List.{List, [], _∷_}
+use mathlib.Core.List.{[]}
 use mathlib.Core.Option.{some}
 use Rattle.text.specs.Test.{_and_, any}
 use Rattle.text.specs.String.{Str}
@@ -15,11 +15,7 @@ use Rattle.rpc.specs.Verdict.{ruleMatches, permits}
 use Rattle.rpc.specs.Call.{request, rpcVerdict}
 use Rattle.rpc.specs.declared.verdict.Verdict.{Verdict}
 use Rattle.rpc.specs.declared.verdict.Verdict.the-variants.{Denied, Permitted, Default}
-
--- the first of the list that passes the test has this number
-pub data First {A : Type 0} (f : A → Bool) : ℕ → List A → Type 0 where
-  here : {x : A} {l : List A} → f x ≡ true → First f zero (x ∷ l)
-  later : {n : ℕ} {x : A} {l : List A} → f x ≡ false → First f n l → First f (suc n) (x ∷ l)
+use Rattle.promises.specs.First.{First}
 
 -- an accepted policy text and an accepted request
 module _ (policy identity path headers : Str) (ok : judgement policy ≡ clear) (fine : requestFault identity path headers ≡ clear) where
