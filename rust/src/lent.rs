@@ -1,78 +1,85 @@
-//! Slices lent to a call, each in the middle of a larger array of known bytes, so
-//! that a test sees any byte stored where none may be.
+//! Slices lent to a call. Each begins or ends where memory does, so that a call that
+//! touches a byte past it on that side ends the process; on the other side lie known
+//! bytes, so that a test sees one stored to.
 
+use std::ops::Range;
 use std::sync::OnceLock;
 
+use crate::pages::Pages;
 use crate::random::Random;
 
-/// Known bytes on each side of a lent slice.
-const GUARD: usize = 128;
+/// The edge of memory at which a slice lies.
+#[derive(Clone, Copy, PartialEq, Eq, Debug)]
+pub enum Edge {
+    Start,
+    End,
+}
+
+/// Both, so that a call lent its slices at each can't touch a byte about them unseen.
+pub const EDGES: [Edge; 2] = [Edge::Start, Edge::End];
+
+/// How many known bytes lie on the other side.
+const KNOWN: usize = 128;
 /// The longest slice lent.
 const LONGEST: usize = 1 << 18;
 
-/// Two surroundings. A call that reads past its input gives itself away when the
-/// answers under the two differ.
-pub const SURROUNDINGS: [usize; 2] = [0, 1];
-
-fn pattern(surroundings: usize) -> &'static [u8] {
-    static PATTERNS: [OnceLock<Vec<u8>>; 2] = [OnceLock::new(), OnceLock::new()];
-    PATTERNS[surroundings].get_or_init(|| {
-        let mut random = Random::new(0xB0A7 + surroundings as u64);
-        (0..LONGEST + 2 * GUARD).map(|_| random.byte()).collect()
+/// Bytes without a pattern, others at each edge.
+fn known(edge: Edge) -> &'static [u8] {
+    static BYTES: [OnceLock<Vec<u8>>; 2] = [OnceLock::new(), OnceLock::new()];
+    BYTES[edge as usize].get_or_init(|| {
+        let mut random = Random::new(0xB0A7 + edge as u64);
+        (0..LONGEST).map(|_| random.byte()).collect()
     })
 }
 
-/// A slice lent for reading.
-pub struct Given<'i> {
-    input: &'i [u8],
-    whole: Vec<u8>,
-    surroundings: usize,
-}
-
-impl<'i> Given<'i> {
-    pub fn new(input: &'i [u8], surroundings: usize) -> Given<'i> {
-        let mut whole = pattern(surroundings)[..input.len() + 2 * GUARD].to_vec();
-        whole[GUARD..GUARD + input.len()].copy_from_slice(input);
-        Given { input, whole, surroundings }
-    }
-
-    pub fn slice(&self) -> &[u8] {
-        &self.whole[GUARD..GUARD + self.input.len()]
-    }
-
-    pub fn assert_unchanged(&self) {
-        let pattern = &pattern(self.surroundings)[..self.whole.len()];
-        let end = GUARD + self.input.len();
-        assert!(self.whole[..GUARD] == pattern[..GUARD], "bytes before an input changed");
-        assert!(self.whole[end..] == pattern[end..], "bytes after an input changed");
-        assert!(self.slice() == self.input, "an input changed");
-    }
-}
-
-/// A slice lent to be filled from its start.
 pub struct Lent {
-    whole: Vec<u8>,
-    len: usize,
-    surroundings: usize,
+    pages: Pages,
+    lent: Range<usize>,
+    known: Range<usize>,
+    edge: Edge,
 }
 
 impl Lent {
-    pub fn new(len: usize, surroundings: usize) -> Lent {
-        Lent { whole: pattern(surroundings)[..len + 2 * GUARD].to_vec(), len, surroundings }
+    /// Known bytes to be stored over.
+    pub fn new(len: usize, edge: Edge) -> Lent {
+        Lent::holding(&known(edge)[..len], edge)
     }
 
-    pub fn slice(&mut self) -> &mut [u8] {
-        &mut self.whole[GUARD..GUARD + self.len]
+    pub fn holding(bytes: &[u8], edge: Edge) -> Lent {
+        let len = bytes.len();
+        let mut pages = Pages::new(len + KNOWN);
+        let (lent, outside) = match edge {
+            Edge::Start => (0..len, len..len + KNOWN),
+            Edge::End => {
+                let end = pages.bytes().len();
+                (end - len..end, end - len - KNOWN..end - len)
+            }
+        };
+        pages.bytes_mut()[lent.clone()].copy_from_slice(bytes);
+        pages.bytes_mut()[outside.clone()].copy_from_slice(&known(edge)[..KNOWN]);
+        Lent { pages, lent, known: outside, edge }
     }
 
-    /// The first `filled` bytes, after checking that no other byte was stored to.
-    pub fn filled(&self, filled: usize) -> &[u8] {
-        assert!(filled <= self.len, "{filled} bytes reported in a buffer of {}", self.len);
-        let pattern = &pattern(self.surroundings)[..self.whole.len()];
-        let end = GUARD + filled;
-        assert!(self.whole[..GUARD] == pattern[..GUARD], "bytes before a buffer changed");
-        assert!(self.whole[end..] == pattern[end..], "bytes past the reported length changed");
-        &self.whole[GUARD..end]
+    pub fn slice(&self) -> &[u8] {
+        &self.pages.bytes()[self.lent.clone()]
+    }
+
+    pub fn slice_mut(&mut self) -> &mut [u8] {
+        &mut self.pages.bytes_mut()[self.lent.clone()]
+    }
+
+    /// Checks the bytes, and the known ones beside them.
+    pub fn assert_holds(&self, bytes: &[u8]) {
+        assert!(self.pages.bytes()[self.known.clone()] == known(self.edge)[..KNOWN], "bytes beside a slice changed");
+        assert!(self.slice() == bytes, "the bytes of a slice are not as they should be");
+    }
+
+    /// Of bytes to be stored over: checks that the first ones are these now, and that no
+    /// other byte was stored to.
+    pub fn assert_filled(&self, bytes: &[u8]) {
+        let left = &known(self.edge)[bytes.len()..self.lent.len()];
+        assert!(self.slice()[bytes.len()..] == *left, "bytes past the reported length changed");
+        self.assert_holds(&[bytes, left].concat());
     }
 }
 
@@ -81,33 +88,46 @@ mod tests {
     use super::*;
 
     #[test]
-    fn filled_bytes_are_given_back() {
-        let mut lent = Lent::new(4, 0);
-        lent.slice()[..3].copy_from_slice(b"abc");
-        assert_eq!(lent.filled(3), b"abc");
+    fn a_slice_lies_at_its_edge() {
+        for len in [0, 1, 3, 3_968, 3_969, 4_096, 70_000] {
+            let bytes = vec![7; len];
+            let [start, end] = EDGES.map(|edge| Lent::holding(&bytes, edge));
+            assert_eq!(start.slice().as_ptr(), start.pages.bytes().as_ptr());
+            assert_eq!(end.slice().as_ptr_range().end, end.pages.bytes().as_ptr_range().end);
+            start.assert_holds(&bytes);
+            end.assert_holds(&bytes);
+        }
+    }
+
+    #[test]
+    fn filled_bytes_are_compared() {
+        let mut lent = Lent::new(4, Edge::Start);
+        lent.slice_mut()[..3].copy_from_slice(b"abc");
+        lent.assert_filled(b"abc");
     }
 
     #[test]
     #[should_panic(expected = "past the reported length")]
     fn a_byte_past_the_length_is_seen() {
-        let mut lent = Lent::new(4, 0);
-        lent.slice()[3] ^= 1;
-        lent.filled(3);
+        let mut lent = Lent::new(4, Edge::Start);
+        lent.slice_mut()[3] ^= 1;
+        lent.assert_filled(&lent.slice()[..3]);
     }
 
     #[test]
-    #[should_panic(expected = "before a buffer")]
-    fn a_byte_before_the_buffer_is_seen() {
-        let mut lent = Lent::new(4, 1);
-        lent.whole[GUARD - 1] ^= 1;
-        lent.filled(4);
+    #[should_panic(expected = "beside a slice")]
+    fn a_byte_beside_a_slice_is_seen() {
+        let mut lent = Lent::holding(b"abc", Edge::End);
+        let before = lent.lent.start - 1;
+        lent.pages.bytes_mut()[before] ^= 1;
+        lent.assert_holds(b"abc");
     }
 
     #[test]
-    #[should_panic(expected = "an input changed")]
-    fn a_changed_input_is_seen() {
-        let mut given = Given::new(b"abc", 0);
-        given.whole[GUARD] = b'x';
-        given.assert_unchanged();
+    #[should_panic(expected = "not as they should be")]
+    fn a_changed_byte_is_seen() {
+        let mut lent = Lent::holding(b"abc", Edge::End);
+        lent.slice_mut()[1] = b'x';
+        lent.assert_holds(b"abc");
     }
 }

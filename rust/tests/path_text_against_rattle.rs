@@ -1,46 +1,14 @@
 //! Path text and path bytes: the proved reader and writer against the Rust ones.
 
-use burgee_rust::boundary::path::{path_read, path_write};
+use burgee_rust::compare::{path_read, path_write};
 use burgee_rust::generate::damage::damage;
 use burgee_rust::generate::path::{good_path, longest_path, put_fault, Path, FAULTS, FRAME_MARKS, TEXT_MARKS};
 use burgee_rust::generate::short::for_each_short_string;
-use burgee_rust::lent::{Given, Lent, SURROUNDINGS};
 use burgee_rust::limits;
-use burgee_rust::path::{path_bytes, path_text, read_path_text, write_path_text};
+use burgee_rust::path::{path_bytes, path_text};
 use burgee_rust::random::Random;
-use burgee_rust::refusal::Refusal;
 use burgee_rust::tally::Tally;
 use burgee_rust::word;
-
-type Proved = fn(&[u8], &mut [u8]) -> u64;
-type Written = fn(&[u8], &mut [u8]) -> Result<usize, Refusal>;
-
-/// Runs both on one input and one length of buffer; gives the answer and what
-/// was filled.
-fn compare(proved: Proved, written: Written, input: &[u8], out_len: usize) -> (u64, Vec<u8>) {
-    let mut ours = vec![0; out_len];
-    let answer = word::filled(written(input, &mut ours));
-    let filled = if word::refusal_number(answer) == 0 { word::length(answer) } else { 0 };
-    for surroundings in SURROUNDINGS {
-        let given = Given::new(input, surroundings);
-        let mut lent = Lent::new(out_len, surroundings);
-        let theirs = proved(given.slice(), lent.slice());
-        let shown = input.escape_ascii();
-        assert_eq!(theirs, answer, "answer {theirs:#x}, not {answer:#x}, on `{shown}` with {out_len} bytes lent");
-        assert_eq!(lent.filled(filled), &ours[..filled], "bytes filled on `{shown}`");
-        given.assert_unchanged();
-    }
-    ours.truncate(filled);
-    (answer, ours)
-}
-
-fn compare_read(text: &[u8], out_len: usize) -> (u64, Vec<u8>) {
-    compare(path_read, read_path_text, text, out_len)
-}
-
-fn compare_write(bytes: &[u8], out_len: usize) -> (u64, Vec<u8>) {
-    compare(path_write, write_path_text, bytes, out_len)
-}
 
 /// Buffers of exactly the length, one byte short, none at all, and larger.
 fn buffer_lengths(random: &mut Random, exact: usize) -> [usize; 6] {
@@ -52,13 +20,13 @@ fn buffer_lengths(random: &mut Random, exact: usize) -> [usize; 6] {
 fn compare_good_path(random: &mut Random, path: &Path, tally: &mut Tally) {
     let (text, bytes) = (path.text(), path.bytes());
     for out_len in buffer_lengths(random, bytes.len()) {
-        let (answer, filled) = compare_read(&text, out_len);
+        let (answer, filled) = path_read(&text, out_len);
         tally.count(answer);
         assert_eq!(word::refusal_number(answer), if out_len < bytes.len() { 23 } else { 0 });
         assert!(out_len < bytes.len() || filled == bytes, "text -> bytes of {path:?}");
     }
     for out_len in buffer_lengths(random, text.len()) {
-        let (answer, filled) = compare_write(&bytes, out_len);
+        let (answer, filled) = path_write(&bytes, out_len);
         tally.count(answer);
         assert_eq!(word::refusal_number(answer), if out_len < text.len() { 23 } else { 0 });
         assert!(out_len < text.len() || filled == text, "bytes -> text of {path:?}");
@@ -71,10 +39,10 @@ fn compare_text(random: &mut Random, text: &[u8], tally: &mut Tally) {
         Ok(bytes) => *random.pick(&[bytes.len(), bytes.len() - 1, bytes.len() + 9]),
         Err(_) => *random.pick(&[0, 1, text.len(), text.len() + 40]),
     };
-    let (answer, bytes) = compare_read(text, room);
+    let (answer, bytes) = path_read(text, room);
     tally.count(answer);
     if word::refusal_number(answer) == 0 {
-        assert_eq!(compare_write(&bytes, text.len()).1, text, "text -> bytes -> text");
+        assert_eq!(path_write(&bytes, text.len()).1, text, "text -> bytes -> text");
     }
 }
 
@@ -84,10 +52,10 @@ fn compare_bytes(random: &mut Random, bytes: &[u8], tally: &mut Tally) {
         Ok(text) => *random.pick(&[text.len(), text.len() - 1, text.len() + 9]),
         Err(_) => *random.pick(&[0, 1, bytes.len(), bytes.len() * 2 + 40]),
     };
-    let (answer, text) = compare_write(bytes, room);
+    let (answer, text) = path_write(bytes, room);
     tally.count(answer);
     if word::refusal_number(answer) == 0 {
-        assert_eq!(compare_read(&text, bytes.len()).1, bytes, "bytes -> text -> bytes");
+        assert_eq!(path_read(&text, bytes.len()).1, bytes, "bytes -> text -> bytes");
     }
 }
 
@@ -165,11 +133,11 @@ fn each_fault_alone_and_in_pairs() {
 fn every_short_text() {
     let mut tally = Tally::default();
     for_each_short_string(b"/a[]=\\*.", 6, |text| {
-        tally.count(compare_read(text, 10).0);
-        tally.count(compare_read(&[b"/a[a=", text].concat(), 12).0);
+        tally.count(path_read(text, 10).0);
+        tally.count(path_read(&[b"/a[a=", text].concat(), 12).0);
         if text.len() <= 4 {
             for room in 0..10 {
-                tally.count(compare_read(text, room).0);
+                tally.count(path_read(text, room).0);
             }
         }
     });
@@ -181,12 +149,12 @@ fn every_short_text() {
 fn every_short_frame() {
     let mut tally = Tally::default();
     for_each_short_string(&[0, 1, 2, 3, b'a', b'*', b']'], 6, |bytes| {
-        tally.count(compare_write(bytes, 12).0);
+        tally.count(path_write(bytes, 12).0);
     });
     for_each_short_string(&[0, 1, 2, b'a', b'*', b'\\'], 4, |tail| {
         let bytes = [b"\x01\x01a\x01\x01k", tail].concat();
         for room in [5, 6, 7, 8] {
-            tally.count(compare_write(&bytes, room).0);
+            tally.count(path_write(&bytes, room).0);
         }
     });
     tally.assert_at_least(&[(0, 10), (22, 140_000), (23, 20)]);
@@ -203,21 +171,21 @@ fn every_byte_at_every_place() {
             if at < text.len() {
                 let mut over = text.to_vec();
                 over[at] = byte;
-                tally.count(compare_read(&over, 64).0);
+                tally.count(path_read(&over, 64).0);
             }
             let mut between = text.to_vec();
             between.insert(at, byte);
-            tally.count(compare_read(&between, 64).0);
+            tally.count(path_read(&between, 64).0);
         }
         for at in 0..=bytes.len() {
             if at < bytes.len() {
                 let mut over = bytes.clone();
                 over[at] = byte;
-                tally.count(compare_write(&over, 64).0);
+                tally.count(path_write(&over, 64).0);
             }
             let mut between = bytes.clone();
             between.insert(at, byte);
-            tally.count(compare_write(&between, 64).0);
+            tally.count(path_write(&between, 64).0);
         }
     }
     tally.assert_at_least(&[(0, 2_000), (22, 10_000)]);
@@ -230,7 +198,7 @@ fn every_escape() {
     for byte in 0..=255u8 {
         for (before, after) in [("/a[k=", "]"), ("/a[k=x", "]"), ("/a[k=", "y]"), ("/a[k=x", "y]/b")] {
             let text = [before.as_bytes(), &[b'\\', byte], after.as_bytes()].concat();
-            tally.count(compare_read(&text, 32).0);
+            tally.count(path_read(&text, 32).0);
         }
     }
     assert_eq!((tally.of(0), tally.of(22)), (8, 4 * 254));
@@ -266,7 +234,7 @@ fn limits_on_both_sides() {
         (0, "/a[k=1]/a[k=1]".into()),
     ];
     for (number, text) in expectations {
-        assert_eq!(word::refusal_number(compare_read(text.as_bytes(), 20_000).0), number, "{text}");
+        assert_eq!(word::refusal_number(path_read(text.as_bytes(), 20_000).0), number, "{text}");
     }
 }
 
@@ -284,7 +252,7 @@ fn frames_at_the_limits() {
         let named = [&[1, count as u8], &vec![b'n'; count][..], &[0]].concat();
         let valued = [&[1, 1, b'a', 1, 1, b'k', count as u8], &vec![b'v'; count][..]].concat();
         for bytes in [elements, keyed, named, valued] {
-            tally.count(compare_write(&bytes, 2_000).0);
+            tally.count(path_write(&bytes, 2_000).0);
             for cut in 1..bytes.len().min(6) {
                 compare_bytes(&mut random, &bytes[..bytes.len() - cut], &mut tally);
             }

@@ -1,31 +1,17 @@
 //! The check of a policy: the proved call against the Rust one.
 
-use burgee_rust::boundary::policy as proved;
+use burgee_rust::compare::policy_check;
 use burgee_rust::generate::damage::damage;
 use burgee_rust::generate::policy::{good_policy, policy_of_length};
 use burgee_rust::generate::policy_fault::{put_json_fault, put_member_twice, put_schema_fault, PART_FAULTS};
 use burgee_rust::generate::short::for_each_short_string;
-use burgee_rust::lent::{Given, SURROUNDINGS};
-use burgee_rust::policy::check_policy;
+use burgee_rust::limits;
 use burgee_rust::random::Random;
 use burgee_rust::tally::Tally;
 use burgee_rust::vectors::{POLICIES, POLICY_OF_NOBODY};
-use burgee_rust::{limits, word};
-
-/// Checks one text with both, and gives the answer.
-fn compare(text: &[u8]) -> u64 {
-    let answer = word::checked(check_policy(text));
-    for surroundings in SURROUNDINGS {
-        let given = Given::new(text, surroundings);
-        let theirs = proved::policy_check(given.slice());
-        assert_eq!(theirs, answer, "answer {theirs:#x}, not {answer:#x}, on\n{}", text.escape_ascii());
-        given.assert_unchanged();
-    }
-    answer
-}
 
 fn expect(text: &str, number: u64) {
-    assert_eq!(compare(text.as_bytes()), number, "{text}");
+    assert_eq!(policy_check(text.as_bytes()), number, "{text}");
 }
 
 #[test]
@@ -40,7 +26,7 @@ fn good_policies() {
     let mut random = Random::new(0x41);
     for _ in 0..6_000 {
         let text = good_policy(&mut random).text(&mut random);
-        assert_eq!(compare(&text), 0);
+        assert_eq!(policy_check(&text), 0);
     }
 }
 
@@ -52,7 +38,7 @@ fn each_part_fault_alone() {
             let mut policy = good_policy(&mut random);
             fault.put(&mut random, &mut policy);
             let text = policy.text(&mut random);
-            assert_eq!(compare(&text), u64::from(fault.number), "{}: {}", fault.name, text.escape_ascii());
+            assert_eq!(policy_check(&text), u64::from(fault.number), "{}: {}", fault.name, text.escape_ascii());
         }
     }
 }
@@ -63,13 +49,13 @@ fn each_shape_fault_alone() {
     for _ in 0..4_000 {
         let mut node = good_policy(&mut random).node(&mut random);
         put_member_twice(&mut random, &mut node);
-        assert_eq!(compare(&node.text(&mut random, false)), 32);
+        assert_eq!(policy_check(&node.text(&mut random, false)), 32);
         let mut node = good_policy(&mut random).node(&mut random);
         put_schema_fault(&mut random, &mut node);
-        assert_eq!(compare(&node.text(&mut random, true)), 33);
+        assert_eq!(policy_check(&node.text(&mut random, true)), 33);
         let mut text = good_policy(&mut random).text(&mut random);
         put_json_fault(&mut random, &mut text);
-        assert_eq!(compare(&text), 31, "{}", text.escape_ascii());
+        assert_eq!(policy_check(&text), 31, "{}", text.escape_ascii());
     }
 }
 
@@ -98,7 +84,7 @@ fn faults_in_pairs() {
                 if round == 15 {
                     put_json_fault(&mut random, &mut text);
                 }
-                tally.count(compare(&text));
+                tally.count(policy_check(&text));
             }
         }
     }
@@ -112,7 +98,7 @@ fn damaged_texts() {
     for _ in 0..30_000 {
         let mut text = good_policy(&mut random).text(&mut random);
         damage(&mut random, &mut text, b"{}[],:\"\"\\ *ak\n\t\0\x7f");
-        tally.count(compare(&text));
+        tally.count(policy_check(&text));
     }
     tally.assert_at_least(&[(0, 2_500), (31, 15_000), (33, 3_000), (36, 60), (37, 20)]);
 }
@@ -122,19 +108,19 @@ fn damaged_texts() {
 fn every_byte_at_every_place() {
     let mut tally = Tally::default();
     let text = br#"{"name":"p","allow_rules":[{"name":"r","request":{"headers":[{"key":"k","values":["v*"]}]}}]}"#;
-    assert_eq!(compare(text), 0);
+    assert_eq!(policy_check(text), 0);
     for at in 0..=text.len() {
         for byte in 0..=255u8 {
             if at < text.len() {
                 let mut over = text.to_vec();
                 over[at] = byte;
-                tally.count(compare(&over));
+                tally.count(policy_check(&over));
             }
             let mut between = text.to_vec();
             between.insert(at, byte);
-            tally.count(compare(&between));
+            tally.count(policy_check(&between));
         }
-        tally.count(compare(&text[..at]));
+        tally.count(policy_check(&text[..at]));
     }
     tally.assert_at_least(&[(0, 500), (31, 20_000), (33, 3_000), (36, 3), (37, 80)]);
 }
@@ -145,11 +131,11 @@ fn every_byte_at_every_place() {
 fn every_short_json() {
     let mut tally = Tally::default();
     for (set, longest) in [(&b"-01.eE+"[..], 5), (b"\"\\u0Dn", 6), (b"{}[],:\"1 ", 5), (b"nultrefas", 4)] {
-        for_each_short_string(set, longest, |text| tally.count(compare(text)));
+        for_each_short_string(set, longest, |text| tally.count(policy_check(text)));
     }
     for hex in [&b"0aFg"[..], b"9fAx"] {
         for_each_short_string(hex, 4, |digits| {
-            tally.count(compare(&[b"\"\\u", digits, b"\""].concat()));
+            tally.count(policy_check(&[b"\"\\u", digits, b"\""].concat()));
         });
     }
     tally.assert_at_least(&[(31, 100_000), (33, 1_800)]);
@@ -284,7 +270,7 @@ fn lengths_on_both_sides() {
     }
     expect(&"x".repeat(16_385), 30);
     for kilobytes in [1, 4, 16] {
-        assert_eq!(compare(&policy_of_length(kilobytes * 1_024)), 0);
+        assert_eq!(policy_check(&policy_of_length(kilobytes * 1_024)), 0);
     }
 
     let name = |len: usize| "n".repeat(len);
@@ -335,20 +321,20 @@ fn header_keys() {
     let barred =
         "host connection keep-alive proxy-authenticate proxy-authorization te trailer transfer-encoding upgrade";
     for key in barred.split(' ') {
-        assert_eq!(compare(&text(key.as_bytes())), 37, "{key}");
-        assert_eq!(compare(&text(format!("{key}x").as_bytes())), 0, "{key}");
-        assert_eq!(compare(&text(format!("x{key}").as_bytes())), 0, "{key}");
-        assert_eq!(compare(&text(&key.as_bytes()[..key.len() - 1])), 0, "{key}");
-        assert_eq!(compare(&text(key.to_uppercase().as_bytes())), 37, "{key}");
+        assert_eq!(policy_check(&text(key.as_bytes())), 37, "{key}");
+        assert_eq!(policy_check(&text(format!("{key}x").as_bytes())), 0, "{key}");
+        assert_eq!(policy_check(&text(format!("x{key}").as_bytes())), 0, "{key}");
+        assert_eq!(policy_check(&text(&key.as_bytes()[..key.len() - 1])), 0, "{key}");
+        assert_eq!(policy_check(&text(key.to_uppercase().as_bytes())), 37, "{key}");
     }
     for (key, number) in
         [("grpc", 0), ("grpc-", 37), ("grpc-x", 37), ("grpc_x", 0), ("xgrpc-", 0), ("grpc.", 0), ("GRPC-", 37)]
     {
-        assert_eq!(compare(&text(key.as_bytes())), number, "{key}");
+        assert_eq!(policy_check(&text(key.as_bytes())), number, "{key}");
     }
     for byte in 0..=255u8 {
-        compare(&text(&[byte]));
-        compare(&text(&[b'k', byte]));
+        policy_check(&text(&[byte]));
+        policy_check(&text(&[b'k', byte]));
     }
 }
 
@@ -373,7 +359,7 @@ fn every_short_pattern() {
                 b"}]}",
             ]
             .concat();
-            let answer = compare(&text);
+            let answer = policy_check(&text);
             assert_eq!(answer, number, "{}", pattern.escape_ascii());
             tally.count(answer);
         }

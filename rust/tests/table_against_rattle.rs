@@ -1,47 +1,19 @@
 //! The rule table and the group count: the proved calls against the Rust ones.
 
-use burgee_rust::boundary::table as proved;
+use burgee_rust::compare::{group_count, table_check};
 use burgee_rust::generate::damage::damage;
 use burgee_rust::generate::path::{put_fault, Path, FAULTS};
 use burgee_rust::generate::table::{
     dense_table, hex_line, table_of_length, table_text, Line, Rule, GROUP_NAMES, USERS,
 };
 use burgee_rust::generate::table_fault::LINE_FAULTS;
-use burgee_rust::lent::{Given, SURROUNDINGS};
 use burgee_rust::random::Random;
-use burgee_rust::table::{check_table, group_count};
 use burgee_rust::tally::Tally;
 use burgee_rust::{limits, vectors, word};
 
 fn shown(text: &[u8]) -> String {
     let text = text.escape_ascii().to_string();
     text.replace("\\n", "\n").chars().take(4_000).collect()
-}
-
-/// Checks one text with both, and gives the answer.
-fn compare_check(text: &[u8]) -> u64 {
-    let answer = word::checked(check_table(text));
-    for surroundings in SURROUNDINGS {
-        let given = Given::new(text, surroundings);
-        let theirs = proved::table_check(given.slice());
-        assert_eq!(theirs, answer, "answer {theirs:#x}, not {answer:#x}, on\n{}", shown(text));
-        given.assert_unchanged();
-    }
-    answer
-}
-
-/// Counts a user's groups with both, and gives the answer.
-fn compare_count(text: &[u8], user: &[u8]) -> u64 {
-    let answer = word::group_count(group_count(text, user));
-    for surroundings in SURROUNDINGS {
-        let (given_text, given_user) = (Given::new(text, surroundings), Given::new(user, surroundings));
-        let theirs = proved::group_count(given_text.slice(), given_user.slice());
-        let user = user.escape_ascii();
-        assert_eq!(theirs, answer, "answer {theirs:#x}, not {answer:#x}, for `{user}` on\n{}", shown(text));
-        given_text.assert_unchanged();
-        given_user.assert_unchanged();
-    }
-    answer
 }
 
 fn refusal(number: u8, line: usize) -> u64 {
@@ -51,12 +23,12 @@ fn refusal(number: u8, line: usize) -> u64 {
 #[test]
 fn tables_of_the_papers() {
     for text in vectors::TABLES {
-        assert_eq!(compare_check(text.as_bytes()), 0, "{text}");
+        assert_eq!(table_check(text.as_bytes()), 0, "{text}");
     }
-    assert_eq!(compare_count(vectors::EXAMPLES_E_TO_K.as_bytes(), b"u"), 0x1_0100);
-    assert_eq!(compare_count(vectors::EXAMPLES_E_TO_K.as_bytes(), b"v"), 0);
-    assert_eq!(compare_count(vectors::EXAMPLE_A.as_bytes(), b"stevie"), 0x1_0200);
-    assert_eq!(compare_count(vectors::VERSION_ONLY.as_bytes(), b"stevie"), 0);
+    assert_eq!(group_count(vectors::EXAMPLES_E_TO_K.as_bytes(), b"u"), 0x1_0100);
+    assert_eq!(group_count(vectors::EXAMPLES_E_TO_K.as_bytes(), b"v"), 0);
+    assert_eq!(group_count(vectors::EXAMPLE_A.as_bytes(), b"stevie"), 0x1_0200);
+    assert_eq!(group_count(vectors::VERSION_ONLY.as_bytes(), b"stevie"), 0);
 }
 
 #[test]
@@ -65,9 +37,9 @@ fn dense_tables_and_their_groups() {
     let mut members = [0usize; 7];
     for _ in 0..4_000 {
         let text = table_text(&dense_table(&mut random));
-        assert_eq!(compare_check(&text), 0);
+        assert_eq!(table_check(&text), 0);
         for user in USERS.iter().chain(&["nobody"]) {
-            let answer = compare_count(&text, user.as_bytes());
+            let answer = group_count(&text, user.as_bytes());
             members[usize::from((answer >> 8) as u8)] += 1;
         }
     }
@@ -79,14 +51,14 @@ fn users_that_no_table_allows() {
     let table = vectors::EXAMPLES_E_TO_K.as_bytes();
     for len in 0..=70 {
         let expected = if (1..=64).contains(&len) { 0 } else { 20 };
-        assert_eq!(word::refusal_number(compare_count(table, &vec![b'x'; len])), expected);
+        assert_eq!(word::refusal_number(group_count(table, &vec![b'x'; len])), expected);
         // The table comes first.
-        assert_eq!(compare_count(b"\n", &vec![b'x'; len]), refusal(2, 1));
+        assert_eq!(group_count(b"\n", &vec![b'x'; len]), refusal(2, 1));
     }
     for byte in 0..=255u8 {
         let expected = if (0x20..=0x7E).contains(&byte) { 0 } else { 20 };
         for user in [&[byte][..], &[b'u', byte], &[byte, b'u']] {
-            assert_eq!(word::refusal_number(compare_count(table, user)), expected, "{byte:#x}");
+            assert_eq!(word::refusal_number(group_count(table, user)), expected, "{byte:#x}");
         }
     }
 }
@@ -100,7 +72,7 @@ fn each_fault_alone() {
             let mut lines = dense_table(&mut random);
             if let Some(at) = fault.put_somewhere(&mut random, &mut lines) {
                 let text = table_text(&lines);
-                assert_eq!(compare_check(&text), refusal(fault.number, at + 1), "{}:\n{}", fault.name, shown(&text));
+                assert_eq!(table_check(&text), refusal(fault.number, at + 1), "{}:\n{}", fault.name, shown(&text));
                 rounds += 1;
             }
         }
@@ -117,7 +89,7 @@ fn faults_in_two_lines() {
         let second = *random.pick(&LINE_FAULTS);
         let second_at = second.put_somewhere(&mut random, &mut lines);
         let first_at = (0..second_at.unwrap_or(0)).find(|at| first.put(&mut random, &mut lines, *at));
-        let answer = compare_check(&table_text(&lines));
+        let answer = table_check(&table_text(&lines));
         if let Some(at) = first_at {
             assert_eq!(answer, refusal(first.number, at + 1), "{} then {}", first.name, second.name);
             tally.count(answer);
@@ -137,7 +109,7 @@ fn two_faults_in_one_line() {
                 let mut lines = dense_table(&mut random);
                 let Some(at) = first.put_somewhere(&mut random, &mut lines) else { continue };
                 if second.put(&mut random, &mut lines, at) {
-                    tally.count(compare_check(&table_text(&lines)));
+                    tally.count(table_check(&table_text(&lines)));
                     rounds += 1;
                 }
                 if rounds == 12 {
@@ -162,7 +134,7 @@ fn several_faults_in_one_path() {
                 let fault = *random.pick(&FAULTS);
                 put_fault(&mut random, &mut rule.path, fault);
             }
-            tally.count(compare_check(&table_text(&lines)));
+            tally.count(table_check(&table_text(&lines)));
         }
     }
     tally.assert_at_least(&[(5, 2_000), (6, 800), (7, 600), (8, 150)]);
@@ -175,7 +147,7 @@ fn damaged_texts() {
     for _ in 0..30_000 {
         let mut text = table_text(&dense_table(&mut random));
         damage(&mut random, &mut text, b"0123456789abcdef0123456789abcdef\n");
-        tally.count(compare_check(&text));
+        tally.count(table_check(&text));
     }
     tally.assert_at_least(&[(0, 1_500), (2, 15_000), (3, 3_000), (6, 800), (9, 250)]);
 }
@@ -198,7 +170,7 @@ fn damaged_frames() {
             }
         }
         let text: Vec<u8> = frames.iter().flat_map(|frame| hex_line(frame)).collect();
-        tally.count(compare_check(&text));
+        tally.count(table_check(&text));
     }
     tally.assert_at_least(&[(0, 3_000), (2, 100), (3, 8_000), (4, 4_000), (6, 600), (8, 1_500), (9, 800)]);
 }
@@ -212,9 +184,9 @@ fn every_byte_at_every_place() {
         for byte in 0..=255u8 {
             let mut over = text.to_vec();
             over[at] = byte;
-            tally.count(compare_check(&over));
+            tally.count(table_check(&over));
         }
-        tally.count(compare_check(&text[..at]));
+        tally.count(table_check(&text[..at]));
     }
     tally.assert_at_least(&[(0, 400), (2, 10_000), (3, 400), (6, 80), (9, 40)]);
 }
@@ -233,7 +205,7 @@ fn every_frame_byte() {
                 let mut changed = frames.clone();
                 changed[line][at] = byte;
                 let text: Vec<u8> = changed.iter().flat_map(|frame| hex_line(frame)).collect();
-                tally.count(compare_check(&text));
+                tally.count(table_check(&text));
             }
         }
     }
@@ -260,27 +232,27 @@ fn counts_on_both_sides_of_their_limits() {
     let rules = |count: usize| (0..count).map(|i| Line::Rule(rule(&format!("r{i}"), "u", Path::default())));
     let table = |lines: Vec<Line>| table_text(&[vec![Line::version("v1")], lines].concat());
 
-    assert_eq!(compare_check(&table(groups(64))), 0);
-    assert_eq!(compare_check(&table(groups(65))), refusal(5, 66));
+    assert_eq!(table_check(&table(groups(64))), 0);
+    assert_eq!(table_check(&table(groups(65))), refusal(5, 66));
     let with_members = |count| table([groups(64), members(count).collect()].concat());
-    assert_eq!(compare_check(&with_members(512)), 0);
-    assert_eq!(compare_check(&with_members(513)), refusal(5, 1 + 64 + 513));
-    assert_eq!(compare_check(&table(rules(256).collect())), 0);
-    assert_eq!(compare_check(&table(rules(257).collect())), refusal(5, 258));
+    assert_eq!(table_check(&with_members(512)), 0);
+    assert_eq!(table_check(&with_members(513)), refusal(5, 1 + 64 + 513));
+    assert_eq!(table_check(&table(rules(256).collect())), 0);
+    assert_eq!(table_check(&table(rules(257).collect())), refusal(5, 258));
 
     // The line past the limit has a smaller or a larger fault besides.
     for (extra, number) in [(Line::group("g0"), 5), (Line::group("\x7f"), 5), (Line::Frame(b"\x02\x02g".to_vec()), 3)] {
-        assert_eq!(compare_check(&table([groups(64), vec![extra]].concat())), refusal(number, 66));
+        assert_eq!(table_check(&table([groups(64), vec![extra]].concat())), refusal(number, 66));
     }
     let all = [groups(64), members(512).collect(), rules(256).collect()].concat();
-    assert_eq!(compare_check(&table(all)), 0);
+    assert_eq!(table_check(&table(all)), 0);
 
     // A user in all 64 groups, and one in the last only.
     let everywhere = (0..64).map(|i| Line::member(&format!("g{i}"), "everywhere"));
     let text = table([groups(64), everywhere.collect(), vec![Line::member("g63", "last")]].concat());
-    assert_eq!(compare_count(&text, b"everywhere"), 1 << 16 | 64 << 8);
-    assert_eq!(compare_count(&text, b"last"), 64 << 16 | 1 << 8);
-    assert_eq!(compare_count(&text, b"nobody"), 0);
+    assert_eq!(group_count(&text, b"everywhere"), 1 << 16 | 64 << 8);
+    assert_eq!(group_count(&text, b"last"), 64 << 16 | 1 << 8);
+    assert_eq!(group_count(&text, b"nobody"), 0);
 }
 
 /// Lengths of every string about its limit, where the bytes are there.
@@ -291,7 +263,7 @@ fn strings_on_both_sides_of_their_limits() {
         let long = |shortest: usize| if (shortest..=64).contains(&len) { 0 } else { 5 };
         let short = |shortest: usize| if (shortest..=32).contains(&len) { 0 } else { 5 };
         let expect = |lines: &[Line], number: u8| {
-            let answer = compare_check(&table_text(lines));
+            let answer = table_check(&table_text(lines));
             assert_eq!(answer, if number == 0 { 0 } else { refusal(number, lines.len()) }, "{len} in {lines:?}");
         };
         let v1 = || Line::version("v1");
@@ -336,8 +308,8 @@ fn path_counts_on_both_sides_of_their_limits() {
         for (frame, number) in expectations {
             let text = |frame: &[u8]| [vectors::VERSION_ONLY.as_bytes(), &hex_line(frame)].concat();
             let expected = if number == 0 { 0 } else { refusal(number, 2) };
-            assert_eq!(compare_check(&text(frame)), expected, "count {count}");
-            assert_eq!(compare_check(&text(&frame[..frame.len() - 1])), refusal(3, 2), "count {count}");
+            assert_eq!(table_check(&text(frame)), expected, "count {count}");
+            assert_eq!(table_check(&text(&frame[..frame.len() - 1])), refusal(3, 2), "count {count}");
         }
     }
 }
@@ -347,26 +319,26 @@ fn texts_at_the_length_limit() {
     let mut random = Random::new(0x28);
     for len in [300, 301, 1_000, 4_001, 32_766, 32_767, limits::TABLE_TEXT] {
         let mut text = table_of_length(&mut random, len, 160);
-        assert_eq!(compare_check(&text), 0, "{len} bytes");
-        assert_eq!(compare_count(&text, b"u"), 0x1_0100);
+        assert_eq!(table_check(&text), 0, "{len} bytes");
+        assert_eq!(group_count(&text, b"u"), 0x1_0100);
         text.pop();
         let lines = text.iter().filter(|b| **b == b'\n').count();
-        assert_eq!(compare_check(&text), refusal(2, lines + 1));
+        assert_eq!(table_check(&text), refusal(2, lines + 1));
     }
     // One byte more: good but for its length, and bad besides.
     let long = table_of_length(&mut random, limits::TABLE_TEXT + 1, 160);
-    assert_eq!(compare_check(&long), refusal(1, 0));
-    assert_eq!(compare_count(&long, b""), refusal(1, 0));
+    assert_eq!(table_check(&long), refusal(1, 0));
+    assert_eq!(group_count(&long, b""), refusal(1, 0));
     for byte in [b'0', b'\n', 0xFF] {
-        assert_eq!(compare_check(&vec![byte; limits::TABLE_TEXT + 1]), refusal(1, 0));
-        assert_eq!(compare_check(&vec![byte; limits::TABLE_TEXT]), refusal(2, 1));
-        assert_eq!(compare_check(&vec![byte; 100_000]), refusal(1, 0));
+        assert_eq!(table_check(&vec![byte; limits::TABLE_TEXT + 1]), refusal(1, 0));
+        assert_eq!(table_check(&vec![byte; limits::TABLE_TEXT]), refusal(2, 1));
+        assert_eq!(table_check(&vec![byte; 100_000]), refusal(1, 0));
     }
     // A long text whose last line alone is at fault.
     let mut text = table_of_length(&mut random, limits::TABLE_TEXT - 7, 160);
     let lines = text.iter().filter(|b| **b == b'\n').count();
     text.extend(b"020167\n");
-    assert_eq!(compare_check(&text), refusal(4, lines + 1));
+    assert_eq!(table_check(&text), refusal(4, lines + 1));
 }
 
 /// Names that differ in length or case only, and names in two roles.
@@ -376,9 +348,9 @@ fn names_that_are_nearly_the_same() {
     lines.extend(["g", "G", "gg", " g", "g "].map(Line::group));
     lines.extend([("g", "g"), ("g", "gg"), ("gg", "g"), ("G", "g")].map(|(group, user)| Line::member(group, user)));
     let text = table_text(&lines);
-    assert_eq!(compare_check(&text), 0);
-    assert_eq!(compare_count(&text, b"g"), 1 << 16 | 3 << 8);
-    assert_eq!(compare_count(&text, b"gg"), 1 << 16 | 1 << 8);
-    assert_eq!(compare_count(&text, b"G"), 0);
+    assert_eq!(table_check(&text), 0);
+    assert_eq!(group_count(&text, b"g"), 1 << 16 | 3 << 8);
+    assert_eq!(group_count(&text, b"gg"), 1 << 16 | 1 << 8);
+    assert_eq!(group_count(&text, b"G"), 0);
     assert!(GROUP_NAMES.contains(&"u") && USERS.contains(&"g"), "a name stands for a user and for a group");
 }

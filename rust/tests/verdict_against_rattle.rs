@@ -1,20 +1,18 @@
 //! The path and the tree verdict: the proved calls against the Rust ones, and on
 //! small tables against the enumeration too.
 
-use burgee_rust::boundary::verdict as proved;
 use burgee_rust::brute::{Asker, Model, Tree};
+use burgee_rust::compare::{path_verdict, tree_verdict};
 use burgee_rust::generate::damage::damage;
 use burgee_rust::generate::path::{good_path, Path, TEXT_MARKS};
 use burgee_rust::generate::table::{
     dense_table, focused_table, path_near, some_origin, table_of_length, table_text, Line, Rule, Shape, USERS,
 };
 use burgee_rust::generate::table_fault::LINE_FAULTS;
-use burgee_rust::lent::{Given, SURROUNDINGS};
 use burgee_rust::random::Random;
 use burgee_rust::request::PathRequest;
 use burgee_rust::tally::Tally;
 use burgee_rust::vectors::*;
-use burgee_rust::verdict::{path_verdict, tree_verdict};
 use burgee_rust::word;
 
 const READ: u32 = 1;
@@ -37,21 +35,9 @@ fn mixed_by(rule: u64) -> u64 {
     2 << 8 | (rule + 1) << 16
 }
 
-/// Asks for both verdicts, of both implementations; gives the path's and the tree's.
+/// Asks for both verdicts, the path's and the tree's.
 fn compare(table: &[u8], request: &PathRequest) -> (u64, u64) {
-    let path = word::path_verdict(path_verdict(table, request));
-    let tree = word::tree_verdict(tree_verdict(table, request));
-    for surroundings in SURROUNDINGS {
-        let given = [table, request.user, request.origin, request.path].map(|input| Given::new(input, surroundings));
-        let [table, user, origin, text] = given.each_ref().map(Given::slice);
-        let asked = PathRequest { user, mode: request.mode, origin, path: text };
-        let (their_path, their_tree) = (proved::path_verdict(table, &asked), proved::tree_verdict(table, &asked));
-        let shown = || format!("{request:?} of\n{}", table.escape_ascii().to_string().replace("\\n", "\n"));
-        assert_eq!(their_path, path, "path answer {their_path:#x}, not {path:#x}, for {}", shown());
-        assert_eq!(their_tree, tree, "tree answer {their_tree:#x}, not {tree:#x}, for {}", shown());
-        given.iter().for_each(Given::assert_unchanged);
-    }
-    (path, tree)
+    (path_verdict(table, request), tree_verdict(table, request))
 }
 
 fn asks(table: &str, user: &str, mode: u32, origin: &str, path: &str) -> (u64, u64) {

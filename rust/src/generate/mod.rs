@@ -1,5 +1,6 @@
 //! Generated inputs, shared by the tests and the benchmarks.
 
+pub mod any;
 pub mod damage;
 pub mod path;
 pub mod policy;

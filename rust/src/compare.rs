@@ -1,0 +1,93 @@
+//! Each public call of the proved library on the same input as the Rust one: the answer
+//! and every lent byte are compared, with the slices lent at each edge of memory.
+
+use crate::boundary::{path, policy, table, verdict};
+use crate::lent::{Lent, EDGES};
+use crate::path::{read_path_text, write_path_text};
+use crate::refusal::Refusal;
+use crate::request::PathRequest;
+use crate::word;
+
+/// Path text to path bytes: the answer and what was filled.
+pub fn path_read(text: &[u8], room: usize) -> (u64, Vec<u8>) {
+    filled(text, room, read_path_text, path::path_read)
+}
+
+/// Path bytes to path text, likewise.
+pub fn path_write(bytes: &[u8], room: usize) -> (u64, Vec<u8>) {
+    filled(bytes, room, write_path_text, path::path_write)
+}
+
+pub fn table_check(table: &[u8]) -> u64 {
+    let answer = word::checked(crate::table::check_table(table));
+    answered([table], answer, |[table]| table::table_check(table))
+}
+
+pub fn group_count(table: &[u8], user: &[u8]) -> u64 {
+    let answer = word::group_count(crate::table::group_count(table, user));
+    answered([table, user], answer, |[table, user]| table::group_count(table, user))
+}
+
+pub fn path_verdict(table: &[u8], request: &PathRequest) -> u64 {
+    let answer = word::path_verdict(crate::verdict::path_verdict(table, request));
+    asked(table, request, answer, verdict::path_verdict)
+}
+
+pub fn tree_verdict(table: &[u8], request: &PathRequest) -> u64 {
+    let answer = word::tree_verdict(crate::verdict::tree_verdict(table, request));
+    asked(table, request, answer, verdict::tree_verdict)
+}
+
+pub fn policy_check(policy: &[u8]) -> u64 {
+    let answer = word::checked(crate::policy::check_policy(policy));
+    answered([policy], answer, |[policy]| policy::policy_check(policy))
+}
+
+fn asked(table: &[u8], request: &PathRequest, answer: u64, proved: fn(&[u8], &PathRequest) -> u64) -> u64 {
+    let mode = request.mode;
+    answered([table, request.user, request.origin, request.path], answer, |[table, user, origin, path]| {
+        proved(table, &PathRequest { user, mode, origin, path })
+    })
+}
+
+/// Lends the inputs to the proved call and compares its answer with this one.
+fn answered<const N: usize>(inputs: [&[u8]; N], answer: u64, proved: impl Fn([&[u8]; N]) -> u64) -> u64 {
+    for edge in EDGES {
+        let lent = inputs.map(|input| Lent::holding(input, edge));
+        let theirs = proved(lent.each_ref().map(Lent::slice));
+        assert_eq!(theirs, answer, "answer {theirs:#x}, not {answer:#x}, on\n{}", shown(&inputs));
+        for (lent, input) in lent.iter().zip(inputs) {
+            lent.assert_holds(input);
+        }
+    }
+    answer
+}
+
+fn filled(
+    input: &[u8],
+    room: usize,
+    written: fn(&[u8], &mut [u8]) -> Result<usize, Refusal>,
+    proved: fn(&[u8], &mut [u8]) -> u64,
+) -> (u64, Vec<u8>) {
+    let mut ours = vec![0; room];
+    let answer = word::filled(written(input, &mut ours));
+    ours.truncate(if word::refusal_number(answer) == 0 { word::length(answer) } else { 0 });
+    for edge in EDGES {
+        let given = Lent::holding(input, edge);
+        let mut lent = Lent::new(room, edge);
+        let theirs = proved(given.slice(), lent.slice_mut());
+        assert_eq!(theirs, answer, "answer {theirs:#x}, not {answer:#x}, with {room} bytes on\n{}", shown(&[input]));
+        given.assert_holds(input);
+        lent.assert_filled(&ours);
+    }
+    (answer, ours)
+}
+
+/// The inputs one a line, a text with its lines, none of them too long.
+fn shown(inputs: &[&[u8]]) -> String {
+    let shown = |input: &&[u8]| {
+        let text = input.escape_ascii().to_string().replace("\\n", "\n");
+        text.chars().take(4_000).collect::<String>()
+    };
+    inputs.iter().map(shown).collect::<Vec<_>>().join("\n---\n")
+}
