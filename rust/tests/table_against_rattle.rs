@@ -2,7 +2,7 @@
 
 use burgee_rust::compare::{group_count, table_check};
 use burgee_rust::generate::damage::damage;
-use burgee_rust::generate::path::{put_fault, Path, FAULTS};
+use burgee_rust::generate::path::{put_fault, Element, Key, Path, FAULTS};
 use burgee_rust::generate::table::{
     dense_table, hex_line, table_of_length, table_text, Line, Rule, GROUP_NAMES, USERS,
 };
@@ -29,6 +29,21 @@ fn tables_of_the_papers() {
     assert_eq!(group_count(vectors::EXAMPLES_E_TO_K.as_bytes(), b"v"), 0);
     assert_eq!(group_count(vectors::EXAMPLE_A.as_bytes(), b"stevie"), 0x1_0200);
     assert_eq!(group_count(vectors::VERSION_ONLY.as_bytes(), b"stevie"), 0);
+}
+
+/// "Wildcards are only valid in policy rules when applied to attributes", and to the
+/// whole value (001).
+#[test]
+fn wildcards_of_001() {
+    let with_path = |name: &str, value: &str| {
+        let keys = vec![Key { name: b"name".to_vec(), value: value.into() }];
+        let path = Path { elements: vec![Element { name: name.into(), keys }] };
+        table_check(&table_text(&[Line::version("v1"), Line::Rule(rule("r", "u", path))]))
+    };
+    assert_eq!(with_path("keyed", "*"), 0);
+    assert_eq!(with_path("keyed", "Ethernet1/*/3"), refusal(7, 2));
+    assert_eq!(with_path("*", "foo"), refusal(7, 2));
+    assert_eq!(with_path("...", "foo"), refusal(7, 2));
 }
 
 #[test]
@@ -278,6 +293,12 @@ fn strings_on_both_sides_of_their_limits() {
         expect(&[v1(), Line::Rule(with_origin)], short(0));
         let group_rule = Rule { subject_kind: 1, ..rule("r", &text_of(len), Path::default()) };
         expect(&[v1(), Line::Rule(group_rule)], faulty_group);
+        for (name_len, key_len, value_len) in [(len, 1, 1), (1, len, 1), (1, 1, len)] {
+            let bytes = |len| text_of(len).into_bytes();
+            let keys = vec![Key { name: bytes(key_len), value: bytes(value_len) }];
+            let path = Path { elements: vec![Element { name: bytes(name_len), keys }] };
+            expect(&[v1(), Line::Rule(rule("r", "u", path))], long(1));
+        }
     }
 }
 

@@ -1,12 +1,15 @@
 //! The path and the tree verdict: the proved calls against the Rust ones, and on
 //! small tables against the enumeration too.
 
+use std::cmp::Reverse;
+
 use burgee_rust::brute::{Asker, Model, Tree};
 use burgee_rust::compare::{path_verdict, tree_verdict};
 use burgee_rust::generate::damage::damage;
 use burgee_rust::generate::path::{good_path, Path, TEXT_MARKS};
 use burgee_rust::generate::table::{
-    dense_table, focused_table, path_near, some_origin, table_of_length, table_text, Line, Rule, Shape, USERS,
+    dense_table, focused_table, path_near, shuffle_each_kind, some_origin, table_of_length, table_text, Line, Rule,
+    Shape, USERS,
 };
 use burgee_rust::generate::table_fault::LINE_FAULTS;
 use burgee_rust::random::Random;
@@ -123,6 +126,18 @@ fn example_5_of_001() {
     assert_eq!(asks("core-controller1", one), (deny_by(4), NONE));
 }
 
+/// "Permitted use", "Not permitted use" of wildcards.
+#[test]
+fn wildcards_of_001() {
+    let asks = |path| asks(VERSION_ONLY, "u", READ, "", path).0;
+    for permitted in ["/a/b[key=*]/c/d", "/this/is/a/keyed[name=*]/things"] {
+        assert_eq!(asks(permitted), DENY);
+    }
+    for not_permitted in ["/a/b[key=foo]/*/d", "/this/is/a/keyed[name=Ethernet1/*/3]/things"] {
+        assert_eq!(asks(not_permitted), 22);
+    }
+}
+
 #[test]
 fn message_paths_of_001() {
     let asks = |user: &str, mode, path: &str| asks(MESSAGE_PATHS, user, mode, "foo", path);
@@ -171,13 +186,104 @@ fn slips() {
     assert_eq!(ask(&ids, "/a"), (deny_by(1), NONE));
 }
 
+/// A rule about reading by user `u`.
 fn line(id: &str, action: u8, path: &str) -> Line {
+    line_about(0, b'u', id, action, path)
+}
+
+/// A rule about reading by a user (0) or by a group (1).
+fn line_about(subject_kind: u8, subject: u8, id: &str, action: u8, path: &str) -> Line {
     let bytes = burgee_rust::path::path_bytes(path.as_bytes()).expect("a good path");
-    let mut frame = vec![4, action, 1, 0, 1, b'u', id.len() as u8];
-    frame.extend(id.as_bytes());
-    frame.push(0);
-    frame.extend(bytes);
-    Line::Frame(frame)
+    let head = [4, action, 1, subject_kind, 1, subject, id.len() as u8];
+    Line::Frame([&head, id.as_bytes(), &[0], &bytes].concat())
+}
+
+/// All pairs out of some rules that match one request: the better one decides, whichever
+/// stands first, and each step of the ranking is the one that tells some of them apart.
+#[test]
+fn each_step_of_the_ranking() {
+    // With each path how many elements and how many definite keys it has.
+    let paths = [
+        ("/", 0, 0),
+        ("/a", 1, 0),
+        ("/a[k=*]", 1, 0),
+        ("/a[k=1]", 1, 1),
+        ("/a[l=2][m=*]", 1, 1),
+        ("/a[k=1][l=2]", 1, 2),
+        ("/a/b", 2, 0),
+        ("/a[k=1]/b", 2, 1),
+        ("/a[l=*]/b[k=3]", 2, 1),
+        ("/a[l=2]/b[k=3]", 2, 2),
+        ("/a[l=2][k=1]/b[k=3]", 2, 3),
+    ];
+    let request = PathRequest { user: b"u", mode: READ, origin: b"", path: b"/a[k=1][l=2]/b[k=3]" };
+    let mut rules = Vec::new();
+    for (path, elements, definite) in paths {
+        for is_user in [false, true] {
+            for is_deny in [false, true] {
+                for id in ["q2", "r", "r1"] {
+                    let subject = if is_user { (0, b'u') } else { (1, b'g') };
+                    let line = line_about(subject.0, subject.1, id, u8::from(!is_deny), path);
+                    rules.push((line, (elements, definite, is_user, is_deny, Reverse(id))));
+                }
+            }
+        }
+    }
+    let head = [Line::version("v1"), Line::group("g"), Line::member("g", "u")];
+    let mut told_apart = [0; 5];
+    for (first, first_rank) in &rules {
+        for (second, second_rank) in &rules {
+            if first_rank.4 == second_rank.4 {
+                continue;
+            }
+            let table = table_text(&[&head[..], &[first.clone(), second.clone()]].concat());
+            let (number, best) = if first_rank > second_rank { (0, first_rank) } else { (1, second_rank) };
+            let expected = if best.3 { deny_by(number) } else { permit_by(number) };
+            assert_eq!(compare(&table, &request).0, expected, "{first_rank:?} and {second_rank:?}");
+            let step = [
+                first_rank.0 != second_rank.0,
+                first_rank.1 != second_rank.1,
+                first_rank.2 != second_rank.2,
+                first_rank.3 != second_rank.3,
+                true,
+            ];
+            told_apart[step.iter().position(|differs| *differs).unwrap_or(4)] += 1;
+        }
+    }
+    assert!(told_apart.iter().all(|count| *count >= 200), "pairs by step: {told_apart:?}");
+}
+
+/// Group, member and rule lines in another order, each among its own kind: the same
+/// action, the same tree answer, and rules with the same ids.
+#[test]
+fn lines_in_another_order() {
+    let mut random = Random::new(0x3B);
+    let mut verdicts = Verdicts::default();
+    for round in 0..1_000 {
+        let shape = Shape { rules: 2 + round % 12, depth: 1 + round % 3, ..Shape::SMALL };
+        let lines = focused_table(&mut random, shape);
+        let mut shuffled = lines.clone();
+        shuffle_each_kind(&mut random, &mut shuffled);
+        let (text, other_text) = (table_text(&lines), table_text(&shuffled));
+        for _ in 0..3 {
+            let path = path_near(&mut random, &lines, &shape).text();
+            let request = PathRequest { user: b"u", mode: READ, origin: b"", path: &path };
+            let (path, tree) = compare(&text, &request);
+            let (other_path, other_tree) = compare(&other_text, &request);
+            assert_eq!(named_by_id(&lines, path), named_by_id(&shuffled, other_path), "{request:?}");
+            assert_eq!(named_by_id(&lines, tree), named_by_id(&shuffled, other_tree), "{request:?}");
+            verdicts.count((path, tree));
+        }
+    }
+    verdicts.assert_each_at_least(100);
+}
+
+/// The word of an answer, and the id of the rule it names.
+fn named_by_id(lines: &[Line], answer: u64) -> (u64, Option<Vec<u8>>) {
+    let mut rules = lines.iter().filter_map(Line::as_rule);
+    let number = (answer >> 16) as usize;
+    let id = number.checked_sub(1).map(|number| rules.nth(number).expect("a rule of the table").id.clone());
+    (answer & 0xFFFF, id)
 }
 
 fn some_request(random: &mut Random, lines: &[Line], shape: &Shape) -> (Vec<u8>, u32, &'static str, Vec<u8>) {

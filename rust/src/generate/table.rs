@@ -75,6 +75,17 @@ impl Line {
         }
     }
 
+    /// 0 for a line that may be none.
+    pub fn kind(&self) -> u8 {
+        match self {
+            Line::Version { .. } => 1,
+            Line::Group { .. } => 2,
+            Line::Member { .. } => 3,
+            Line::Rule(_) => 4,
+            Line::Frame(_) | Line::Text(_) => 0,
+        }
+    }
+
     pub fn as_rule(&self) -> Option<&Rule> {
         match self {
             Line::Rule(rule) => Some(rule),
@@ -104,6 +115,13 @@ pub fn hex_line(frame: &[u8]) -> Vec<u8> {
 
 pub fn table_text(lines: &[Line]) -> Vec<u8> {
     lines.iter().flat_map(Line::text).collect()
+}
+
+/// Puts the lines of a good table in another order, each among its own kind.
+pub fn shuffle_each_kind(random: &mut Random, lines: &mut [Line]) {
+    for same in lines.chunk_by_mut(|one, next| one.kind() == next.kind()) {
+        random.shuffle(same);
+    }
 }
 
 /// The sizes and the bytes of a generated table.

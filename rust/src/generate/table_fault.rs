@@ -33,7 +33,7 @@ const fn fault(number: u8, name: &'static str, put: Put) -> LineFault {
     LineFault { number, name, put }
 }
 
-pub const LINE_FAULTS: [LineFault; 36] = [
+pub const LINE_FAULTS: [LineFault; 38] = [
     fault(2, "odd digits", |_, lines, at| spoil_text(lines, at, |text| text.insert(0, b'0'))),
     fault(2, "upper case", upper_case),
     fault(2, "no digit", no_digit),
@@ -58,7 +58,7 @@ pub const LINE_FAULTS: [LineFault; 36] = [
         }
     }),
     fault(4, "group after a later kind", |_, lines, at| {
-        at > 0 && kind(&lines[at - 1]) > 2 && {
+        at > 0 && lines[at - 1].kind() > 2 && {
             lines[at] = Line::group("new group");
             true
         }
@@ -78,8 +78,10 @@ pub const LINE_FAULTS: [LineFault; 36] = [
     fault(5, "value empty", |random, lines, at| in_path(random, lines, at, Fault::ValueEmpty)),
     fault(5, "value long", |random, lines, at| in_path(random, lines, at, Fault::ValueLong)),
     fault(6, "name byte", |random, lines, at| in_path(random, lines, at, Fault::NameByte)),
+    fault(6, "key name byte", |random, lines, at| in_path(random, lines, at, Fault::KeyNameByte)),
     fault(6, "value byte", |random, lines, at| in_path(random, lines, at, Fault::ValueByte)),
     fault(7, "name star", |random, lines, at| in_path(random, lines, at, Fault::NameStar)),
+    fault(7, "key name star", |random, lines, at| in_path(random, lines, at, Fault::KeyNameStar)),
     fault(7, "value star", |random, lines, at| in_path(random, lines, at, Fault::ValueStar)),
     fault(7, "dots", |random, lines, at| in_path(random, lines, at, Fault::Dots)),
     fault(8, "key twice", |random, lines, at| in_path(random, lines, at, Fault::KeyTwice)),
@@ -98,16 +100,6 @@ pub const LINE_FAULTS: [LineFault; 36] = [
         })
     }),
 ];
-
-fn kind(line: &Line) -> u8 {
-    match line {
-        Line::Version { .. } => 1,
-        Line::Group { .. } => 2,
-        Line::Member { .. } => 3,
-        Line::Rule(_) => 4,
-        Line::Frame(_) | Line::Text(_) => 0,
-    }
-}
 
 fn spoil_text(lines: &mut [Line], at: usize, spoil: impl FnOnce(&mut Vec<u8>)) -> bool {
     let mut text = lines[at].text();
@@ -171,7 +163,7 @@ fn member_after_rule(_: &mut Random, lines: &mut [Line], at: usize) -> bool {
         _ => None,
     });
     match group {
-        Some(group) if at > 0 && kind(&lines[at - 1]) == 4 => {
+        Some(group) if at > 0 && lines[at - 1].kind() == 4 => {
             lines[at] = Line::Member { group, user: b"new user".to_vec() };
             true
         }
@@ -236,7 +228,7 @@ fn in_path(random: &mut Random, lines: &mut [Line], at: usize, fault: Fault) -> 
 
 /// A group name, a member in a group, or a rule id that an earlier line has.
 fn line_twice(random: &mut Random, lines: &mut [Line], at: usize) -> bool {
-    let earlier: Vec<usize> = (0..at).filter(|i| kind(&lines[*i]) == kind(&lines[at])).collect();
+    let earlier: Vec<usize> = (0..at).filter(|i| lines[*i].kind() == lines[at].kind()).collect();
     if earlier.is_empty() {
         return false;
     }
