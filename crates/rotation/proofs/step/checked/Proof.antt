@@ -1,0 +1,16 @@
+use Rattle.rotation.proofs.Steps.{checked-none, checked-some}
+use Rattle.rotation.proofs.step.checked.Statement.{statement}
+use Rattle.rotation.proofs.step.checked.Tie as tie
+
+returns : tie.Need-returns
+returns c =
+    let at-if1 = c .if1 in
+    checked-none _ (at-if1 .taken)
+
+returns-2 : tie.Need-returns-2
+returns-2 c =
+    let at-if1 = c .if1 in
+    checked-some _ (at-if1 .left)
+
+pub checked-spec : {M : Type 1} → statement M
+checked-spec = tie.close (tie.spec returns returns-2)

@@ -1,0 +1,83 @@
+// What a record says.
+ghost use mathlib.Core.Path.{_≡_};
+ghost use Rattle.rotation.specs.State.{given, badLength, badRecord, recordRefusal, candidateSlot, inForce, atRest};
+use crate::InForce;
+use crate::Record;
+
+fn is_given(len: u32) -> bool
+    ensures { λ b. ⌜ b ≡ given len ⌝ }
+{
+    !(len == 4294967295)
+}
+
+fn is_bad_length(len: u32) -> bool
+    ensures { λ b. ⌜ b ≡ badLength len ⌝ }
+{
+    is_given(len) & (32768 < len)
+}
+
+fn is_bad(r: Record) -> bool
+    ensures { λ b. ⌜ b ≡ badRecord r ⌝ }
+{
+    let kind = !((r.kind == 1) | (r.kind == 2));
+    let slot = is_given(r.live_len) & (1 < r.live_slot);
+    let live = is_bad_length(r.live_len);
+    let candidate = is_bad_length(r.candidate_len);
+    let off = (r.rotating == 0) & is_given(r.candidate_len);
+    kind | (slot | (live | (candidate | off)))
+}
+
+// 11 or 15 for a record and a store of n bytes, else the call's own number.
+pub fn refusal(r: Record, n: usize, own: u8) -> u8
+    ensures { λ k. ⌜ k ≡ recordRefusal r n own ⌝ }
+{
+    if n < 65536 {
+        return 11;
+    }
+    if is_bad(r) {
+        return 15;
+    }
+    own
+}
+
+// The slot that is not live.
+pub fn candidate_slot(r: Record) -> u32
+    ensures { λ k. ⌜ k ≡ candidateSlot r ⌝ }
+{
+    if is_given(r.live_len) & (r.live_slot == 0) {
+        return 1;
+    }
+    0
+}
+
+// That slot and length live, no candidate, rotation off.
+pub fn at_rest(r: Record, slot: u32, len: u32) -> Record
+    ensures { λ s. ⌜ s ≡ atRest r slot len ⌝ }
+{
+    Record {
+        kind: r.kind,
+        live_slot: slot,
+        live_len: len,
+        rotating: 0,
+        candidate_len: 4294967295,
+    }
+}
+
+// The candidate, else the live text, else none.
+pub fn in_force(r: Record) -> InForce
+    ensures { λ f. ⌜ f ≡ inForce r ⌝ }
+{
+    if is_given(r.candidate_len) {
+        return InForce::Text {
+            slot: candidate_slot(r),
+            len: r.candidate_len,
+        };
+    }
+    if is_given(r.live_len) {
+        return InForce::Text {
+            slot: r.live_slot,
+            len: r.live_len,
+        };
+    }
+    InForce::Factory
+}

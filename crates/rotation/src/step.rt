@@ -1,0 +1,121 @@
+// Start, finalize and close on a record and a store of n bytes, and what an upload makes of a record.
+ghost use mathlib.Core.Path.{_≡_};
+ghost use Rattle.table.specs.Text.{unless};
+ghost use Rattle.table.specs.declared.Checked.the-variants.{Accepted};
+ghost use Rattle.rotation.specs.Calls.{stepped, startRefusal, offRefusal, finalizeRefusal, probeRefusal, uploaded, start, finalize, close};
+use crate::Record;
+use crate::Stepped;
+use table::Checked;
+
+// A refusal keeps the record.
+pub fn settle(c: Checked, r: Record, next: Record) -> Stepped
+    ensures { λ s. ⌜ s ≡ stepped c r next ⌝ }
+{
+    match c {
+        Checked::Accepted => Stepped {
+            next: next,
+            answer: Checked::Accepted,
+        },
+        Checked::Refused { number, line } => Stepped {
+            next: r,
+            answer: Checked::Refused {
+                number: number,
+                line: line,
+            },
+        },
+    }
+}
+
+fn checked(number: u8) -> Checked
+    ensures { λ c. ⌜ c ≡ unless number 0 Accepted ⌝ }
+{
+    if number == 255 {
+        return Checked::Accepted;
+    }
+    Checked::Refused {
+        number: number,
+        line: 0,
+    }
+}
+
+fn start_refusal(r: Record, n: usize) -> u8
+    ensures { λ k. ⌜ k ≡ startRefusal r n ⌝ }
+{
+    if r.rotating == 0 {
+        return crate::state::refusal(r, n, 255);
+    }
+    crate::state::refusal(r, n, 12)
+}
+
+// Of upload and close.
+pub fn off_refusal(r: Record, n: usize) -> u8
+    ensures { λ k. ⌜ k ≡ offRefusal r n ⌝ }
+{
+    if r.rotating == 0 {
+        return crate::state::refusal(r, n, 13);
+    }
+    crate::state::refusal(r, n, 255)
+}
+
+fn finalize_refusal(r: Record, n: usize) -> u8
+    ensures { λ k. ⌜ k ≡ finalizeRefusal r n ⌝ }
+{
+    if r.rotating == 0 {
+        return crate::state::refusal(r, n, 13);
+    }
+    if r.candidate_len == 4294967295 {
+        return crate::state::refusal(r, n, 14);
+    }
+    crate::state::refusal(r, n, 255)
+}
+
+// Of a probe for records of that kind.
+pub fn probe_refusal(r: Record, n: usize, kind: u32) -> u8
+    ensures { λ k. ⌜ k ≡ probeRefusal kind r n ⌝ }
+{
+    if r.kind == kind {
+        return crate::state::refusal(r, n, 255);
+    }
+    crate::state::refusal(r, n, 16)
+}
+
+// The candidate gets its length.
+pub fn with_candidate(r: Record, len: u32) -> Record
+    ensures { λ s. ⌜ s ≡ uploaded r len ⌝ }
+{
+    Record {
+        kind: r.kind,
+        live_slot: r.live_slot,
+        live_len: r.live_len,
+        rotating: r.rotating,
+        candidate_len: len,
+    }
+}
+
+pub fn start(r: Record, n: usize) -> Stepped
+    ensures { λ s. ⌜ s ≡ start r n ⌝ }
+{
+    let next = Record {
+        kind: r.kind,
+        live_slot: r.live_slot,
+        live_len: r.live_len,
+        rotating: 1,
+        candidate_len: 4294967295,
+    };
+    settle(checked(start_refusal(r, n)), r, next)
+}
+
+pub fn finalize(r: Record, n: usize) -> Stepped
+    ensures { λ s. ⌜ s ≡ finalize r n ⌝ }
+{
+    let slot = crate::state::candidate_slot(r);
+    let next = crate::state::at_rest(r, slot, r.candidate_len);
+    settle(checked(finalize_refusal(r, n)), r, next)
+}
+
+pub fn close(r: Record, n: usize) -> Stepped
+    ensures { λ s. ⌜ s ≡ close r n ⌝ }
+{
+    let next = crate::state::at_rest(r, r.live_slot, r.live_len);
+    settle(checked(off_refusal(r, n)), r, next)
+}
