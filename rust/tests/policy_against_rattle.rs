@@ -8,7 +8,7 @@ use burgee_rust::generate::short::for_each_short_string;
 use burgee_rust::limits;
 use burgee_rust::random::Random;
 use burgee_rust::tally::Tally;
-use burgee_rust::vectors::{POLICIES, POLICY_OF_NOBODY};
+use burgee_rust::vectors::{JSON, NO_JSON, POLICIES, POLICY_OF_NOBODY};
 
 fn expect(text: &str, number: u64) {
     assert_eq!(policy_check(text.as_bytes()), number, "{text}");
@@ -149,77 +149,10 @@ fn corners_of_json() {
         expect(&format!(r#"{{"name":"p","allow_rules":[],"x":{value}}}"#), number);
         expect(&format!(r#"{{"name":"p","allow_rules":[{value}]}}"#), number);
     };
-    for good in [
-        "0",
-        "-0",
-        "1e400",
-        "-1.0E-0",
-        "123456789012345678901234567890",
-        "true",
-        "null",
-        "\"\"",
-        r#""\ud800""#,
-        r#""\uDC00\ud800""#,
-        r#""\u0000""#,
-        r#""\"\\\/\b\f\n\r\t""#,
-        "[]",
-        "[[],[]]",
-        "[{}]",
-        "[ 1 , 2 ]",
-        "\r\n\t [\r\n\t ]\r\n\t ",
-    ] {
+    for good in JSON {
         is_json(good, 33);
     }
-    for bad in [
-        "01",
-        "-",
-        "+1",
-        ".5",
-        "1.",
-        "1e",
-        "1e+",
-        "0x0",
-        "--1",
-        "1-",
-        "1.e1",
-        "0e",
-        "NaN",
-        "Infinity",
-        "True",
-        "nul",
-        "truefalse",
-        "\"",
-        "\"\\\"",
-        r#""\a""#,
-        r#""\U0041""#,
-        r#""\u004""#,
-        r#""\u00g0""#,
-        "'x'",
-        "[1,]",
-        "[,]",
-        "[1 2]",
-        "[1,,2]",
-        "[",
-        "]",
-        "[}",
-        "{\"a\"}",
-        "{\"a\":}",
-        "{\"a\":1,}",
-        "{a:1}",
-        "{1:1}",
-        "{\"a\" 1}",
-        "{\"a\":1 \"b\":2}",
-        "{]",
-        "/* */1",
-        "\"a\tb\"",
-        "\"a\nb\"",
-        "\"\u{7f}\"",
-        "\"\u{80}\"",
-        "\u{b}1",
-        "\u{a0}1",
-        "\u{feff}1",
-        "1\0",
-    ] {
+    for bad in NO_JSON {
         is_json(bad, 31);
     }
     // Twice in one object, at any depth, also where the schema knows no object.

@@ -2,6 +2,7 @@
 
 use super::policy::{good_header, Header, Node, Policy, Request, Rule, Source};
 use crate::limits;
+use crate::policy::BARRED_KEYS;
 use crate::random::Random;
 
 type Bytes = Vec<u8>;
@@ -56,20 +57,8 @@ pub const PART_FAULTS: [PartFault; 14] = [
         list.insert(place, pattern.into());
     }),
     part(37, "barred key", |random, policy| {
-        const BARRED: [&str; 11] = [
-            "host",
-            "grpc-",
-            "grpc-status",
-            "connection",
-            "keep-alive",
-            "proxy-authenticate",
-            "proxy-authorization",
-            "te",
-            "trailer",
-            "transfer-encoding",
-            "upgrade",
-        ];
-        some_header(random, policy).key = random.pick(&BARRED).as_bytes().to_vec();
+        let key = if random.one_in(3) { random.pick(&["grpc-", "grpc-status"]) } else { random.pick(&BARRED_KEYS) };
+        some_header(random, policy).key = key.as_bytes().to_vec();
     }),
     part(37, "ill-spelt key", |random, policy| {
         let key = *random.pick(&["Host", "K", ":path", "a b", "*", "k*", "k:", "a/b", "k,", "k~", "kK", " "]);
