@@ -25,22 +25,23 @@ static inline bool print_refusal(uint64_t answer)
     if (number <= BURGEE_REFUSED_TABLE_UNLISTED) {
         printf(" at line %u", (unsigned)burgee_answer_line(answer));
     }
-    printf("\n");
     return true;
 }
 
-/* Of a check: whether the text was accepted. */
-static inline void print_check(const char *name, uint64_t answer)
+/* Of a call that has nothing else to say: a word for its success. */
+static inline void print_done(const char *word, uint64_t answer)
 {
-    printf("%s: ", name);
     if (!print_refusal(answer)) {
-        printf("accepted\n");
+        printf("%s", word);
     }
 }
 
 /* Of a verdict: the action, and the rule that decided. */
 static inline void print_action(uint64_t answer)
 {
+    if (print_refusal(answer)) {
+        return;
+    }
     printf("%s", burgee_answer_action(answer) == BURGEE_PERMIT ? "permit" : "deny");
     if (burgee_answer_rule(answer) >= 0) {
         printf(" by rule %d", burgee_answer_rule(answer));
@@ -53,6 +54,9 @@ static inline void print_action(uint64_t answer)
 static inline void print_tree(uint64_t answer)
 {
     static const char *const words[] = {"NONE", "ALL", "MIXED"};
+    if (print_refusal(answer)) {
+        return;
+    }
     printf("%s", words[burgee_answer_tree(answer)]);
     if (burgee_answer_tree(answer) == BURGEE_TREE_MIXED) {
         printf(" by rule %d", burgee_answer_rule(answer));

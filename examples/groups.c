@@ -14,7 +14,9 @@ static const char table[] =
 
 static void check(const char *name, const char *text)
 {
-    print_check(name, burgee_table_check(SLICE(text)));
+    printf("%s: ", name);
+    print_done("accepted", burgee_table_check(SLICE(text)));
+    printf("\n");
 }
 
 static void count(const char *user)
@@ -22,8 +24,9 @@ static void count(const char *user)
     uint64_t answer = burgee_group_count(SLICE(table), SLICE(user));
     printf("user `%s`: ", user);
     if (!print_refusal(answer)) {
-        printf("%u groups, the first is %d\n", burgee_answer_group_count(answer), burgee_answer_first_group(answer));
+        printf("%u groups, the first is %d", burgee_answer_group_count(answer), burgee_answer_first_group(answer));
     }
+    printf("\n");
 }
 
 int main(void)

@@ -5,7 +5,9 @@
 
 static void check(const char *name, const char *text)
 {
-    print_check(name, burgee_policy_check(SLICE(text)));
+    printf("%s: ", name);
+    print_done("accepted", burgee_policy_check(SLICE(text)));
+    printf("\n");
 }
 
 int main(void)

@@ -16,11 +16,8 @@ static void ask(const char *user, uint32_t mode, const char *path)
     uint64_t tree = burgee_tree_verdict(SLICE(table), SLICE(user), mode, SLICE(""), SLICE(path));
 
     printf("%s %s %s: ", user, mode == BURGEE_READ ? "reads" : "writes", path);
-    if (print_refusal(single)) {
-        return;
-    }
     print_action(single);
-    printf(", tree ");
+    printf("; tree ");
     print_tree(tree);
     printf("\n");
 }
