@@ -1,0 +1,30 @@
+// Arguments, and files by name or standard input.
+
+// A descriptor of the file that argument i names, 0 for `-`; or -1, after a complaint.
+pub fn open(i: usize) -> i32 {
+    let mut name = io::buffer();
+    let n = os::arg(i, &mut name);
+    if os::errno() != 0 {
+        console::say::usage(b"the file's name is missing or too long");
+        return -1;
+    }
+    if text::string::is_same(&name[..n], b"-") {
+        return 0;
+    }
+    let fd = os::open_read(&name[..n]);
+    if fd < 0 {
+        os::fail(&name[..n]);
+    }
+    fd
+}
+
+// 1 for read, 2 for write, 0 for anything else.
+pub fn mode(word: &[u8]) -> u32 {
+    if text::string::is_same(word, b"read") {
+        return 1;
+    }
+    if text::string::is_same(word, b"write") {
+        return 2;
+    }
+    0
+}

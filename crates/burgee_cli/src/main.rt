@@ -1,0 +1,125 @@
+// The command line: each command prints what one call of the proved libraries answers, one fact a line.
+mod input;
+mod paths;
+mod policies;
+mod tables;
+
+// burgee table FILE
+fn table() {
+    let fd = input::open(2);
+    if fd < 0 {
+        return;
+    }
+    let mut text = io::large_buffer();
+    let n = io::read_full(fd, &mut text);
+    tables::check(&text[..n]);
+}
+
+// burgee policy FILE
+fn policy() {
+    let fd = input::open(2);
+    if fd < 0 {
+        return;
+    }
+    let mut text = io::large_buffer();
+    let n = io::read_full(fd, &mut text);
+    policies::check(&text[..n]);
+}
+
+// burgee groups FILE USER
+fn groups() {
+    let fd = input::open(2);
+    if fd < 0 {
+        return;
+    }
+    let mut user = io::buffer();
+    let u = os::arg(3, &mut user);
+    let mut text = io::large_buffer();
+    let n = io::read_full(fd, &mut text);
+    tables::groups(&text[..n], &user[..u]);
+}
+
+// burgee verdict|tree FILE USER read|write ORIGIN PATH
+fn verdict(is_single: bool) {
+    let mut word = io::buffer();
+    let w = os::arg(4, &mut word);
+    let mode = input::mode(&word[..w]);
+    if mode == 0 {
+        console::say::usage(b"the mode is read or write");
+        return;
+    }
+    let fd = input::open(2);
+    if fd < 0 {
+        return;
+    }
+    let mut user = io::buffer();
+    let u = os::arg(3, &mut user);
+    let mut origin = io::buffer();
+    let o = os::arg(5, &mut origin);
+    let mut path = io::large_buffer();
+    let p = os::arg(6, &mut path);
+    let mut text = io::large_buffer();
+    let n = io::read_full(fd, &mut text);
+    if is_single {
+        tables::verdict(&text[..n], &user[..u], mode, &origin[..o], &path[..p]);
+    } else {
+        tables::tree(&text[..n], &user[..u], mode, &origin[..o], &path[..p]);
+    }
+}
+
+// burgee path read TEXT
+// burgee path write BYTES
+fn path() {
+    let mut word = io::buffer();
+    let w = os::arg(2, &mut word);
+    let mode = input::mode(&word[..w]);
+    // What stands after the argument is LF, which ends a line of digits.
+    let mut given = [10u8; 65536];
+    let n = os::arg(3, &mut given);
+    if mode == 1 {
+        paths::read(&given[..n]);
+        return;
+    }
+    if mode == 2 {
+        paths::write(&given);
+        return;
+    }
+    console::say::usage(b"after path comes read or write");
+}
+
+// burgee help COMMAND
+fn explain_use() {
+    let mut word = io::buffer();
+    let w = os::arg(2, &mut word);
+    console::help::on(&word[..w]);
+}
+
+// The command, if it is one and has the arguments that it takes.
+fn run(command: &[u8], words: usize) -> bool {
+    let is_verdict = text::string::is_same(command, b"verdict");
+    if text::string::is_same(command, b"table") & (words == 3) {
+        table();
+    } else if text::string::is_same(command, b"policy") & (words == 3) {
+        policy();
+    } else if text::string::is_same(command, b"groups") & (words == 4) {
+        groups();
+    } else if text::string::is_same(command, b"path") & (words == 4) {
+        path();
+    } else if (is_verdict | text::string::is_same(command, b"tree")) & (words == 7) {
+        verdict(is_verdict);
+    } else if text::string::is_same(command, b"help") {
+        explain_use();
+    } else {
+        return false;
+    }
+    true
+}
+
+fn main() {
+    let mut word = io::buffer();
+    let w = os::arg(1, &mut word);
+    let n = os::arg_count();
+    if !run(&word[..w], n) {
+        console::say::usage(b"no such command, or not the arguments that it takes");
+    }
+}

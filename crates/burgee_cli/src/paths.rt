@@ -1,0 +1,46 @@
+// Path text and path bytes.
+ghost use Prim.Native.Nat.{_≤_};
+ghost use lib.ListN.{length};
+ghost use Rattle.io.specs.Counts.{Counts};
+use line::Line;
+use path_text::Filled;
+
+// n, which is no more than buf holds.
+fn within(n: usize, buf: &[u8]) -> usize
+    ensures { λ r. ⌜ Counts r (now (buf .entry)) ⌝ }
+{
+    if n <= buf.len() { n } else { buf.len() }
+}
+
+// Prints the bytes of a path text, in hex.
+pub fn read(text: &[u8]) {
+    let mut out = [0u8; 9377];
+    let r = path_text::reader::read_text(text, &mut out);
+    match r {
+        Filled::Length(n) => console::say::hex(&out[..within(n, &out)]),
+        Filled::Refused(number) => console::refusal::request(number),
+    }
+}
+
+fn write_bytes(bytes: &[u8]) {
+    let mut out = [0u8; 13520];
+    let r = path_text::writer::write_text(bytes, &mut out);
+    match r {
+        Filled::Length(n) => console::say::line(&out[..within(n, &out)]),
+        Filled::Refused(number) => console::refusal::request(number),
+    }
+}
+
+// Prints the text of path bytes, which a line of hex digits stands for.
+pub fn write(digits: &[u8])
+    requires { ⌜ length (now digits) ≤ 65536 ⌝ }
+{
+    let mut bytes = [0u8; 32768];
+    let l = line::read_line(digits, 0, &mut bytes, 0);
+    match l {
+        Line::Frame { len, next } => {
+            write_bytes(&bytes[..within(len, &bytes)]);
+        }
+        Line::Bad => console::say::usage(b"path bytes are written as pairs of the digits 0-9a-f"),
+    }
+}

@@ -1,0 +1,120 @@
+// Help: what the commands are, and for each what it prints, with an example.
+pub fn all() {
+    crate::say::text(
+        b"burgee: tries rule tables and policies\n\
+        \n\
+        burgee table FILE\n\
+        burgee groups FILE USER\n\
+        burgee verdict FILE USER read|write ORIGIN PATH\n\
+        burgee tree FILE USER read|write ORIGIN PATH\n\
+        burgee path read TEXT\n\
+        burgee path write BYTES\n\
+        burgee policy FILE\n\
+        burgee help COMMAND\n\
+        \n\
+        A FILE named - is standard input. Each line of an answer is one fact.\n\
+        The exit status is 0 for an answer, 1 for a refusal, 2 for a call that is not understood.\n",
+    );
+}
+
+fn table() {
+    crate::say::text(
+        b"burgee table FILE\n\
+        \n\
+        Checks a rule table: accepted, and how many groups, members and rules it has;\n\
+        or the number of the refusal, its line, what it means, and the line itself.\n\
+        \n\
+        $ burgee table examples/files/yard.table\n\
+        accepted\n\
+        groups 2\n\
+        members 3\n\
+        rules 6\n",
+    );
+}
+
+fn groups() {
+    crate::say::text(
+        b"burgee groups FILE USER\n\
+        \n\
+        How many groups of a rule table list the user, and the first of them.\n\
+        \n\
+        $ burgee groups examples/files/yard.table stevie\n\
+        groups 2\n\
+        first 0\n\
+        name admin\n",
+    );
+}
+
+fn verdict() {
+    crate::say::text(
+        b"burgee verdict FILE USER read|write ORIGIN PATH\n\
+        \n\
+        What the user may do at one path: permit or deny, and the deciding rule's number and id,\n\
+        or default where no rule matches.\n\
+        \n\
+        $ burgee verdict examples/files/yard.table ann write '' '/interfaces/interface[name=uplink]/config'\n\
+        permit\n\
+        rule 2\n\
+        id eng-ports\n",
+    );
+}
+
+fn tree() {
+    crate::say::text(
+        b"burgee tree FILE USER read|write ORIGIN PATH\n\
+        \n\
+        What the user may do at a path and beneath it: ALL, NONE or MIXED.\n\
+        With MIXED comes a rule that makes the difference, the one with the smallest id.\n\
+        \n\
+        $ burgee tree examples/files/yard.table stevie read '' /system\n\
+        MIXED\n\
+        rule 5\n\
+        id eng-no-keys\n",
+    );
+}
+
+fn path() {
+    crate::say::text(
+        b"burgee path read TEXT\n\
+        burgee path write BYTES\n\
+        \n\
+        Path text to path bytes in hex, as rules hold them, and back.\n\
+        \n\
+        $ burgee path read '/a[k=*]'\n\
+        01016101016b012a\n\
+        $ burgee path write 01016101016b012a\n\
+        /a[k=*]\n",
+    );
+}
+
+fn policy() {
+    crate::say::text(
+        b"burgee policy FILE\n\
+        \n\
+        Checks an RPC policy: accepted, and how many rules each list has; or the number of the refusal and what it means.\n\
+        \n\
+        $ burgee policy examples/files/yard.json\n\
+        accepted\n\
+        deny_rules 1\n\
+        allow_rules 2\n",
+    );
+}
+
+// One command's help, or all of it where there is no such command.
+pub fn on(command: &[u8]) {
+    if text::string::is_same(command, b"table") {
+        table();
+    } else if text::string::is_same(command, b"groups") {
+        groups();
+    } else if text::string::is_same(command, b"verdict") {
+        verdict();
+    } else if text::string::is_same(command, b"tree") {
+        tree();
+    } else if text::string::is_same(command, b"path") {
+        path();
+    } else if text::string::is_same(command, b"policy") {
+        policy();
+    } else {
+        all();
+    }
+}
