@@ -2,3 +2,4 @@ pub mod Pattern
 pub mod Request
 pub mod Verdict
 pub mod Call
+pub mod Steps

@@ -74,6 +74,10 @@ joined [] = []
 joined (v ∷ []) = v
 joined (v ∷ w ∷ l) = v ++ (44 ∷ joined (w ∷ l))
 
+-- the values of the lines of this name, in order
+unfoldable pub valuesOf : Str → List Line → List Str
+valuesOf n l = map (λ (x : Line). x .value) (only (λ (x : Line). same (x .name) n) l)
+
 -- "A header that the request doesn't carry counts as an empty value."
-unfoldable pub headerValue : Str → Request → Str
-headerValue n r = joined (map (λ (l : Line). l .value) (only (λ (l : Line). same (l .name) n) (r .headers)))
+unfoldable pub headerValue : Str → List Line → Str
+headerValue n l = joined (valuesOf n l)

@@ -17,7 +17,7 @@ listed [] v = true
 listed (p ∷ ps) v = any (λ (q : Str). matches q v) (p ∷ ps)
 
 unfoldable pub headerMatches : Request → Header → Bool
-headerMatches r h = any (λ (p : Str). matches p (headerValue (h .key) r)) (h .values)
+headerMatches r h = any (λ (p : Str). matches p (headerValue (h .key) (r .headers))) (h .values)
 
 -- "headers must all match"
 unfoldable pub ruleMatches : Request → Rule → Bool

@@ -1,3 +1,5 @@
+pub mod headers;
 pub mod pattern;
+pub mod request;
 pub mod verdict;
 pub mod word;
