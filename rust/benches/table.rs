@@ -3,7 +3,10 @@
 use std::hint::black_box;
 
 use burgee_rust::boundary::table as proved;
-use burgee_rust::generate::table::{table_of_length, table_of_members, table_of_rules};
+use burgee_rust::generate::table::{
+    table_of_colliding_groups, table_of_colliding_members, table_of_length, table_of_members, table_of_rules,
+    table_of_shuffled_members,
+};
 use burgee_rust::measure::Table;
 use burgee_rust::random::Random;
 use burgee_rust::table::{check_table, group_count};
@@ -15,6 +18,9 @@ fn main() {
         ("10 rules", table_of_rules(&mut random, 10, 39)),
         ("256 rules", table_of_rules(&mut random, 256, 39)),
         ("64 groups, 512 members", table_of_members(64, 512)),
+        ("64 groups, 512 members shuffled", table_of_shuffled_members(&mut random, 64, 512)),
+        ("64 groups of one hash, 512 members", table_of_colliding_groups(64, 512)),
+        ("1 group, 512 members of one hash", table_of_colliding_members(512)),
     ];
 
     let printed = Table::new("Check of a table");

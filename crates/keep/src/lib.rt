@@ -12,8 +12,15 @@ ghost use Rattle.keep.specs.Held.{membersIn, Owned, Marked, memberPlace,
 use table::frame::RuleFrame;
 use text::frame::End;
 
-// A frame of kind 2. It is kept where the number is 255.
-pub fn take_group(old: &[u8], f: &[u8], last: u8, starts: &mut [u16; 64], n: usize) -> u8
+// A frame of kind 2. It is kept where the number is 255; `hints` has its number at its name's hash.
+pub fn take_group(
+    old: &[u8],
+    f: &[u8],
+    last: u8,
+    starts: &mut [u16; 64],
+    n: usize,
+    hints: &mut [u8; 1024],
+) -> u8
     requires { ⌜ (0 < length (now f)) × (getD (now f) 0 0 ≡ 2) ⌝ }
     requires { ⌜ (length (now old) < 16384) × Laid (now old) (now starts) n × (n ≤ 64) ⌝ }
     ensures { λ r. ⌜ ((b : Earlier) → b .kind ≡ last → b .groups ≡ stringsIn (now (old .entry)) (now (starts .entry)) n 0 → r ≡ refusal b (framed (entryOf (now (f .entry))))) ⌝ }
@@ -39,7 +46,18 @@ pub fn take_group(old: &[u8], f: &[u8], last: u8, starts: &mut [u16; 64], n: usi
         return number;
     }
     starts[n] = (old.len() + 1) as u16;
+    let h = rows::hash(name, 0) % 1024;
+    hints[h] = n as u8;
     255
+}
+
+// The number of a group's name among the groups; `count` where it is not listed. The hint at its hash is tried first.
+fn number_of(old: &[u8], groups: &[u16], count: usize, hints: &[u8], name: &[u8]) -> usize
+    requires { ⌜ Laid (now old) (now groups) count × (count ≤ length (now groups)) × (twice same (stringsIn (now old) (now groups) count 0) ≡ false) × (1024 ≤ length (now hints)) ⌝ }
+    ensures { λ r. ⌜ r ≡ place (now (name .entry)) (stringsIn (now (old .entry)) (now (groups .entry)) count 0) ⌝ }
+{
+    let h = rows::hash(name, 0) % 1024;
+    rows::find_from(old, groups, count, hints[h] as usize, name)
 }
 
 // One of the first n members has that group and that user. `seen` is 0 only where none has.
@@ -68,6 +86,7 @@ pub fn take_member(
     last: u8,
     groups: &[u16; 64],
     count: usize,
+    hints: &[u8; 1024],
     users: &mut [u16; 512],
     owners: &mut [u8; 512],
     n: usize,
@@ -97,7 +116,7 @@ pub fn take_member(
     let from = middle + 1;
     let group = &f[start..middle];
     let user = &f[from..end];
-    let g = rows::find(old, groups, count, group);
+    let g = number_of(old, groups, count, hints, group);
     let h = rows::hash(user, g);
     let again = has_member(old, users, owners, n, seen[h], g, user);
     let five = table::frame::is_unsized(64, group.len())
@@ -126,12 +145,19 @@ fn has_id(old: &[u8], ids: &[u16], n: usize, seen: u8, id: &[u8]) -> bool
 }
 
 // The number of a group's name among the groups; `count` where it is not listed, and 0 for a user.
-fn holder_of(old: &[u8], groups: &[u16], count: usize, by_group: bool, subject: &[u8]) -> usize
-    requires { ⌜ Laid (now old) (now groups) count × (count ≤ length (now groups)) ⌝ }
+fn holder_of(
+    old: &[u8],
+    groups: &[u16],
+    count: usize,
+    hints: &[u8],
+    by_group: bool,
+    subject: &[u8],
+) -> usize
+    requires { ⌜ Laid (now old) (now groups) count × (count ≤ length (now groups)) × (twice same (stringsIn (now old) (now groups) count 0) ≡ false) × (1024 ≤ length (now hints)) ⌝ }
     ensures { λ r. ⌜ r ≡ (if «by_group» then place (now (subject .entry)) (stringsIn (now (old .entry)) (now (groups .entry)) count 0) else 0) ⌝ }
 {
     if by_group {
-        return rows::find(old, groups, count, subject);
+        return number_of(old, groups, count, hints, subject);
     }
     0
 }
@@ -143,6 +169,7 @@ pub fn take_rule(
     last: u8,
     groups: &[u16; 64],
     count: usize,
+    hints: &[u8; 1024],
     ids: &mut [u16; 256],
     starts: &mut [u16; 256],
     holders: &mut [u8; 256],
@@ -150,7 +177,7 @@ pub fn take_rule(
     seen: &mut [u8; 8192],
 ) -> u8
     requires { ⌜ (0 < length (now f)) × (getD (now f) 0 0 ≡ 4) ⌝ }
-    requires { ⌜ (length (now old) + length (now f) ≤ 16384) × Laid (now old) (now groups) count × (count ≤ 64) × Laid (now old) (now ids) n × (n ≤ 256) × Marked (now seen) (idPlace (now old) (now ids)) n ⌝ }
+    requires { ⌜ (length (now old) + length (now f) ≤ 16384) × Laid (now old) (now groups) count × (count ≤ 64) × Laid (now old) (now ids) n × (n ≤ 256) × Marked (now seen) (idPlace (now old) (now ids)) n × (twice same (stringsIn (now old) (now groups) count 0) ≡ false) ⌝ }
     ensures { λ r. ⌜ ((b : Earlier) → b .kind ≡ last → b .groups ≡ stringsIn (now (old .entry)) (now (groups .entry)) count 0 → b .ids ≡ stringsIn (now (old .entry)) (now (ids .entry)) n 0 → r ≡ refusal b (framed (entryOf (now (f .entry))))) ⌝ }
     ensures { λ r. ⌜ (r ≡ 255 → RuleKept (stringsIn (now (old .entry)) (now (groups .entry)) count 0) (now (old .entry)) (now (f .entry)) (now (ids .entry)) (now (starts .entry)) (now (holders .entry)) (now (seen .entry)) n (now (ids .exit)) (now (starts .exit)) (now (holders .exit)) (now (seen .exit))) ⌝ }
 {
@@ -174,7 +201,7 @@ pub fn take_rule(
     let id = &f[from..i];
     let origin = &f[then..o];
     let by_group = f[3] == 1;
-    let g = holder_of(old, groups, count, by_group, subject);
+    let g = holder_of(old, groups, count, hints, by_group, subject);
     let h = rows::hash(id, 0);
     let again = has_id(old, ids, n, seen[h], id);
     let five = (table::frame::is_unsized(64, subject.len())

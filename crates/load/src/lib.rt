@@ -36,6 +36,7 @@ pub fn load(
     if text.len() == 0 {
         return Loaded::Refused { number: 4, line: 1 };
     }
+    let mut hints = [0u8; 1024];
     let mut members_seen = [0u8; 8192];
     let mut ids_seen = [0u8; 8192];
     let mut c = Counts {
@@ -62,6 +63,7 @@ pub fn load(
             end,
             c,
             groups,
+            &mut hints,
             users,
             owners,
             ids,

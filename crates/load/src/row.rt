@@ -61,6 +61,7 @@ pub fn take_row(
     end: usize,
     c: Counts,
     groups: &mut [u16; 64],
+    hints: &mut [u8; 1024],
     users: &mut [u16; 512],
     owners: &mut [u8; 512],
     ids: &mut [u16; 256],
@@ -80,7 +81,7 @@ pub fn take_row(
         return table::frame::version_number(f, c.kind);
     }
     if k == 2 {
-        return keep::take_group(old, f, c.kind, groups, c.groups);
+        return keep::take_group(old, f, c.kind, groups, c.groups, hints);
     }
     if k == 3 {
         return keep::take_member(
@@ -89,6 +90,7 @@ pub fn take_row(
             c.kind,
             groups,
             c.groups,
+            hints,
             users,
             owners,
             c.members,
@@ -102,6 +104,7 @@ pub fn take_row(
             c.kind,
             groups,
             c.groups,
+            hints,
             ids,
             starts,
             holders,

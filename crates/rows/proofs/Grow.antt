@@ -140,6 +140,13 @@ place-test name (x ∷ xs) (suc o) d h =
     rw e (ap (λ (n : Str). same n (getD xs o [])) i ∙ at-member xs o (same x) (omega arith) (or-false-l _ _ d) ∙ sym (eqb·suc-zero o)))
     (λ e. rw e (place-test name xs o (or-false-r _ _ d) (omega arith) ∙ sym (eqb·suc-suc o (place name xs))))
 
+-- the name is string number o, which is no other string
+pub place-is : (name : Str) (f starts : List ℕ) (n o : ℕ) → twice same (stringsIn f starts n 0) ≡ false → o < n → same name (stringAt f (getD starts o 0)) ≡ true
+    → o ≡ place name (stringsIn f starts n 0)
+place-is name f starts n o d h e =
+    let l : o < length (stringsIn f starts n 0) = omega (arith, strings-length f starts n) in
+    eqb-true _ _ (sym (place-test name (stringsIn f starts n 0) o d l) ∙ ap (same name) (strings-at f starts n o h) ∙ e)
+
 -- a name that has no place is none of them
 pub place-any : (name : Str) (xs : List Str) → any (same name) xs ≡ ltb (place name xs) (length xs)
 unfolding any place if_then_else_ _or_

@@ -1,7 +1,9 @@
 // Strings of decoded rows, found by an array of positions: lookups, and a hash for a filter that saves most of them.
 ghost use mathlib.Core.Path.{_≡_};
+ghost use mathlib.Core.Bool.{false};
 ghost use Prim.Native.Nat.{_≤_, _<_};
 ghost use lib.ListN.{length, getD};
+ghost use Rattle.text.specs.Test.{twice};
 ghost use Rattle.text.specs.String.{same};
 ghost use Rattle.rows.specs.Strings.{past, stringAt, stringsIn, Laid, place, isPair, hasPair, hashFrom};
 
@@ -30,6 +32,21 @@ pub fn find(f: &[u8], starts: &[u16], n: usize, name: &[u8]) -> usize
         i += 1;
     }
     n
+}
+
+// The same where no two of the strings are alike: number `hint` is tried first.
+pub fn find_from(f: &[u8], starts: &[u16], n: usize, hint: usize, name: &[u8]) -> usize
+    requires { ⌜ Laid (now f) (now starts) n × (n ≤ length (now starts)) × (twice same (stringsIn (now f) (now starts) n 0) ≡ false) ⌝ }
+    ensures { λ r. ⌜ r ≡ place (now (name .entry)) (stringsIn (now (f .entry)) (now (starts .entry)) n 0) ⌝ }
+{
+    if n <= hint {
+        return find(f, starts, n, name);
+    }
+    let at = starts[hint] as usize;
+    if is_at(f, at, name) {
+        return hint;
+    }
+    find(f, starts, n, name)
 }
 
 // One of the first n has that owner and that name.

@@ -310,15 +310,51 @@ pub fn table_of_rules(random: &mut Random, rules: usize, size: usize) -> Vec<u8>
     text
 }
 
-/// A good table with this many groups and members.
+/// A good table with this many groups and members, the members in the order of their groups.
 pub fn table_of_members(groups: usize, members: usize) -> Vec<u8> {
+    let names: Vec<String> = (0..groups).map(|g| format!("group-{g:02}")).collect();
+    table_text(&lines_of_members(&names, &numbered_members(&names, members)))
+}
+
+/// The same with its members in any order.
+pub fn table_of_shuffled_members(random: &mut Random, groups: usize, members: usize) -> Vec<u8> {
+    let names: Vec<String> = (0..groups).map(|g| format!("group-{g:02}")).collect();
+    let mut members = numbered_members(&names, members);
+    random.shuffle(&mut members);
+    table_text(&lines_of_members(&names, &members))
+}
+
+/// The same with groups whose names have one hash in the proved library.
+pub fn table_of_colliding_groups(groups: usize, members: usize) -> Vec<u8> {
+    let names = colliding_names(groups);
+    table_text(&lines_of_members(&names, &numbered_members(&names, members)))
+}
+
+/// A good table of one group, whose members have one hash in the proved library.
+pub fn table_of_colliding_members(members: usize) -> Vec<u8> {
+    let group = String::from("g");
+    let members: Vec<_> = colliding_names(members).into_iter().map(|user| (group.clone(), user)).collect();
+    table_text(&lines_of_members(&[group], &members))
+}
+
+fn numbered_members(groups: &[String], members: usize) -> Vec<(String, String)> {
+    let member = |m: usize| (groups[m * groups.len() / members].clone(), format!("user-{:03}", m % 100));
+    (0..members).map(member).collect()
+}
+
+fn lines_of_members(groups: &[String], members: &[(String, String)]) -> Vec<Line> {
     let mut lines = vec![Line::version("v1")];
-    lines.extend((0..groups).map(|g| Line::group(&format!("group-{g:02}"))));
-    lines.extend((0..members).map(|m| {
-        let group = m * groups / members;
-        Line::member(&format!("group-{group:02}"), &format!("user-{:03}", m % 100))
-    }));
-    table_text(&lines)
+    lines.extend(groups.iter().map(|name| Line::group(name)));
+    lines.extend(members.iter().map(|(group, user)| Line::member(group, user)));
+    lines
+}
+
+/// Different names of one length and one hash: it takes 33 times the hash so far and
+/// adds the next byte, so `aA` and `` ` `` with `b` after it are the same to it.
+fn colliding_names(count: usize) -> Vec<String> {
+    let pairs = count.next_power_of_two().trailing_zeros().max(1);
+    let pair = |n: usize, at: u32| if n >> at & 1 == 0 { "aA" } else { "`b" };
+    (0..count).map(|n| (0..pairs).map(|at| pair(n, at)).collect()).collect()
 }
 
 /// A rule line with a frame of exactly `size` bytes, which is 24 or more.

@@ -112,19 +112,28 @@ element-write-starts c =
     let at-start = c .before .before .before .before .before .before .before .before .before .before .before .before .before .before .before .before .before in
     below 255 64 (at-start .args .n) _ _ _ _ _ _ (at-is-unsized .ensures) (at-number .ensures) (at-if3 .left)
 
+hash-requires : tie.Need-hash-requires
+hash-requires c κs = search needs
+
+cast-hints : tie.Need-cast-hints
+cast-hints c = search needs
+
+element-write-hints : tie.Need-element-write-hints
+element-write-hints c = search needs
+
 returns-5 : tie.Need-returns-5
 returns-5 c =
-    let at-if3 = c .if3 in
-    let at-number = c .before .number in
-    let at-find = c .before .before .find in
-    let at-all-print = c .before .before .before .before .before .all-print in
-    let at-is-unsized = c .before .before .before .before .before .before .is-unsized in
-    let at-if2 = c .before .before .before .before .before .before .before .before .if2 in
-    let at-is-out-of-order = c .before .before .before .before .before .before .before .before .before .is-out-of-order in
-    let at-if1 = c .before .before .before .before .before .before .before .before .before .before .if1 in
-    let at-e = c .before .before .before .before .before .before .before .before .before .before .before .before .e in
-    let at-string-end = c .before .before .before .before .before .before .before .before .before .before .before .before .before .before .string-end in
-    let at-start = c .before .before .before .before .before .before .before .before .before .before .before .before .before .before .before .before .before in
+    let at-if3 = c .before .if3 in
+    let at-number = c .before .before .number in
+    let at-find = c .before .before .before .find in
+    let at-all-print = c .before .before .before .before .before .before .all-print in
+    let at-is-unsized = c .before .before .before .before .before .before .before .is-unsized in
+    let at-if2 = c .before .before .before .before .before .before .before .before .before .if2 in
+    let at-is-out-of-order = c .before .before .before .before .before .before .before .before .before .before .is-out-of-order in
+    let at-if1 = c .before .before .before .before .before .before .before .before .before .before .before .if1 in
+    let at-e = c .before .before .before .before .before .before .before .before .before .before .before .before .before .e in
+    let at-string-end = c .before .before .before .before .before .before .before .before .before .before .before .before .before .before .before .string-end in
+    let at-start = c .before .before .before .before .before .before .before .before .before .before .before .before .before .before .before .before .before .before in
     (λ b w g. sym (at-if3 .left) ∙ group-graded _ (at-start .pre .0) _ (at-string-end .ensures) b _ w _ (at-e .given .1) (at-if1 .left) _ (at-is-out-of-order .ensures) (at-if2 .left) _ _ _ g _ _ _ _ (at-number .ensures) (at-is-unsized .ensures) (at-all-print .ensures) (at-find .ensures), λ x. group-kept _ (at-start .pre .0) _ (at-string-end .ensures) (record { kind = at-start .args .last; groups = []; members = []; ids = [] }) _ refl _ (at-e .given .1) (at-if1 .left) _ (at-is-out-of-order .ensures) _ _ _ (below 255 64 (at-start .args .n) _ _ _ _ _ _ (at-is-unsized .ensures) (at-number .ensures) (at-if3 .left)))
 
 pub take-group-spec : {M : Type 1} → statement M
@@ -150,4 +159,7 @@ take-group-spec =
     cast-starts
     mul-starts
     element-write-starts
+    hash-requires
+    cast-hints
+    element-write-hints
     returns-5)

@@ -108,27 +108,27 @@ part-user-end c =
     let at-string-end2 = c .before .before .before .before .before .before .before .string-end2 in
     string-ends _ _ _ (at-string-end2 .ensures) _ (at-z .given .1) .2
 
-find-requires : tie.Need-find-requires
-find-requires c κs =
-    let at-start = c .before .before .before .before .before .before .before .before .before .before .before .before .before .before .before .before in
-    (at-start .pre .1 .0 .1, omega (arith, at-start .pre .1 .0 .2))
+number-of-requires : tie.Need-number-of-requires
+number-of-requires c κs =
+    let at-start = c .before .before .before .before .before .before .before .before .before .before .before .before .before .before .before .before .before in
+    (at-start .pre .1 .0 .1, omega (arith, at-start .pre .1 .0 .2), at-start .pre .1 .1 .0, omega arith)
 
 hash-requires : tie.Need-hash-requires
 hash-requires c κs =
-    let at-find = c .find in
-    let at-start = c .before .before .before .before .before .before .before .before .before .before .before .before .before .before .before .before .before in
-    let h = place-small _ _ _ _ _ (at-find .ensures) in omega (arith, h, at-start .pre .1 .0 .2)
+    let at-number-of = c .number-of in
+    let at-start = c .before .before .before .before .before .before .before .before .before .before .before .before .before .before .before .before .before .before in
+    let h = place-small _ _ _ _ _ (at-number-of .ensures) in omega (arith, h, at-start .pre .1 .0 .2)
 
 element-copy-out-has-member : tie.Need-element-copy-out-has-member
 element-copy-out-has-member c =
     let at-hash = c .before .before .before .before .hash in
-    let at-find = c .before .before .before .before .before .find in
-    let at-start = c .before .before .before .before .before .before .before .before .before .before .before .before .before .before .before .before .before .before .before .before .before .before in
-    hash-room _ _ _ _ _ _ _ (at-start .pre .1 .0 .2) (at-find .ensures) (at-hash .ensures)
+    let at-number-of = c .before .before .before .before .before .number-of in
+    let at-start = c .before .before .before .before .before .before .before .before .before .before .before .before .before .before .before .before .before .before .before .before .before .before .before in
+    hash-room _ _ _ _ _ _ _ (at-start .pre .1 .0 .2) (at-number-of .ensures) (at-hash .ensures)
 
 has-member-requires : tie.Need-has-member-requires
 has-member-requires c κs =
-    let at-start = c .before .before .before .before .before .before .before .before .before .before .before .before .before .before .before .before .before .before .before .before .before .before .before in
+    let at-start = c .before .before .before .before .before .before .before .before .before .before .before .before .before .before .before .before .before .before .before .before .before .before .before .before in
     (at-start .pre .1 .0 .3, omega (arith, at-start .pre .1 .0 .4), omega (arith, at-start .pre .1 .0 .4))
 
 is-unsized-requires : tie.Need-is-unsized-requires
@@ -156,29 +156,29 @@ returns-5 c =
     let at-is-unsized = c .before .before .before .before .before .is-unsized in
     let at-has-member = c .before .before .before .before .before .before .has-member in
     let at-hash = c .before .before .before .before .before .before .before .before .before .before .before .before .hash in
-    let at-find = c .before .before .before .before .before .before .before .before .before .before .before .before .before .find in
-    let at-if2 = c .before .before .before .before .before .before .before .before .before .before .before .before .before .before .before .before .before .if2 in
-    let at-is-out-of-order = c .before .before .before .before .before .before .before .before .before .before .before .before .before .before .before .before .before .before .is-out-of-order in
-    let at-if1 = c .before .before .before .before .before .before .before .before .before .before .before .before .before .before .before .before .before .before .before .if1 in
-    let at-z = c .before .before .before .before .before .before .before .before .before .before .before .before .before .before .before .before .before .before .before .before .before .z in
-    let at-string-end2 = c .before .before .before .before .before .before .before .before .before .before .before .before .before .before .before .before .before .before .before .before .before .before .before .string-end2 in
-    let at-a = c .before .before .before .before .before .before .before .before .before .before .before .before .before .before .before .before .before .before .before .before .before .before .before .before .before .a in
-    let at-string-end = c .before .before .before .before .before .before .before .before .before .before .before .before .before .before .before .before .before .before .before .before .before .before .before .before .before .before .before .string-end in
-    let at-start = c .before .before .before .before .before .before .before .before .before .before .before .before .before .before .before .before .before .before .before .before .before .before .before .before .before .before .before .before .before .before in
-    (λ b w g m. member-graded _ (at-start .pre .0) _ (at-string-end .ensures) _ (at-a .given .1) _ (at-string-end2 .ensures) _ (at-z .given .1) (at-if1 .left) _ _ (at-is-out-of-order .ensures) (at-if2 .left) (at-start .args .old .now) (at-start .args .groups .now) _ (at-start .args .users .now) (at-start .args .owners .now) (at-start .args .seen .now) _ (at-start .pre .1 .1 .0) (at-start .pre .1 .1 .1) (at-start .pre .1 .1 .2) _ _ _ _ _ _ _ _ (at-is-unsized .ensures) (at-is-unsized2 .ensures) (at-all-print .ensures) (at-all-print2 .ensures) (at-find .ensures) (at-hash .ensures) (at-has-member .ensures) (at-number .ensures) b w g m, λ x. absurd (at-if3 .taken x))
+    let at-number-of = c .before .before .before .before .before .before .before .before .before .before .before .before .before .number-of in
+    let at-if2 = c .before .before .before .before .before .before .before .before .before .before .before .before .before .before .before .before .before .before .if2 in
+    let at-is-out-of-order = c .before .before .before .before .before .before .before .before .before .before .before .before .before .before .before .before .before .before .before .is-out-of-order in
+    let at-if1 = c .before .before .before .before .before .before .before .before .before .before .before .before .before .before .before .before .before .before .before .before .if1 in
+    let at-z = c .before .before .before .before .before .before .before .before .before .before .before .before .before .before .before .before .before .before .before .before .before .before .z in
+    let at-string-end2 = c .before .before .before .before .before .before .before .before .before .before .before .before .before .before .before .before .before .before .before .before .before .before .before .before .string-end2 in
+    let at-a = c .before .before .before .before .before .before .before .before .before .before .before .before .before .before .before .before .before .before .before .before .before .before .before .before .before .before .a in
+    let at-string-end = c .before .before .before .before .before .before .before .before .before .before .before .before .before .before .before .before .before .before .before .before .before .before .before .before .before .before .before .before .string-end in
+    let at-start = c .before .before .before .before .before .before .before .before .before .before .before .before .before .before .before .before .before .before .before .before .before .before .before .before .before .before .before .before .before .before .before in
+    (λ b w g m. member-graded _ (at-start .pre .0) _ (at-string-end .ensures) _ (at-a .given .1) _ (at-string-end2 .ensures) _ (at-z .given .1) (at-if1 .left) _ _ (at-is-out-of-order .ensures) (at-if2 .left) (at-start .args .old .now) (at-start .args .groups .now) _ (at-start .args .users .now) (at-start .args .owners .now) (at-start .args .seen .now) _ (at-start .pre .1 .1 .0) (at-start .pre .1 .1 .1) (at-start .pre .1 .1 .2) _ _ _ _ _ _ _ _ (at-is-unsized .ensures) (at-is-unsized2 .ensures) (at-all-print .ensures) (at-all-print2 .ensures) (at-number-of .ensures) (at-hash .ensures) (at-has-member .ensures) (at-number .ensures) b w g m, λ x. absurd (at-if3 .taken x))
 
 add-users : tie.Need-add-users
 add-users c =
-    let at-z = c .before .before .before .before .before .before .before .before .before .before .before .before .before .before .before .before .before .before .before .before .before .z in
-    let at-string-end2 = c .before .before .before .before .before .before .before .before .before .before .before .before .before .before .before .before .before .before .before .before .before .before .before .string-end2 in
-    let at-start = c .before .before .before .before .before .before .before .before .before .before .before .before .before .before .before .before .before .before .before .before .before .before .before .before .before .before .before .before .before .before in
+    let at-z = c .before .before .before .before .before .before .before .before .before .before .before .before .before .before .before .before .before .before .before .before .before .before .z in
+    let at-string-end2 = c .before .before .before .before .before .before .before .before .before .before .before .before .before .before .before .before .before .before .before .before .before .before .before .before .string-end2 in
+    let at-start = c .before .before .before .before .before .before .before .before .before .before .before .before .before .before .before .before .before .before .before .before .before .before .before .before .before .before .before .before .before .before .before in
     let h = string-ends _ _ _ (at-string-end2 .ensures) _ (at-z .given .1) in omega (arith, h .1, h .2, at-start .pre .1 .0 .0)
 
 cast-users : tie.Need-cast-users
 cast-users c =
-    let at-z = c .before .before .before .before .before .before .before .before .before .before .before .before .before .before .before .before .before .before .before .before .before .z in
-    let at-string-end2 = c .before .before .before .before .before .before .before .before .before .before .before .before .before .before .before .before .before .before .before .before .before .before .before .string-end2 in
-    let at-start = c .before .before .before .before .before .before .before .before .before .before .before .before .before .before .before .before .before .before .before .before .before .before .before .before .before .before .before .before .before .before in
+    let at-z = c .before .before .before .before .before .before .before .before .before .before .before .before .before .before .before .before .before .before .before .before .before .before .z in
+    let at-string-end2 = c .before .before .before .before .before .before .before .before .before .before .before .before .before .before .before .before .before .before .before .before .before .before .before .before .string-end2 in
+    let at-start = c .before .before .before .before .before .before .before .before .before .before .before .before .before .before .before .before .before .before .before .before .before .before .before .before .before .before .before .before .before .before .before in
     let h = string-ends _ _ _ (at-string-end2 .ensures) _ (at-z .given .1) in omega (arith, h .1, h .2, at-start .pre .1 .0 .0)
 
 mul-users : tie.Need-mul-users
@@ -191,16 +191,16 @@ mul-users c =
     let at-is-unsized = c .before .before .before .before .before .is-unsized in
     let at-has-member = c .before .before .before .before .before .before .has-member in
     let at-hash = c .before .before .before .before .before .before .before .before .before .before .before .before .hash in
-    let at-find = c .before .before .before .before .before .before .before .before .before .before .before .before .before .find in
-    let at-if2 = c .before .before .before .before .before .before .before .before .before .before .before .before .before .before .before .before .before .if2 in
-    let at-is-out-of-order = c .before .before .before .before .before .before .before .before .before .before .before .before .before .before .before .before .before .before .is-out-of-order in
-    let at-if1 = c .before .before .before .before .before .before .before .before .before .before .before .before .before .before .before .before .before .before .before .if1 in
-    let at-z = c .before .before .before .before .before .before .before .before .before .before .before .before .before .before .before .before .before .before .before .before .before .z in
-    let at-string-end2 = c .before .before .before .before .before .before .before .before .before .before .before .before .before .before .before .before .before .before .before .before .before .before .before .string-end2 in
-    let at-a = c .before .before .before .before .before .before .before .before .before .before .before .before .before .before .before .before .before .before .before .before .before .before .before .before .before .a in
-    let at-string-end = c .before .before .before .before .before .before .before .before .before .before .before .before .before .before .before .before .before .before .before .before .before .before .before .before .before .before .before .string-end in
-    let at-start = c .before .before .before .before .before .before .before .before .before .before .before .before .before .before .before .before .before .before .before .before .before .before .before .before .before .before .before .before .before .before in
-    let h = member-room _ (at-start .pre .0) _ (at-string-end .ensures) _ (at-a .given .1) _ (at-string-end2 .ensures) _ (at-z .given .1) (at-if1 .left) _ _ (at-is-out-of-order .ensures) (at-if2 .left) (at-start .args .old .now) (at-start .args .groups .now) _ (at-start .args .users .now) (at-start .args .owners .now) (at-start .args .seen .now) _ (at-start .pre .1 .1 .0) (at-start .pre .1 .1 .1) (at-start .pre .1 .1 .2) _ _ _ _ _ _ _ _ (at-is-unsized .ensures) (at-is-unsized2 .ensures) (at-all-print .ensures) (at-all-print2 .ensures) (at-find .ensures) (at-hash .ensures) (at-has-member .ensures) (at-number .ensures) (at-if3 .left) in omega arith
+    let at-number-of = c .before .before .before .before .before .before .before .before .before .before .before .before .before .number-of in
+    let at-if2 = c .before .before .before .before .before .before .before .before .before .before .before .before .before .before .before .before .before .before .if2 in
+    let at-is-out-of-order = c .before .before .before .before .before .before .before .before .before .before .before .before .before .before .before .before .before .before .before .is-out-of-order in
+    let at-if1 = c .before .before .before .before .before .before .before .before .before .before .before .before .before .before .before .before .before .before .before .before .if1 in
+    let at-z = c .before .before .before .before .before .before .before .before .before .before .before .before .before .before .before .before .before .before .before .before .before .before .z in
+    let at-string-end2 = c .before .before .before .before .before .before .before .before .before .before .before .before .before .before .before .before .before .before .before .before .before .before .before .before .string-end2 in
+    let at-a = c .before .before .before .before .before .before .before .before .before .before .before .before .before .before .before .before .before .before .before .before .before .before .before .before .before .before .a in
+    let at-string-end = c .before .before .before .before .before .before .before .before .before .before .before .before .before .before .before .before .before .before .before .before .before .before .before .before .before .before .before .before .string-end in
+    let at-start = c .before .before .before .before .before .before .before .before .before .before .before .before .before .before .before .before .before .before .before .before .before .before .before .before .before .before .before .before .before .before .before in
+    let h = member-room _ (at-start .pre .0) _ (at-string-end .ensures) _ (at-a .given .1) _ (at-string-end2 .ensures) _ (at-z .given .1) (at-if1 .left) _ _ (at-is-out-of-order .ensures) (at-if2 .left) (at-start .args .old .now) (at-start .args .groups .now) _ (at-start .args .users .now) (at-start .args .owners .now) (at-start .args .seen .now) _ (at-start .pre .1 .1 .0) (at-start .pre .1 .1 .1) (at-start .pre .1 .1 .2) _ _ _ _ _ _ _ _ (at-is-unsized .ensures) (at-is-unsized2 .ensures) (at-all-print .ensures) (at-all-print2 .ensures) (at-number-of .ensures) (at-hash .ensures) (at-has-member .ensures) (at-number .ensures) (at-if3 .left) in omega arith
 
 element-write-users : tie.Need-element-write-users
 element-write-users c =
@@ -212,22 +212,22 @@ element-write-users c =
     let at-is-unsized = c .before .before .before .before .before .is-unsized in
     let at-has-member = c .before .before .before .before .before .before .has-member in
     let at-hash = c .before .before .before .before .before .before .before .before .before .before .before .before .hash in
-    let at-find = c .before .before .before .before .before .before .before .before .before .before .before .before .before .find in
-    let at-if2 = c .before .before .before .before .before .before .before .before .before .before .before .before .before .before .before .before .before .if2 in
-    let at-is-out-of-order = c .before .before .before .before .before .before .before .before .before .before .before .before .before .before .before .before .before .before .is-out-of-order in
-    let at-if1 = c .before .before .before .before .before .before .before .before .before .before .before .before .before .before .before .before .before .before .before .if1 in
-    let at-z = c .before .before .before .before .before .before .before .before .before .before .before .before .before .before .before .before .before .before .before .before .before .z in
-    let at-string-end2 = c .before .before .before .before .before .before .before .before .before .before .before .before .before .before .before .before .before .before .before .before .before .before .before .string-end2 in
-    let at-a = c .before .before .before .before .before .before .before .before .before .before .before .before .before .before .before .before .before .before .before .before .before .before .before .before .before .a in
-    let at-string-end = c .before .before .before .before .before .before .before .before .before .before .before .before .before .before .before .before .before .before .before .before .before .before .before .before .before .before .before .string-end in
-    let at-start = c .before .before .before .before .before .before .before .before .before .before .before .before .before .before .before .before .before .before .before .before .before .before .before .before .before .before .before .before .before .before in
-    member-room _ (at-start .pre .0) _ (at-string-end .ensures) _ (at-a .given .1) _ (at-string-end2 .ensures) _ (at-z .given .1) (at-if1 .left) _ _ (at-is-out-of-order .ensures) (at-if2 .left) (at-start .args .old .now) (at-start .args .groups .now) _ (at-start .args .users .now) (at-start .args .owners .now) (at-start .args .seen .now) _ (at-start .pre .1 .1 .0) (at-start .pre .1 .1 .1) (at-start .pre .1 .1 .2) _ _ _ _ _ _ _ _ (at-is-unsized .ensures) (at-is-unsized2 .ensures) (at-all-print .ensures) (at-all-print2 .ensures) (at-find .ensures) (at-hash .ensures) (at-has-member .ensures) (at-number .ensures) (at-if3 .left)
+    let at-number-of = c .before .before .before .before .before .before .before .before .before .before .before .before .before .number-of in
+    let at-if2 = c .before .before .before .before .before .before .before .before .before .before .before .before .before .before .before .before .before .before .if2 in
+    let at-is-out-of-order = c .before .before .before .before .before .before .before .before .before .before .before .before .before .before .before .before .before .before .before .is-out-of-order in
+    let at-if1 = c .before .before .before .before .before .before .before .before .before .before .before .before .before .before .before .before .before .before .before .before .if1 in
+    let at-z = c .before .before .before .before .before .before .before .before .before .before .before .before .before .before .before .before .before .before .before .before .before .before .z in
+    let at-string-end2 = c .before .before .before .before .before .before .before .before .before .before .before .before .before .before .before .before .before .before .before .before .before .before .before .before .string-end2 in
+    let at-a = c .before .before .before .before .before .before .before .before .before .before .before .before .before .before .before .before .before .before .before .before .before .before .before .before .before .before .a in
+    let at-string-end = c .before .before .before .before .before .before .before .before .before .before .before .before .before .before .before .before .before .before .before .before .before .before .before .before .before .before .before .before .string-end in
+    let at-start = c .before .before .before .before .before .before .before .before .before .before .before .before .before .before .before .before .before .before .before .before .before .before .before .before .before .before .before .before .before .before .before in
+    member-room _ (at-start .pre .0) _ (at-string-end .ensures) _ (at-a .given .1) _ (at-string-end2 .ensures) _ (at-z .given .1) (at-if1 .left) _ _ (at-is-out-of-order .ensures) (at-if2 .left) (at-start .args .old .now) (at-start .args .groups .now) _ (at-start .args .users .now) (at-start .args .owners .now) (at-start .args .seen .now) _ (at-start .pre .1 .1 .0) (at-start .pre .1 .1 .1) (at-start .pre .1 .1 .2) _ _ _ _ _ _ _ _ (at-is-unsized .ensures) (at-is-unsized2 .ensures) (at-all-print .ensures) (at-all-print2 .ensures) (at-number-of .ensures) (at-hash .ensures) (at-has-member .ensures) (at-number .ensures) (at-if3 .left)
 
 cast-owners : tie.Need-cast-owners
 cast-owners c =
-    let at-find = c .before .before .before .before .before .before .before .before .before .before .before .before .before .find in
-    let at-start = c .before .before .before .before .before .before .before .before .before .before .before .before .before .before .before .before .before .before .before .before .before .before .before .before .before .before .before .before .before .before in
-    let h = place-small _ _ _ _ _ (at-find .ensures) in omega (arith, h, at-start .pre .1 .0 .2)
+    let at-number-of = c .before .before .before .before .before .before .before .before .before .before .before .before .before .number-of in
+    let at-start = c .before .before .before .before .before .before .before .before .before .before .before .before .before .before .before .before .before .before .before .before .before .before .before .before .before .before .before .before .before .before .before in
+    let h = place-small _ _ _ _ _ (at-number-of .ensures) in omega (arith, h, at-start .pre .1 .0 .2)
 
 element-write-owners : tie.Need-element-write-owners
 element-write-owners c =
@@ -239,23 +239,23 @@ element-write-owners c =
     let at-is-unsized = c .before .before .before .before .before .is-unsized in
     let at-has-member = c .before .before .before .before .before .before .has-member in
     let at-hash = c .before .before .before .before .before .before .before .before .before .before .before .before .hash in
-    let at-find = c .before .before .before .before .before .before .before .before .before .before .before .before .before .find in
-    let at-if2 = c .before .before .before .before .before .before .before .before .before .before .before .before .before .before .before .before .before .if2 in
-    let at-is-out-of-order = c .before .before .before .before .before .before .before .before .before .before .before .before .before .before .before .before .before .before .is-out-of-order in
-    let at-if1 = c .before .before .before .before .before .before .before .before .before .before .before .before .before .before .before .before .before .before .before .if1 in
-    let at-z = c .before .before .before .before .before .before .before .before .before .before .before .before .before .before .before .before .before .before .before .before .before .z in
-    let at-string-end2 = c .before .before .before .before .before .before .before .before .before .before .before .before .before .before .before .before .before .before .before .before .before .before .before .string-end2 in
-    let at-a = c .before .before .before .before .before .before .before .before .before .before .before .before .before .before .before .before .before .before .before .before .before .before .before .before .before .a in
-    let at-string-end = c .before .before .before .before .before .before .before .before .before .before .before .before .before .before .before .before .before .before .before .before .before .before .before .before .before .before .before .string-end in
-    let at-start = c .before .before .before .before .before .before .before .before .before .before .before .before .before .before .before .before .before .before .before .before .before .before .before .before .before .before .before .before .before .before in
-    member-room _ (at-start .pre .0) _ (at-string-end .ensures) _ (at-a .given .1) _ (at-string-end2 .ensures) _ (at-z .given .1) (at-if1 .left) _ _ (at-is-out-of-order .ensures) (at-if2 .left) (at-start .args .old .now) (at-start .args .groups .now) _ (at-start .args .users .now) (at-start .args .owners .now) (at-start .args .seen .now) _ (at-start .pre .1 .1 .0) (at-start .pre .1 .1 .1) (at-start .pre .1 .1 .2) _ _ _ _ _ _ _ _ (at-is-unsized .ensures) (at-is-unsized2 .ensures) (at-all-print .ensures) (at-all-print2 .ensures) (at-find .ensures) (at-hash .ensures) (at-has-member .ensures) (at-number .ensures) (at-if3 .left)
+    let at-number-of = c .before .before .before .before .before .before .before .before .before .before .before .before .before .number-of in
+    let at-if2 = c .before .before .before .before .before .before .before .before .before .before .before .before .before .before .before .before .before .before .if2 in
+    let at-is-out-of-order = c .before .before .before .before .before .before .before .before .before .before .before .before .before .before .before .before .before .before .before .is-out-of-order in
+    let at-if1 = c .before .before .before .before .before .before .before .before .before .before .before .before .before .before .before .before .before .before .before .before .if1 in
+    let at-z = c .before .before .before .before .before .before .before .before .before .before .before .before .before .before .before .before .before .before .before .before .before .before .z in
+    let at-string-end2 = c .before .before .before .before .before .before .before .before .before .before .before .before .before .before .before .before .before .before .before .before .before .before .before .before .string-end2 in
+    let at-a = c .before .before .before .before .before .before .before .before .before .before .before .before .before .before .before .before .before .before .before .before .before .before .before .before .before .before .a in
+    let at-string-end = c .before .before .before .before .before .before .before .before .before .before .before .before .before .before .before .before .before .before .before .before .before .before .before .before .before .before .before .before .string-end in
+    let at-start = c .before .before .before .before .before .before .before .before .before .before .before .before .before .before .before .before .before .before .before .before .before .before .before .before .before .before .before .before .before .before .before in
+    member-room _ (at-start .pre .0) _ (at-string-end .ensures) _ (at-a .given .1) _ (at-string-end2 .ensures) _ (at-z .given .1) (at-if1 .left) _ _ (at-is-out-of-order .ensures) (at-if2 .left) (at-start .args .old .now) (at-start .args .groups .now) _ (at-start .args .users .now) (at-start .args .owners .now) (at-start .args .seen .now) _ (at-start .pre .1 .1 .0) (at-start .pre .1 .1 .1) (at-start .pre .1 .1 .2) _ _ _ _ _ _ _ _ (at-is-unsized .ensures) (at-is-unsized2 .ensures) (at-all-print .ensures) (at-all-print2 .ensures) (at-number-of .ensures) (at-hash .ensures) (at-has-member .ensures) (at-number .ensures) (at-if3 .left)
 
 element-write-seen : tie.Need-element-write-seen
 element-write-seen c =
     let at-hash = c .before .before .before .before .before .before .before .before .before .before .before .before .hash in
-    let at-find = c .before .before .before .before .before .before .before .before .before .before .before .before .before .find in
-    let at-start = c .before .before .before .before .before .before .before .before .before .before .before .before .before .before .before .before .before .before .before .before .before .before .before .before .before .before .before .before .before .before in
-    hash-room _ _ _ _ _ _ _ (at-start .pre .1 .0 .2) (at-find .ensures) (at-hash .ensures)
+    let at-number-of = c .before .before .before .before .before .before .before .before .before .before .before .before .before .number-of in
+    let at-start = c .before .before .before .before .before .before .before .before .before .before .before .before .before .before .before .before .before .before .before .before .before .before .before .before .before .before .before .before .before .before .before in
+    hash-room _ _ _ _ _ _ _ (at-start .pre .1 .0 .2) (at-number-of .ensures) (at-hash .ensures)
 
 returns-6 : tie.Need-returns-6
 returns-6 c =
@@ -267,16 +267,16 @@ returns-6 c =
     let at-is-unsized = c .before .before .before .before .before .is-unsized in
     let at-has-member = c .before .before .before .before .before .before .has-member in
     let at-hash = c .before .before .before .before .before .before .before .before .before .before .before .before .hash in
-    let at-find = c .before .before .before .before .before .before .before .before .before .before .before .before .before .find in
-    let at-if2 = c .before .before .before .before .before .before .before .before .before .before .before .before .before .before .before .before .before .if2 in
-    let at-is-out-of-order = c .before .before .before .before .before .before .before .before .before .before .before .before .before .before .before .before .before .before .is-out-of-order in
-    let at-if1 = c .before .before .before .before .before .before .before .before .before .before .before .before .before .before .before .before .before .before .before .if1 in
-    let at-z = c .before .before .before .before .before .before .before .before .before .before .before .before .before .before .before .before .before .before .before .before .before .z in
-    let at-string-end2 = c .before .before .before .before .before .before .before .before .before .before .before .before .before .before .before .before .before .before .before .before .before .before .before .string-end2 in
-    let at-a = c .before .before .before .before .before .before .before .before .before .before .before .before .before .before .before .before .before .before .before .before .before .before .before .before .before .a in
-    let at-string-end = c .before .before .before .before .before .before .before .before .before .before .before .before .before .before .before .before .before .before .before .before .before .before .before .before .before .before .before .string-end in
-    let at-start = c .before .before .before .before .before .before .before .before .before .before .before .before .before .before .before .before .before .before .before .before .before .before .before .before .before .before .before .before .before .before in
-    (λ b w g m. sym (at-if3 .left) ∙ member-graded _ (at-start .pre .0) _ (at-string-end .ensures) _ (at-a .given .1) _ (at-string-end2 .ensures) _ (at-z .given .1) (at-if1 .left) _ _ (at-is-out-of-order .ensures) (at-if2 .left) (at-start .args .old .now) (at-start .args .groups .now) _ (at-start .args .users .now) (at-start .args .owners .now) (at-start .args .seen .now) _ (at-start .pre .1 .1 .0) (at-start .pre .1 .1 .1) (at-start .pre .1 .1 .2) _ _ _ _ _ _ _ _ (at-is-unsized .ensures) (at-is-unsized2 .ensures) (at-all-print .ensures) (at-all-print2 .ensures) (at-find .ensures) (at-hash .ensures) (at-has-member .ensures) (at-number .ensures) b w g m, λ x. member-kept _ (at-start .pre .0) _ (at-string-end .ensures) _ (at-a .given .1) _ (at-string-end2 .ensures) _ (at-z .given .1) (at-if1 .left) _ _ (at-is-out-of-order .ensures) (at-if2 .left) (at-start .args .old .now) (at-start .args .groups .now) _ (at-start .args .users .now) (at-start .args .owners .now) (at-start .args .seen .now) _ (at-start .pre .1 .1 .0) (at-start .pre .1 .1 .1) (at-start .pre .1 .1 .2) _ _ _ _ _ _ _ _ (at-is-unsized .ensures) (at-is-unsized2 .ensures) (at-all-print .ensures) (at-all-print2 .ensures) (at-find .ensures) (at-hash .ensures) (at-has-member .ensures) (at-number .ensures) (at-if3 .left))
+    let at-number-of = c .before .before .before .before .before .before .before .before .before .before .before .before .before .number-of in
+    let at-if2 = c .before .before .before .before .before .before .before .before .before .before .before .before .before .before .before .before .before .before .if2 in
+    let at-is-out-of-order = c .before .before .before .before .before .before .before .before .before .before .before .before .before .before .before .before .before .before .before .is-out-of-order in
+    let at-if1 = c .before .before .before .before .before .before .before .before .before .before .before .before .before .before .before .before .before .before .before .before .if1 in
+    let at-z = c .before .before .before .before .before .before .before .before .before .before .before .before .before .before .before .before .before .before .before .before .before .before .z in
+    let at-string-end2 = c .before .before .before .before .before .before .before .before .before .before .before .before .before .before .before .before .before .before .before .before .before .before .before .before .string-end2 in
+    let at-a = c .before .before .before .before .before .before .before .before .before .before .before .before .before .before .before .before .before .before .before .before .before .before .before .before .before .before .a in
+    let at-string-end = c .before .before .before .before .before .before .before .before .before .before .before .before .before .before .before .before .before .before .before .before .before .before .before .before .before .before .before .before .string-end in
+    let at-start = c .before .before .before .before .before .before .before .before .before .before .before .before .before .before .before .before .before .before .before .before .before .before .before .before .before .before .before .before .before .before .before in
+    (λ b w g m. sym (at-if3 .left) ∙ member-graded _ (at-start .pre .0) _ (at-string-end .ensures) _ (at-a .given .1) _ (at-string-end2 .ensures) _ (at-z .given .1) (at-if1 .left) _ _ (at-is-out-of-order .ensures) (at-if2 .left) (at-start .args .old .now) (at-start .args .groups .now) _ (at-start .args .users .now) (at-start .args .owners .now) (at-start .args .seen .now) _ (at-start .pre .1 .1 .0) (at-start .pre .1 .1 .1) (at-start .pre .1 .1 .2) _ _ _ _ _ _ _ _ (at-is-unsized .ensures) (at-is-unsized2 .ensures) (at-all-print .ensures) (at-all-print2 .ensures) (at-number-of .ensures) (at-hash .ensures) (at-has-member .ensures) (at-number .ensures) b w g m, λ x. member-kept _ (at-start .pre .0) _ (at-string-end .ensures) _ (at-a .given .1) _ (at-string-end2 .ensures) _ (at-z .given .1) (at-if1 .left) _ _ (at-is-out-of-order .ensures) (at-if2 .left) (at-start .args .old .now) (at-start .args .groups .now) _ (at-start .args .users .now) (at-start .args .owners .now) (at-start .args .seen .now) _ (at-start .pre .1 .1 .0) (at-start .pre .1 .1 .1) (at-start .pre .1 .1 .2) _ _ _ _ _ _ _ _ (at-is-unsized .ensures) (at-is-unsized2 .ensures) (at-all-print .ensures) (at-all-print2 .ensures) (at-number-of .ensures) (at-hash .ensures) (at-has-member .ensures) (at-number .ensures) (at-if3 .left))
 
 pub take-member-spec : {M : Type 1} → statement M
 take-member-spec =
@@ -300,7 +300,7 @@ take-member-spec =
     sub-user
     part-user-start
     part-user-end
-    find-requires
+    number-of-requires
     hash-requires
     element-copy-out-has-member
     has-member-requires

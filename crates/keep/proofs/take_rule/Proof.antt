@@ -120,7 +120,9 @@ shared-slice-read-by-group c =
     let h = rule-long _ (at-start .pre .0) _ (at-read-rule .ensures) _ _ _ _ (at-r .given .1) in omega (arith, h .0, h .1, h .2, h .3)
 
 holder-of-requires : tie.Need-holder-of-requires
-holder-of-requires c κs = search needs
+holder-of-requires c κs =
+    let at-start = c .before .before .before .before .before .before .before .before .before .before .before .before .before .before in
+    (at-start .pre .1 .1, omega (arith, at-start .pre .1 .2), at-start .pre .1 .6, omega arith)
 
 hash-requires : tie.Need-hash-requires
 hash-requires c κs = search needs
@@ -163,25 +165,25 @@ returns-3 c =
     let at-has-id = c .before .before .before .before .before .before .before .has-id in
     let at-hash = c .before .before .before .before .before .before .before .before .before .before .before .hash in
     let at-holder-of = c .before .before .before .before .before .before .before .before .before .before .before .before .holder-of in
-    let at-if1 = c .before .before .before .before .before .before .before .before .before .before .before .before .before .before .before .before .before .before .if1 in
-    let at-is-out-of-order = c .before .before .before .before .before .before .before .before .before .before .before .before .before .before .before .before .before .before .before .is-out-of-order in
-    let at-r = c .before .before .before .before .before .before .before .before .before .before .before .before .before .before .before .before .before .before .before .before .before .r in
-    let at-read-rule = c .before .before .before .before .before .before .before .before .before .before .before .before .before .before .before .before .before .before .before .before .before .before .before .read-rule in
-    let at-start = c .before .before .before .before .before .before .before .before .before .before .before .before .before .before .before .before .before .before .before .before .before .before .before .before .before .before in
+    let at-if1 = c .before .before .before .before .before .before .before .before .before .before .before .before .before .before .before .before .before .before .before .if1 in
+    let at-is-out-of-order = c .before .before .before .before .before .before .before .before .before .before .before .before .before .before .before .before .before .before .before .before .is-out-of-order in
+    let at-r = c .before .before .before .before .before .before .before .before .before .before .before .before .before .before .before .before .before .before .before .before .before .before .r in
+    let at-read-rule = c .before .before .before .before .before .before .before .before .before .before .before .before .before .before .before .before .before .before .before .before .before .before .before .before .read-rule in
+    let at-start = c .before .before .before .before .before .before .before .before .before .before .before .before .before .before .before .before .before .before .before .before .before .before .before .before .before .before .before in
     (λ b w g d. rule-graded _ (at-start .pre .0) _ (at-read-rule .ensures) _ _ _ _ (at-r .given .1) _ _ (at-is-out-of-order .ensures) (at-if1 .left) (at-start .args .old .now) (at-start .args .groups .now) _ (at-start .args .ids .now) (at-start .args .seen .now) _ (at-start .pre .1 .5) _ _ _ _ _ _ _ _ _ (at-is-unsized .ensures) (at-is-unsized2 .ensures) (at-all-print .ensures) (at-all-print2 .ensures) (at-all-print3 .ensures) (at-holder-of .ensures) (at-hash .ensures) (at-has-id .ensures) (at-number .ensures) b w g d, λ x. absurd (at-if2 .taken x))
 
 add-ids : tie.Need-add-ids
 add-ids c =
-    let at-r = c .before .before .before .before .before .before .before .before .before .before .before .before .before .before .before .before .before .before .before .before .before .r in
-    let at-read-rule = c .before .before .before .before .before .before .before .before .before .before .before .before .before .before .before .before .before .before .before .before .before .before .before .read-rule in
-    let at-start = c .before .before .before .before .before .before .before .before .before .before .before .before .before .before .before .before .before .before .before .before .before .before .before .before .before .before in
+    let at-r = c .before .before .before .before .before .before .before .before .before .before .before .before .before .before .before .before .before .before .before .before .before .before .r in
+    let at-read-rule = c .before .before .before .before .before .before .before .before .before .before .before .before .before .before .before .before .before .before .before .before .before .before .before .before .read-rule in
+    let at-start = c .before .before .before .before .before .before .before .before .before .before .before .before .before .before .before .before .before .before .before .before .before .before .before .before .before .before .before in
     let h = rule-long _ (at-start .pre .0) _ (at-read-rule .ensures) _ _ _ _ (at-r .given .1) in omega (arith, h .0, h .1, h .2, h .3, at-start .pre .1 .0)
 
 cast-ids : tie.Need-cast-ids
 cast-ids c =
-    let at-r = c .before .before .before .before .before .before .before .before .before .before .before .before .before .before .before .before .before .before .before .before .before .r in
-    let at-read-rule = c .before .before .before .before .before .before .before .before .before .before .before .before .before .before .before .before .before .before .before .before .before .before .before .read-rule in
-    let at-start = c .before .before .before .before .before .before .before .before .before .before .before .before .before .before .before .before .before .before .before .before .before .before .before .before .before .before in
+    let at-r = c .before .before .before .before .before .before .before .before .before .before .before .before .before .before .before .before .before .before .before .before .before .before .r in
+    let at-read-rule = c .before .before .before .before .before .before .before .before .before .before .before .before .before .before .before .before .before .before .before .before .before .before .before .before .read-rule in
+    let at-start = c .before .before .before .before .before .before .before .before .before .before .before .before .before .before .before .before .before .before .before .before .before .before .before .before .before .before .before in
     let h = rule-long _ (at-start .pre .0) _ (at-read-rule .ensures) _ _ _ _ (at-r .given .1) in omega (arith, h .0, h .1, h .2, h .3, at-start .pre .1 .0)
 
 mul-ids : tie.Need-mul-ids
@@ -196,11 +198,11 @@ mul-ids c =
     let at-has-id = c .before .before .before .before .before .before .before .has-id in
     let at-hash = c .before .before .before .before .before .before .before .before .before .before .before .hash in
     let at-holder-of = c .before .before .before .before .before .before .before .before .before .before .before .before .holder-of in
-    let at-if1 = c .before .before .before .before .before .before .before .before .before .before .before .before .before .before .before .before .before .before .if1 in
-    let at-is-out-of-order = c .before .before .before .before .before .before .before .before .before .before .before .before .before .before .before .before .before .before .before .is-out-of-order in
-    let at-r = c .before .before .before .before .before .before .before .before .before .before .before .before .before .before .before .before .before .before .before .before .before .r in
-    let at-read-rule = c .before .before .before .before .before .before .before .before .before .before .before .before .before .before .before .before .before .before .before .before .before .before .before .read-rule in
-    let at-start = c .before .before .before .before .before .before .before .before .before .before .before .before .before .before .before .before .before .before .before .before .before .before .before .before .before .before in
+    let at-if1 = c .before .before .before .before .before .before .before .before .before .before .before .before .before .before .before .before .before .before .before .if1 in
+    let at-is-out-of-order = c .before .before .before .before .before .before .before .before .before .before .before .before .before .before .before .before .before .before .before .before .is-out-of-order in
+    let at-r = c .before .before .before .before .before .before .before .before .before .before .before .before .before .before .before .before .before .before .before .before .before .before .r in
+    let at-read-rule = c .before .before .before .before .before .before .before .before .before .before .before .before .before .before .before .before .before .before .before .before .before .before .before .before .read-rule in
+    let at-start = c .before .before .before .before .before .before .before .before .before .before .before .before .before .before .before .before .before .before .before .before .before .before .before .before .before .before .before in
     let h = rule-room _ (at-start .pre .0) _ (at-read-rule .ensures) _ _ _ _ (at-r .given .1) _ _ (at-is-out-of-order .ensures) (at-if1 .left) (at-start .args .old .now) (at-start .args .groups .now) _ (at-start .args .ids .now) (at-start .args .seen .now) _ (at-start .pre .1 .5) _ _ _ _ _ _ _ _ _ (at-is-unsized .ensures) (at-is-unsized2 .ensures) (at-all-print .ensures) (at-all-print2 .ensures) (at-all-print3 .ensures) (at-holder-of .ensures) (at-hash .ensures) (at-has-id .ensures) (at-number .ensures) (at-if2 .left) in omega arith
 
 element-write-ids : tie.Need-element-write-ids
@@ -215,25 +217,25 @@ element-write-ids c =
     let at-has-id = c .before .before .before .before .before .before .before .has-id in
     let at-hash = c .before .before .before .before .before .before .before .before .before .before .before .hash in
     let at-holder-of = c .before .before .before .before .before .before .before .before .before .before .before .before .holder-of in
-    let at-if1 = c .before .before .before .before .before .before .before .before .before .before .before .before .before .before .before .before .before .before .if1 in
-    let at-is-out-of-order = c .before .before .before .before .before .before .before .before .before .before .before .before .before .before .before .before .before .before .before .is-out-of-order in
-    let at-r = c .before .before .before .before .before .before .before .before .before .before .before .before .before .before .before .before .before .before .before .before .before .r in
-    let at-read-rule = c .before .before .before .before .before .before .before .before .before .before .before .before .before .before .before .before .before .before .before .before .before .before .before .read-rule in
-    let at-start = c .before .before .before .before .before .before .before .before .before .before .before .before .before .before .before .before .before .before .before .before .before .before .before .before .before .before in
+    let at-if1 = c .before .before .before .before .before .before .before .before .before .before .before .before .before .before .before .before .before .before .before .if1 in
+    let at-is-out-of-order = c .before .before .before .before .before .before .before .before .before .before .before .before .before .before .before .before .before .before .before .before .is-out-of-order in
+    let at-r = c .before .before .before .before .before .before .before .before .before .before .before .before .before .before .before .before .before .before .before .before .before .before .r in
+    let at-read-rule = c .before .before .before .before .before .before .before .before .before .before .before .before .before .before .before .before .before .before .before .before .before .before .before .before .read-rule in
+    let at-start = c .before .before .before .before .before .before .before .before .before .before .before .before .before .before .before .before .before .before .before .before .before .before .before .before .before .before .before in
     rule-room _ (at-start .pre .0) _ (at-read-rule .ensures) _ _ _ _ (at-r .given .1) _ _ (at-is-out-of-order .ensures) (at-if1 .left) (at-start .args .old .now) (at-start .args .groups .now) _ (at-start .args .ids .now) (at-start .args .seen .now) _ (at-start .pre .1 .5) _ _ _ _ _ _ _ _ _ (at-is-unsized .ensures) (at-is-unsized2 .ensures) (at-all-print .ensures) (at-all-print2 .ensures) (at-all-print3 .ensures) (at-holder-of .ensures) (at-hash .ensures) (at-has-id .ensures) (at-number .ensures) (at-if2 .left)
 
 add-starts : tie.Need-add-starts
 add-starts c =
-    let at-r = c .before .before .before .before .before .before .before .before .before .before .before .before .before .before .before .before .before .before .before .before .before .r in
-    let at-read-rule = c .before .before .before .before .before .before .before .before .before .before .before .before .before .before .before .before .before .before .before .before .before .before .before .read-rule in
-    let at-start = c .before .before .before .before .before .before .before .before .before .before .before .before .before .before .before .before .before .before .before .before .before .before .before .before .before .before in
+    let at-r = c .before .before .before .before .before .before .before .before .before .before .before .before .before .before .before .before .before .before .before .before .before .before .r in
+    let at-read-rule = c .before .before .before .before .before .before .before .before .before .before .before .before .before .before .before .before .before .before .before .before .before .before .before .before .read-rule in
+    let at-start = c .before .before .before .before .before .before .before .before .before .before .before .before .before .before .before .before .before .before .before .before .before .before .before .before .before .before .before in
     let h = rule-long _ (at-start .pre .0) _ (at-read-rule .ensures) _ _ _ _ (at-r .given .1) in omega (arith, h .0, h .1, h .2, h .3, at-start .pre .1 .0)
 
 cast-starts : tie.Need-cast-starts
 cast-starts c =
-    let at-r = c .before .before .before .before .before .before .before .before .before .before .before .before .before .before .before .before .before .before .before .before .before .r in
-    let at-read-rule = c .before .before .before .before .before .before .before .before .before .before .before .before .before .before .before .before .before .before .before .before .before .before .before .read-rule in
-    let at-start = c .before .before .before .before .before .before .before .before .before .before .before .before .before .before .before .before .before .before .before .before .before .before .before .before .before .before in
+    let at-r = c .before .before .before .before .before .before .before .before .before .before .before .before .before .before .before .before .before .before .before .before .before .before .r in
+    let at-read-rule = c .before .before .before .before .before .before .before .before .before .before .before .before .before .before .before .before .before .before .before .before .before .before .before .before .read-rule in
+    let at-start = c .before .before .before .before .before .before .before .before .before .before .before .before .before .before .before .before .before .before .before .before .before .before .before .before .before .before .before in
     let h = rule-long _ (at-start .pre .0) _ (at-read-rule .ensures) _ _ _ _ (at-r .given .1) in omega (arith, h .0, h .1, h .2, h .3, at-start .pre .1 .0)
 
 mul-starts : tie.Need-mul-starts
@@ -248,11 +250,11 @@ mul-starts c =
     let at-has-id = c .before .before .before .before .before .before .before .has-id in
     let at-hash = c .before .before .before .before .before .before .before .before .before .before .before .hash in
     let at-holder-of = c .before .before .before .before .before .before .before .before .before .before .before .before .holder-of in
-    let at-if1 = c .before .before .before .before .before .before .before .before .before .before .before .before .before .before .before .before .before .before .if1 in
-    let at-is-out-of-order = c .before .before .before .before .before .before .before .before .before .before .before .before .before .before .before .before .before .before .before .is-out-of-order in
-    let at-r = c .before .before .before .before .before .before .before .before .before .before .before .before .before .before .before .before .before .before .before .before .before .r in
-    let at-read-rule = c .before .before .before .before .before .before .before .before .before .before .before .before .before .before .before .before .before .before .before .before .before .before .before .read-rule in
-    let at-start = c .before .before .before .before .before .before .before .before .before .before .before .before .before .before .before .before .before .before .before .before .before .before .before .before .before .before in
+    let at-if1 = c .before .before .before .before .before .before .before .before .before .before .before .before .before .before .before .before .before .before .before .if1 in
+    let at-is-out-of-order = c .before .before .before .before .before .before .before .before .before .before .before .before .before .before .before .before .before .before .before .before .is-out-of-order in
+    let at-r = c .before .before .before .before .before .before .before .before .before .before .before .before .before .before .before .before .before .before .before .before .before .before .r in
+    let at-read-rule = c .before .before .before .before .before .before .before .before .before .before .before .before .before .before .before .before .before .before .before .before .before .before .before .before .read-rule in
+    let at-start = c .before .before .before .before .before .before .before .before .before .before .before .before .before .before .before .before .before .before .before .before .before .before .before .before .before .before .before in
     let h = rule-room _ (at-start .pre .0) _ (at-read-rule .ensures) _ _ _ _ (at-r .given .1) _ _ (at-is-out-of-order .ensures) (at-if1 .left) (at-start .args .old .now) (at-start .args .groups .now) _ (at-start .args .ids .now) (at-start .args .seen .now) _ (at-start .pre .1 .5) _ _ _ _ _ _ _ _ _ (at-is-unsized .ensures) (at-is-unsized2 .ensures) (at-all-print .ensures) (at-all-print2 .ensures) (at-all-print3 .ensures) (at-holder-of .ensures) (at-hash .ensures) (at-has-id .ensures) (at-number .ensures) (at-if2 .left) in omega arith
 
 element-write-starts : tie.Need-element-write-starts
@@ -267,17 +269,17 @@ element-write-starts c =
     let at-has-id = c .before .before .before .before .before .before .before .has-id in
     let at-hash = c .before .before .before .before .before .before .before .before .before .before .before .hash in
     let at-holder-of = c .before .before .before .before .before .before .before .before .before .before .before .before .holder-of in
-    let at-if1 = c .before .before .before .before .before .before .before .before .before .before .before .before .before .before .before .before .before .before .if1 in
-    let at-is-out-of-order = c .before .before .before .before .before .before .before .before .before .before .before .before .before .before .before .before .before .before .before .is-out-of-order in
-    let at-r = c .before .before .before .before .before .before .before .before .before .before .before .before .before .before .before .before .before .before .before .before .before .r in
-    let at-read-rule = c .before .before .before .before .before .before .before .before .before .before .before .before .before .before .before .before .before .before .before .before .before .before .before .read-rule in
-    let at-start = c .before .before .before .before .before .before .before .before .before .before .before .before .before .before .before .before .before .before .before .before .before .before .before .before .before .before in
+    let at-if1 = c .before .before .before .before .before .before .before .before .before .before .before .before .before .before .before .before .before .before .before .if1 in
+    let at-is-out-of-order = c .before .before .before .before .before .before .before .before .before .before .before .before .before .before .before .before .before .before .before .before .is-out-of-order in
+    let at-r = c .before .before .before .before .before .before .before .before .before .before .before .before .before .before .before .before .before .before .before .before .before .before .r in
+    let at-read-rule = c .before .before .before .before .before .before .before .before .before .before .before .before .before .before .before .before .before .before .before .before .before .before .before .before .read-rule in
+    let at-start = c .before .before .before .before .before .before .before .before .before .before .before .before .before .before .before .before .before .before .before .before .before .before .before .before .before .before .before in
     rule-room _ (at-start .pre .0) _ (at-read-rule .ensures) _ _ _ _ (at-r .given .1) _ _ (at-is-out-of-order .ensures) (at-if1 .left) (at-start .args .old .now) (at-start .args .groups .now) _ (at-start .args .ids .now) (at-start .args .seen .now) _ (at-start .pre .1 .5) _ _ _ _ _ _ _ _ _ (at-is-unsized .ensures) (at-is-unsized2 .ensures) (at-all-print .ensures) (at-all-print2 .ensures) (at-all-print3 .ensures) (at-holder-of .ensures) (at-hash .ensures) (at-has-id .ensures) (at-number .ensures) (at-if2 .left)
 
 cast-holders : tie.Need-cast-holders
 cast-holders c =
     let at-holder-of = c .before .before .before .before .before .before .before .before .before .before .before .before .holder-of in
-    let at-start = c .before .before .before .before .before .before .before .before .before .before .before .before .before .before .before .before .before .before .before .before .before .before .before .before .before .before in
+    let at-start = c .before .before .before .before .before .before .before .before .before .before .before .before .before .before .before .before .before .before .before .before .before .before .before .before .before .before .before in
     let h = holder-small _ _ _ _ _ _ (at-holder-of .ensures) in omega (arith, h, at-start .pre .1 .2)
 
 element-write-holders : tie.Need-element-write-holders
@@ -292,11 +294,11 @@ element-write-holders c =
     let at-has-id = c .before .before .before .before .before .before .before .has-id in
     let at-hash = c .before .before .before .before .before .before .before .before .before .before .before .hash in
     let at-holder-of = c .before .before .before .before .before .before .before .before .before .before .before .before .holder-of in
-    let at-if1 = c .before .before .before .before .before .before .before .before .before .before .before .before .before .before .before .before .before .before .if1 in
-    let at-is-out-of-order = c .before .before .before .before .before .before .before .before .before .before .before .before .before .before .before .before .before .before .before .is-out-of-order in
-    let at-r = c .before .before .before .before .before .before .before .before .before .before .before .before .before .before .before .before .before .before .before .before .before .r in
-    let at-read-rule = c .before .before .before .before .before .before .before .before .before .before .before .before .before .before .before .before .before .before .before .before .before .before .before .read-rule in
-    let at-start = c .before .before .before .before .before .before .before .before .before .before .before .before .before .before .before .before .before .before .before .before .before .before .before .before .before .before in
+    let at-if1 = c .before .before .before .before .before .before .before .before .before .before .before .before .before .before .before .before .before .before .before .if1 in
+    let at-is-out-of-order = c .before .before .before .before .before .before .before .before .before .before .before .before .before .before .before .before .before .before .before .before .is-out-of-order in
+    let at-r = c .before .before .before .before .before .before .before .before .before .before .before .before .before .before .before .before .before .before .before .before .before .before .r in
+    let at-read-rule = c .before .before .before .before .before .before .before .before .before .before .before .before .before .before .before .before .before .before .before .before .before .before .before .before .read-rule in
+    let at-start = c .before .before .before .before .before .before .before .before .before .before .before .before .before .before .before .before .before .before .before .before .before .before .before .before .before .before .before in
     rule-room _ (at-start .pre .0) _ (at-read-rule .ensures) _ _ _ _ (at-r .given .1) _ _ (at-is-out-of-order .ensures) (at-if1 .left) (at-start .args .old .now) (at-start .args .groups .now) _ (at-start .args .ids .now) (at-start .args .seen .now) _ (at-start .pre .1 .5) _ _ _ _ _ _ _ _ _ (at-is-unsized .ensures) (at-is-unsized2 .ensures) (at-all-print .ensures) (at-all-print2 .ensures) (at-all-print3 .ensures) (at-holder-of .ensures) (at-hash .ensures) (at-has-id .ensures) (at-number .ensures) (at-if2 .left)
 
 element-write-seen : tie.Need-element-write-seen
@@ -316,11 +318,11 @@ returns-4 c =
     let at-has-id = c .before .before .before .before .before .before .before .has-id in
     let at-hash = c .before .before .before .before .before .before .before .before .before .before .before .hash in
     let at-holder-of = c .before .before .before .before .before .before .before .before .before .before .before .before .holder-of in
-    let at-if1 = c .before .before .before .before .before .before .before .before .before .before .before .before .before .before .before .before .before .before .if1 in
-    let at-is-out-of-order = c .before .before .before .before .before .before .before .before .before .before .before .before .before .before .before .before .before .before .before .is-out-of-order in
-    let at-r = c .before .before .before .before .before .before .before .before .before .before .before .before .before .before .before .before .before .before .before .before .before .r in
-    let at-read-rule = c .before .before .before .before .before .before .before .before .before .before .before .before .before .before .before .before .before .before .before .before .before .before .before .read-rule in
-    let at-start = c .before .before .before .before .before .before .before .before .before .before .before .before .before .before .before .before .before .before .before .before .before .before .before .before .before .before in
+    let at-if1 = c .before .before .before .before .before .before .before .before .before .before .before .before .before .before .before .before .before .before .before .if1 in
+    let at-is-out-of-order = c .before .before .before .before .before .before .before .before .before .before .before .before .before .before .before .before .before .before .before .before .is-out-of-order in
+    let at-r = c .before .before .before .before .before .before .before .before .before .before .before .before .before .before .before .before .before .before .before .before .before .before .r in
+    let at-read-rule = c .before .before .before .before .before .before .before .before .before .before .before .before .before .before .before .before .before .before .before .before .before .before .before .before .read-rule in
+    let at-start = c .before .before .before .before .before .before .before .before .before .before .before .before .before .before .before .before .before .before .before .before .before .before .before .before .before .before .before in
     (λ b w g d. sym (at-if2 .left) ∙ rule-graded _ (at-start .pre .0) _ (at-read-rule .ensures) _ _ _ _ (at-r .given .1) _ _ (at-is-out-of-order .ensures) (at-if1 .left) (at-start .args .old .now) (at-start .args .groups .now) _ (at-start .args .ids .now) (at-start .args .seen .now) _ (at-start .pre .1 .5) _ _ _ _ _ _ _ _ _ (at-is-unsized .ensures) (at-is-unsized2 .ensures) (at-all-print .ensures) (at-all-print2 .ensures) (at-all-print3 .ensures) (at-holder-of .ensures) (at-hash .ensures) (at-has-id .ensures) (at-number .ensures) b w g d, λ x. rule-kept _ (at-start .pre .0) _ (at-read-rule .ensures) _ _ _ _ (at-r .given .1) _ _ (at-is-out-of-order .ensures) (at-if1 .left) (at-start .args .old .now) (at-start .args .groups .now) _ (at-start .args .ids .now) (at-start .args .seen .now) _ (at-start .pre .1 .5) _ _ _ _ _ _ _ _ _ (at-is-unsized .ensures) (at-is-unsized2 .ensures) (at-all-print .ensures) (at-all-print2 .ensures) (at-all-print3 .ensures) (at-holder-of .ensures) (at-hash .ensures) (at-has-id .ensures) (at-number .ensures) (at-if2 .left) _ _)
 
 pub take-rule-spec : {M : Type 1} → statement M

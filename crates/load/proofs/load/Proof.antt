@@ -10,10 +10,10 @@ use Rattle.load.proofs.load.Statement.{statement}
 use Rattle.load.proofs.load.Tie as tie
 
 abbrev Inv-loop : tie.InvT-loop
-Inv-loop text buf₀ groups₀ users₀ owners₀ ids₀ starts₀ holders₀ members-seen₀ ids-seen₀ c₀ from₀ used₀ line₀ buf groups users owners ids starts holders members-seen ids-seen c from used line = Going text buf c groups users owners ids starts holders members-seen ids-seen from used line × (length buf ≡ length buf₀)
+Inv-loop text buf₀ groups₀ users₀ owners₀ ids₀ starts₀ holders₀ hints₀ members-seen₀ ids-seen₀ c₀ from₀ used₀ line₀ buf groups users owners ids starts holders hints members-seen ids-seen c from used line = Going text buf c groups users owners ids starts holders members-seen ids-seen from used line × (length buf ≡ length buf₀)
 
 abbrev μ-loop : tie.MeasureT-loop
-μ-loop text buf₀ groups₀ users₀ owners₀ ids₀ starts₀ holders₀ members-seen₀ ids-seen₀ c₀ from₀ used₀ line₀ buf groups users owners ids starts holders members-seen ids-seen c from used line = length text - from
+μ-loop text buf₀ groups₀ users₀ owners₀ ids₀ starts₀ holders₀ hints₀ members-seen₀ ids-seen₀ c₀ from₀ used₀ line₀ buf groups users owners ids starts holders hints members-seen ids-seen c from used line = length text - from
 
 returns : tie.Need-returns Inv-loop μ-loop
 unfolding Outcome
@@ -70,15 +70,15 @@ add-end c =
 
 take-row-requires : tie.Need-take-row-requires Inv-loop μ-loop
 take-row-requires c κs =
-    let at-l = c .before .before .before .before .before .before .before .before .before .before .l in
-    let at-read-line = c .before .before .before .before .before .before .before .before .before .before .before .before .before .before .read-line in
-    let at-loop = c .before .before .before .before .before .before .before .before .before .before .before .before .before .before .before .before .before .loop in
+    let at-l = c .before .before .before .before .before .before .before .before .before .before .before .l in
+    let at-read-line = c .before .before .before .before .before .before .before .before .before .before .before .before .before .before .before .read-line in
+    let at-loop = c .before .before .before .before .before .before .before .before .before .before .before .before .before .before .before .before .before .before .loop in
     (row-fits (at-loop .inv .0) _ (at-read-line .ensures .0) _ _ (at-l .given .1) _ (at-read-line .ensures .1), (at-loop .inv .0 .b, at-loop .inv .0 .rules, held-again (at-loop .inv .0) _ (at-read-line .ensures .0) _ _ (at-l .given .1) _ (at-read-line .ensures .1)))
 
 same-length-2 : tie.Need-same-length-2 Inv-loop μ-loop
 same-length-2 c =
-    let at-read-line = c .before .before .before .before .before .before .before .before .before .before .before .before .before .before .before .before .read-line in
-    let at-loop = c .before .before .before .before .before .before .before .before .before .before .before .before .before .before .before .before .before .before .before .loop in
+    let at-read-line = c .before .before .before .before .before .before .before .before .before .before .before .before .before .before .before .before .before .read-line in
+    let at-loop = c .before .before .before .before .before .before .before .before .before .before .before .before .before .before .before .before .before .before .before .before .loop in
     at-read-line .kept .1 .1 .0 ∙ at-loop .inv .1
 
 returns-4 : tie.Need-returns-4 Inv-loop μ-loop
@@ -86,33 +86,33 @@ unfolding Outcome
 returns-4 c =
     let at-if3 = c .if3 in
     let at-take-row = c .before .take-row in
-    let at-l = c .before .before .before .before .before .before .before .before .before .before .before .before .l in
-    let at-read-line = c .before .before .before .before .before .before .before .before .before .before .before .before .before .before .before .before .read-line in
-    let at-loop = c .before .before .before .before .before .before .before .before .before .before .before .before .before .before .before .before .before .before .before .loop in
+    let at-l = c .before .before .before .before .before .before .before .before .before .before .before .before .before .l in
+    let at-read-line = c .before .before .before .before .before .before .before .before .before .before .before .before .before .before .before .before .before .read-line in
+    let at-loop = c .before .before .before .before .before .before .before .before .before .before .before .before .before .before .before .before .before .before .before .before .loop in
     load-refused (at-loop .inv .0) _ (at-read-line .ensures .0) _ _ (at-l .given .1) _ (at-read-line .ensures .1) _ (at-take-row .ensures) (at-if3 .taken)
 
 slice-read-after : tie.Need-slice-read-after Inv-loop μ-loop
 slice-read-after c =
-    let at-l = c .before .before .before .before .before .before .before .before .before .before .before .before .before .l in
-    let at-read-line = c .before .before .before .before .before .before .before .before .before .before .before .before .before .before .before .before .before .read-line in
-    let at-loop = c .before .before .before .before .before .before .before .before .before .before .before .before .before .before .before .before .before .before .before .before .loop in
+    let at-l = c .before .before .before .before .before .before .before .before .before .before .before .before .before .before .l in
+    let at-read-line = c .before .before .before .before .before .before .before .before .before .before .before .before .before .before .before .before .before .before .read-line in
+    let at-loop = c .before .before .before .before .before .before .before .before .before .before .before .before .before .before .before .before .before .before .before .before .before .loop in
     let h = row-fits (at-loop .inv .0) _ (at-read-line .ensures .0) _ _ (at-l .given .1) _ (at-read-line .ensures .1) in omega (arith, h .0, h .1)
 
 after-requires : tie.Need-after-requires Inv-loop μ-loop
 after-requires c κs =
-    let at-loop = c .before .before .before .before .before .before .before .before .before .before .before .before .before .before .before .before .before .before .before .before .loop in
+    let at-loop = c .before .before .before .before .before .before .before .before .before .before .before .before .before .before .before .before .before .before .before .before .before .loop in
     at-loop .inv .0 .held .holds .few
 
 add-line : tie.Need-add-line Inv-loop μ-loop
 add-line c =
-    let at-loop = c .before .before .before .before .before .before .before .before .before .before .before .before .before .before .before .before .before .before .before .before .before .loop in
+    let at-loop = c .before .before .before .before .before .before .before .before .before .before .before .before .before .before .before .before .before .before .before .before .before .before .loop in
     omega (arith, number-room (at-loop .inv .0))
 
 loop-less : tie.Need-loop-less Inv-loop μ-loop
 loop-less c =
-    let at-l = c .before .before .before .before .before .before .before .before .before .before .before .before .before .before .l in
-    let at-read-line = c .before .before .before .before .before .before .before .before .before .before .before .before .before .before .before .before .before .before .read-line in
-    let at-loop = c .before .before .before .before .before .before .before .before .before .before .before .before .before .before .before .before .before .before .before .before .before .loop in
+    let at-l = c .before .before .before .before .before .before .before .before .before .before .before .before .before .before .before .l in
+    let at-read-line = c .before .before .before .before .before .before .before .before .before .before .before .before .before .before .before .before .before .before .before .read-line in
+    let at-loop = c .before .before .before .before .before .before .before .before .before .before .before .before .before .before .before .before .before .before .before .before .before .before .loop in
     let h = goes-on (at-loop .inv .0) _ (at-read-line .ensures .0) _ _ (at-l .given .1) _ (at-read-line .ensures .1) in omega (arith, h .0, h .1)
 
 loop-again : tie.Need-loop-again Inv-loop μ-loop
@@ -120,9 +120,9 @@ loop-again c =
     let at-after = c .after in
     let at-if3 = c .before .before .if3 in
     let at-take-row = c .before .before .before .take-row in
-    let at-l = c .before .before .before .before .before .before .before .before .before .before .before .before .before .before .l in
-    let at-read-line = c .before .before .before .before .before .before .before .before .before .before .before .before .before .before .before .before .before .before .read-line in
-    let at-loop = c .before .before .before .before .before .before .before .before .before .before .before .before .before .before .before .before .before .before .before .before .before .loop in
+    let at-l = c .before .before .before .before .before .before .before .before .before .before .before .before .before .before .before .l in
+    let at-read-line = c .before .before .before .before .before .before .before .before .before .before .before .before .before .before .before .before .before .before .before .read-line in
+    let at-loop = c .before .before .before .before .before .before .before .before .before .before .before .before .before .before .before .before .before .before .before .before .before .before .loop in
     (load-again (at-loop .inv .0) _ (at-read-line .ensures .0) _ _ (at-l .given .1) _ (at-read-line .ensures .1) _ (at-take-row .ensures) (at-if3 .left) _ (at-after .ensures), same-long (at-loop .inv .0) _ (at-read-line .ensures .0) _ _ (at-l .given .1) _ (at-read-line .ensures .1) ∙ at-loop .inv .1)
 
 same-length-3 : tie.Need-same-length-3 Inv-loop μ-loop
