@@ -1,12 +1,13 @@
 -- Hex digits, found by subtraction modulo 256.
-use mathlib.Core.Path.{_≡_, refl}
-use mathlib.Core.Bool.{Bool, true, false, cond}
+use mathlib.Core.Path.{_≡_, refl, ap, _∙_}
+use mathlib.Core.Bool.{Bool, true, false, not, xor, _&&_, _||_, cond}
 use Prim.Native.Nat.{ℕ, zero, suc, _+_, _-_, _≤_, _<_, _%_}
 use native.Mathlib.Omega.{arith}
-use borrow.Author.Tests.{leb-true, le-leb, lt-leb}
-use lib.Dec.{leb}
-use Rattle.text.specs.Byte.{within, isDigit, hexValue}
-use Rattle.text.proofs.Tests.{and-left, and-right}
+use borrow.Author.Tests.{leb-true, le-leb, lt-leb, eqb-true, eqb-false}
+use lib.Dec.{leb, eqb}
+use lib.Bits.{bitOr}
+use Rattle.text.specs.Byte.{within, isDigit, hexValue, isName}
+use Rattle.text.proofs.Tests.{by, clash, and-left, and-right}
 
 within-true : (lo hi b : ℕ) → lo ≤ b → b ≤ hi → within lo hi b ≡ true
 within-true lo hi b h k = rw (le-leb lo b h, le-leb b hi k)
@@ -51,3 +52,30 @@ hex-cases b false false e f = omega arith
 
 pub hexValue-small : (b : ℕ) → hexValue b ≤ 16
 hexValue-small b = hex-cases b (isDigit b) (within 97 102 b) refl refl
+
+-- ---- names, by the test that is_name makes
+
+abbrev nameTest : ℕ → Bool
+nameTest b = within 97 122 (bitOr b 32) || within 48 58 b || within 45 46 b || eqb b 95
+
+-- f at each number below n
+abbrev below : (ℕ → Bool) → ℕ → Bool
+below f zero = true
+below f (suc n) = f n && below f n
+
+from-below : (f : ℕ → Bool) (n : ℕ) → below f n ≡ true → (k : ℕ) → k < n → f k ≡ true
+from-below f zero e k h = absurd (omega arith)
+from-below f (suc n) e k h =
+    by (eqb k n) (λ q. ap f (eqb-true k n q) ∙ and-left (f n) (below f n) e)
+    (λ q. let apart : k ≡ n → ⊥ = eqb-false k n q in from-below f n (and-right (f n) (below f n) e) k (omega arith))
+
+-- of all 256 bytes, computed
+pub name-test : (b : ℕ) → b < 256 → nameTest b ≡ isName b
+unfolding xor
+name-test b h = alike (nameTest b) (isName b) (from-below (λ (k : ℕ). not (xor (nameTest k) (isName k))) 256 refl b h)
+  where
+    alike : (a c : Bool) → not (xor a c) ≡ true → a ≡ c
+    alike true true e = refl
+    alike true false e = clash e refl
+    alike false true e = clash e refl
+    alike false false e = refl

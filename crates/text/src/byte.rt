@@ -17,16 +17,12 @@ pub fn hex_value(b: u8) -> u8
     16
 }
 
+// Setting bit 32 makes a capital letter small, and no other byte a letter. The digits and : stand side by side, as - and . do.
 pub fn is_name(b: u8) -> bool
     ensures { λ r. ⌜ r ≡ isName b ⌝ }
 {
-    ((65 <= b) & (b <= 90))
-        | ((97 <= b) & (b <= 122))
-        | ((48 <= b) & (b <= 57))
-        | (b == 45)
-        | (b == 95)
-        | (b == 46)
-        | (b == 58)
+    let small = b | 32;
+    ((97 <= small) & (small <= 122)) | ((48 <= b) & (b <= 58)) | ((45 <= b) & (b <= 46)) | (b == 95)
 }
 
 pub fn is_print(b: u8) -> bool
