@@ -5,4 +5,3 @@ pub mod Paths
 pub mod Beneath
 pub mod Reorder
 pub mod Theorems
-pub mod Marked

@@ -3,4 +3,3 @@ pub mod Join
 pub mod Order
 pub mod Verdict
 pub mod Laws
-pub mod Examples
