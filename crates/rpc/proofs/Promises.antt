@@ -1,16 +1,12 @@
--- A43's answer as a theorem about lists, and marked example L.
+-- The answer as a theorem about lists: a deny rule matches, else an allow rule, else default (gRFC A43).
 use mathlib.Core.Path.{_≡_, refl, sym, ap, _∙_}
 use mathlib.Core.Bool.{Bool, true, false, not}
-use mathlib.Core.List.{List, [], _∷_, map}
+use mathlib.Core.List.{List, [], _∷_}
 use mathlib.Core.Option.{Option, none, some}
 use Prim.Native.Nat.{ℕ, suc}
-use Prim.Native.String.{String}
 use Rattle.text.specs.Test.{_and_, _or_, if_then_else_, any}
-use Rattle.text.specs.String.{bytes, same}
 use Rattle.text.proofs.Tests.{by, clash}
-use Rattle.policy.specs.Text.{empty, begins, ends}
 use Rattle.policy.specs.Policy.{Rule, Policy}
-use Rattle.rpc.specs.Pattern.{matches}
 use Rattle.rpc.specs.Request.{Request}
 use Rattle.rpc.specs.Verdict.{ruleMatches, firstFrom, allowed, decided, verdict, permits}
 use Rattle.rpc.specs.declared.verdict.Verdict.{Verdict}
@@ -63,8 +59,3 @@ module _ (p : Policy) (r : Request) where
   pub nobody : p .allow ≡ [] → permits (verdict p r) ≡ false
   unfolding _and_
   nobody e = permits-exactly ∙ ap (λ (b : Bool). not (any (ruleMatches r) (p .deny)) and b) (none-match e) ∙ no-and (not (any (ruleMatches r) (p .deny)))
-
--- L: pattern `*abc` matches `abc` and `xabc`, not `abcx`
-pub example-L : map (λ (v : String). matches (bytes "*abc") (bytes v)) ("abc" ∷ "xabc" ∷ "abcx" ∷ []) ≡ (true ∷ true ∷ false ∷ [])
-unfolding matches ends begins empty same if_then_else_ _and_
-example-L = refl
