@@ -1,5 +1,6 @@
 // The C boundary: every exported function. Each takes numbers and byte slices and answers one word.
 mod policies;
+mod probes;
 mod records;
 mod word;
 

@@ -17,32 +17,34 @@ pub struct Answered {
 fn of_stepped(s: Stepped) -> Answered
     ensures { λ a. ⌜ a ≡ answered s ⌝ }
 {
-    let word = crate::word::of_checked(s.answer);
+    let next = s.next;
+    let answer = s.answer;
+    let word = crate::word::of_checked(answer);
     Answered {
-        next: s.next,
+        next: next,
         word: word,
     }
 }
 
-fn start_step(r: Record, n: usize) -> Answered
+pub fn start_step(r: Record, n: usize) -> Answered
     ensures { λ a. ⌜ a ≡ answered (start r n) ⌝ }
 {
     of_stepped(rotation::step::start(r, n))
 }
 
-fn finalize_step(r: Record, n: usize) -> Answered
+pub fn finalize_step(r: Record, n: usize) -> Answered
     ensures { λ a. ⌜ a ≡ answered (finalize r n) ⌝ }
 {
     of_stepped(rotation::step::finalize(r, n))
 }
 
-fn close_step(r: Record, n: usize) -> Answered
+pub fn close_step(r: Record, n: usize) -> Answered
     ensures { λ a. ⌜ a ≡ answered (close r n) ⌝ }
 {
     of_stepped(rotation::step::close(r, n))
 }
 
-fn upload_step(r: Record, store: &mut [u8], text: &[u8]) -> Answered
+pub fn upload_step(r: Record, store: &mut [u8], text: &[u8]) -> Answered
     ensures { λ a. ⌜ (a ≡ answered (upload offeredCheck r (length (now (store .entry))) (now (text .entry)))) × (now (store .exit) ≡ uploadStore offeredCheck r (now (store .entry)) (now (text .entry))) ⌝ }
 {
     of_stepped(upload::upload(r, store, text))
