@@ -88,7 +88,7 @@ keeps-live : (cs : List Call) → Trying cs → (m : Machine) → machineEnd off
 unfolding machineEnd machineStep machineNext
 keeps-live [] promise.none m = refl
 keeps-live (Start ∷ cs) (promise.start t) m = keeps-live cs t (machineStep offeredCheck Start m) ∙ if-live _ _ m (m .live) refl refl
-keeps-live (Upload text ∷ cs) (promise.upload text t) m = keeps-live cs t (machineStep offeredCheck (Upload text) m) ∙ if-live _ _ m (m .live) refl refl
+keeps-live (Upload text ∷ cs) (promise.upload t) m = keeps-live cs t (machineStep offeredCheck (Upload text) m) ∙ if-live _ _ m (m .live) refl refl
 keeps-live (Close ∷ cs) (promise.close t) m = keeps-live cs t (machineStep offeredCheck Close m) ∙ if-live _ _ m (m .live) refl refl
 
 -- an accepted step

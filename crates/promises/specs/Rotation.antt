@@ -33,7 +33,7 @@ pub record StepPromise (l : Lent) : Type 0 where
 pub data Trying : List Call → Type 0 where
   none : Trying []
   start : {cs : List Call} → Trying cs → Trying (Start ∷ cs)
-  upload : {cs : List Call} (text : Str) → Trying cs → Trying (Upload text ∷ cs)
+  upload : {cs : List Call} {text : Str} → Trying cs → Trying (Upload text ∷ cs)
   close : {cs : List Call} → Trying cs → Trying (Close ∷ cs)
 
 -- the live text, and the text in force
