@@ -1,5 +1,7 @@
 // The C boundary: every exported function. Each takes numbers and byte slices and answers one word.
 mod policies;
+mod probes;
+mod records;
 mod word;
 
 ghost use mathlib.Core.Path.{_≡_};

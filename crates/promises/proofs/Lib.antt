@@ -1,5 +1,6 @@
 pub mod Examples
 pub mod Groups
 pub mod PathReturn
+pub mod Rotation
 pub mod Rpc
 pub mod Verdicts

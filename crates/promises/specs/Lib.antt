@@ -2,5 +2,6 @@ pub mod Examples
 pub mod First
 pub mod Groups
 pub mod PathReturn
+pub mod Rotation
 pub mod Rpc
 pub mod Verdicts

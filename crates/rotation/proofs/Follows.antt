@@ -75,13 +75,13 @@ module _ (r : Record) (good : badRecord r ≡ false) where
   unfolding badRecord
   good-kind = or-false-l (badKind r) _ good
 
-  good-slot : badSlot r ≡ false
+  pub good-slot : badSlot r ≡ false
   good-slot = or-false-l (badSlot r) _ tail-1
 
-  good-live : badLength (r .«live_len») ≡ false
+  pub good-live : badLength (r .«live_len») ≡ false
   good-live = or-false-l (badLength (r .«live_len»)) _ tail-2
 
-  good-candidate : badLength (r .«candidate_len») ≡ false
+  pub good-candidate : badLength (r .«candidate_len») ≡ false
   good-candidate = or-false-l (badLength (r .«candidate_len»)) _ tail-3
 
 pub length-short : (len : ℕ) → badLength len ≡ false → given len ≡ true → len ≤ 32768

@@ -1,0 +1,58 @@
+// The C boundary of the probes: a record's five numbers, the store, and a request.
+ghost use mathlib.Core.Path.{_≡_};
+ghost use Rattle.verdict_text.specs.Calls.{pathWord, treeWord};
+ghost use Rattle.probe.specs.Probe.{probePath, probeTree};
+ghost use Rattle.burgee.specs.Record.{recordOf};
+use rotation::Record;
+
+// The action for one path, and the deciding rule.
+#[no_mangle]
+pub extern "C" fn burgee_probe_path(
+    kind: u32,
+    live_slot: u32,
+    live_len: u32,
+    rotating: u32,
+    candidate_len: u32,
+    store: &[u8],
+    user: &[u8],
+    mode: u32,
+    origin: &[u8],
+    path: &[u8],
+) -> u64
+    ensures { λ r. ⌜ r ≡ pathWord (probePath (recordOf kind «live_slot» «live_len» rotating «candidate_len») (now (store .entry)) (now (user .entry)) mode (now (origin .entry)) (now (path .entry))) ⌝ }
+{
+    let r = Record {
+        kind: kind,
+        live_slot: live_slot,
+        live_len: live_len,
+        rotating: rotating,
+        candidate_len: candidate_len,
+    };
+    verdict_text::word::of_path(probe::probe_path(r, store, user, mode, origin, path))
+}
+
+// ALL, NONE or MIXED for the paths at or beneath, and the rule that MIXED names.
+#[no_mangle]
+pub extern "C" fn burgee_probe_tree(
+    kind: u32,
+    live_slot: u32,
+    live_len: u32,
+    rotating: u32,
+    candidate_len: u32,
+    store: &[u8],
+    user: &[u8],
+    mode: u32,
+    origin: &[u8],
+    path: &[u8],
+) -> u64
+    ensures { λ r. ⌜ r ≡ treeWord (probeTree (recordOf kind «live_slot» «live_len» rotating «candidate_len») (now (store .entry)) (now (user .entry)) mode (now (origin .entry)) (now (path .entry))) ⌝ }
+{
+    let r = Record {
+        kind: kind,
+        live_slot: live_slot,
+        live_len: live_len,
+        rotating: rotating,
+        candidate_len: candidate_len,
+    };
+    verdict_text::word::of_tree(probe::probe_tree(r, store, user, mode, origin, path))
+}

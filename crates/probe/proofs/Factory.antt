@@ -1,0 +1,45 @@
+-- A table without rules answers as factory does.
+use mathlib.Core.Path.{_≡_, refl}
+use mathlib.Core.Bool.{false, true}
+use mathlib.Core.List.{List, [], List·Memᴰ·not-nil}
+use mathlib.Core.Option.{none}
+use Prim.Native.Nat.{ℕ, _<_}
+use native.Mathlib.Omega.{arith}
+use lib.ListN.{length}
+use Rattle.text.specs.String.{Str}
+use Rattle.text.specs.Test.{twice}
+use Rattle.table.specs.Table.{Table}
+use Rattle.verdict.specs.Order.{choose}
+use Rattle.verdict.specs.Verdict.{Request, decider, action, permits, word, answer, tree, NONE}
+use Rattle.verdict.specs.Laws.{Orderly}
+use Rattle.judge.specs.Rules.{rulesIn}
+use Rattle.verdict_text.specs.Ready.{Ready, Groups}
+
+abbrev pub empty : Table
+empty = record { version = []; time = []; groups = []; members = []; rules = [] }
+
+pub no-decider : (q : Request) → decider empty q ≡ none
+unfolding decider choose
+no-decider q = refl
+
+pub no-tree : (q : Request) → tree empty q ≡ NONE
+unfolding tree permits action answer word decider choose
+no-tree q = refl
+
+orderly : Orderly empty
+unfolding twice
+orderly = record { ids = refl; keys = λ r m. absurd (List·Memᴰ·not-nil m) }
+
+pub ready : (f starts holders : List ℕ) → length f < 65536 → Ready empty f starts holders 0
+unfolding rulesIn
+ready f starts holders h = record {
+  orderly = orderly;
+  rules = refl;
+  laid = λ i l. absurd (omega arith);
+  few = omega arith;
+  short = h;
+  groups = λ i l. absurd (omega arith);
+}
+
+pub groups : (user : Str) (set : ℕ) → Groups empty user set
+groups user set g l = absurd (omega arith)

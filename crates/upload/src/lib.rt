@@ -1,0 +1,61 @@
+// An upload, as a step by value: the whole text is checked before a byte of it is stored.
+ghost use mathlib.Core.Path.{_≡_};
+ghost use lib.ListN.{length};
+ghost use Rattle.rotation.specs.Calls.{uploadAnswer, upload, uploadStore};
+ghost use Rattle.upload.specs.Offered.{ofPolicy, offeredCheck};
+use policy_text::check::Check;
+use rotation::Record;
+use rotation::Stepped;
+use table::Checked;
+
+fn of_policy(c: Check) -> Checked
+    ensures { λ r. ⌜ r ≡ ofPolicy c ⌝ }
+{
+    match c {
+        Check::Accepted => Checked::Accepted,
+        Check::Refused(number) => Checked::Refused {
+            number: number,
+            line: 0,
+        },
+    }
+}
+
+// A text offered for a record of that kind.
+fn check_offered(kind: u32, text: &[u8]) -> Checked
+    ensures { λ r. ⌜ r ≡ offeredCheck kind (now (text .entry)) ⌝ }
+{
+    if kind == 1 {
+        return of_policy(policy_text::check::check_policy(text));
+    }
+    groups::check_table(text)
+}
+
+// For a store of n bytes.
+fn answer(r: Record, n: usize, text: &[u8]) -> Checked
+    ensures { λ c. ⌜ c ≡ uploadAnswer offeredCheck r n (now (text .entry)) ⌝ }
+{
+    let number = rotation::step::off_refusal(r, n);
+    if number != 255 {
+        return Checked::Refused {
+            number: number,
+            line: 0,
+        };
+    }
+    check_offered(r.kind, text)
+}
+
+// The text goes to the start of the slot that is not live.
+pub fn upload(r: Record, store: &mut [u8], text: &[u8]) -> Stepped
+    ensures { λ s. ⌜ (s ≡ upload offeredCheck r (length (now (store .entry))) (now (text .entry))) × (now (store .exit) ≡ uploadStore offeredCheck r (now (store .entry)) (now (text .entry))) ⌝ }
+{
+    let n = store.len();
+    let c = answer(r, n, text);
+    let Checked::Accepted = c else {
+        return rotation::step::settle(c, r, r);
+    };
+    let slot = rotation::state::candidate_slot(r) as usize;
+    text::fill::copy(text, store, slot * 32768);
+    let len = text.len();
+    let next = rotation::step::with_candidate(r, len as u32);
+    rotation::step::settle(c, r, next)
+}
