@@ -32,6 +32,12 @@ extern "C" {
 #define BURGEE_REFUSED_TABLE_WILDCARD 7u /* an asterisk misplaced, or an element `...`    */
 #define BURGEE_REFUSED_TABLE_TWICE 8u    /* a group, member, rule id or key twice         */
 #define BURGEE_REFUSED_TABLE_UNLISTED 9u /* a group that isn't listed                     */
+#define BURGEE_REFUSED_STORE 11u         /* a store shorter than 65,536 bytes             */
+#define BURGEE_REFUSED_ON 12u            /* start while a rotation is on                  */
+#define BURGEE_REFUSED_OFF 13u           /* upload, finalize or close while off           */
+#define BURGEE_REFUSED_NO_CANDIDATE 14u  /* finalize without a candidate                  */
+#define BURGEE_REFUSED_RECORD 15u        /* a record that no call leaves behind           */
+#define BURGEE_REFUSED_KIND 16u          /* a probe that the record's kind doesn't have   */
 #define BURGEE_REFUSED_USER_OR_MODE 20u  /* a user or a mode that no table has            */
 #define BURGEE_REFUSED_ORIGIN 21u        /* an origin that no table has                   */
 #define BURGEE_REFUSED_PATH 22u          /* not path text, or not the bytes of one path   */
@@ -156,6 +162,89 @@ uint64_t burgee_tree_verdict(const uint8_t *table, size_t table_len, const uint8
 
 /* Checks a whole policy text. Answers 0, or a refusal from 30 to 38, without a line. */
 uint64_t burgee_policy_check(const uint8_t *policy, size_t policy_len);
+
+/* ---- Rotation ------------------------------------------------------------------ */
+
+/*
+ * The daemon keeps a record and a store, and lends both to each call. The record is
+ * changed where it lies; the store is two slots of 32,768 bytes one after the other,
+ * and bytes past them are left alone.
+ */
+typedef struct {
+    uint32_t kind;          /* 1 policy, 2 table                                     */
+    uint32_t live_slot;     /* 0 or 1; counts only where live_len is not none        */
+    uint32_t live_len;      /* length of the live text, or BURGEE_NONE               */
+    uint32_t rotating;      /* 0 off, any other number on                            */
+    uint32_t candidate_len; /* length of the candidate, or BURGEE_NONE               */
+} burgee_record;
+
+#define BURGEE_NONE 0xFFFFFFFFu
+#define BURGEE_KIND_POLICY 1u
+#define BURGEE_KIND_TABLE 2u
+#define BURGEE_STORE_LEN 65536u
+
+/* A record as it is before anything was ever uploaded. */
+static inline burgee_record burgee_factory_record(uint32_t kind)
+{
+    burgee_record record;
+    record.kind = kind;
+    record.live_slot = 0;
+    record.live_len = BURGEE_NONE;
+    record.rotating = 0;
+    record.candidate_len = BURGEE_NONE;
+    return record;
+}
+
+/* Begins a rotation. Refused with 11, 15 or 12. */
+uint64_t burgee_start(burgee_record *record, const uint8_t *store, size_t store_len);
+
+/*
+ * Checks a text of the record's kind, and stores it as the candidate, which is in
+ * force at once; a second upload replaces the first. Refused with 11, 15 or 13, then as
+ * burgee_policy_check or burgee_table_check is. The one call that stores to the slots.
+ */
+uint64_t burgee_upload(burgee_record *record, uint8_t *store, size_t store_len, const uint8_t *text, size_t text_len);
+
+/* Makes the candidate the live text and ends the rotation. Refused with 11, 15, 13 or 14. */
+uint64_t burgee_finalize(burgee_record *record, const uint8_t *store, size_t store_len);
+
+/* Drops the candidate, if there is one, and ends the rotation. Refused with 11, 15 or 13. */
+uint64_t burgee_close(burgee_record *record, const uint8_t *store, size_t store_len);
+
+/*
+ * Probes judge a request on what is in force: the candidate, else the live text, else
+ * factory, which denies every path, naming no rule. They take the
+ * parts of the record one by one; use the burgee_record_probe_... functions below to
+ * give the record. Refused with 11, 15 or 16, then as the text in force is, then as the
+ * request is.
+ */
+uint64_t burgee_probe_path(uint32_t kind, uint32_t live_slot, uint32_t live_len, uint32_t rotating,
+                           uint32_t candidate_len, const uint8_t *store, size_t store_len, const uint8_t *user,
+                           size_t user_len, uint32_t mode, const uint8_t *origin, size_t origin_len,
+                           const uint8_t *path, size_t path_len);
+uint64_t burgee_probe_tree(uint32_t kind, uint32_t live_slot, uint32_t live_len, uint32_t rotating,
+                           uint32_t candidate_len, const uint8_t *store, size_t store_len, const uint8_t *user,
+                           size_t user_len, uint32_t mode, const uint8_t *origin, size_t origin_len,
+                           const uint8_t *path, size_t path_len);
+static inline uint64_t burgee_record_probe_path(const burgee_record *record, const uint8_t *store, size_t store_len,
+                                                const uint8_t *user, size_t user_len, uint32_t mode,
+                                                const uint8_t *origin, size_t origin_len, const uint8_t *path,
+                                                size_t path_len)
+{
+    return burgee_probe_path(record->kind, record->live_slot, record->live_len, record->rotating,
+                             record->candidate_len, store, store_len, user, user_len, mode, origin, origin_len, path,
+                             path_len);
+}
+
+static inline uint64_t burgee_record_probe_tree(const burgee_record *record, const uint8_t *store, size_t store_len,
+                                                const uint8_t *user, size_t user_len, uint32_t mode,
+                                                const uint8_t *origin, size_t origin_len, const uint8_t *path,
+                                                size_t path_len)
+{
+    return burgee_probe_tree(record->kind, record->live_slot, record->live_len, record->rotating,
+                             record->candidate_len, store, store_len, user, user_len, mode, origin, origin_len, path,
+                             path_len);
+}
 
 #ifdef __cplusplus
 }

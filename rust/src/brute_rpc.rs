@@ -62,7 +62,7 @@ mod tests {
     use crate::frame::Action;
     use crate::generate::policy::{good_policy, good_rpc};
     use crate::random::Random;
-    use crate::rpc::{rpc_verdict, RpcRequest};
+    use crate::rpc::rpc_verdict;
 
     #[test]
     fn both_verdicts_agree() {
@@ -73,7 +73,7 @@ mod tests {
             let text = policy.text(&mut random);
             for _ in 0..5 {
                 let rpc = good_rpc(&mut random);
-                let request = RpcRequest { identity: &rpc.identity, path: &rpc.path, headers: &rpc.headers };
+                let request = rpc.request();
                 let fast = rpc_verdict(&text, &request).unwrap();
                 let slow = verdict(&policy, &rpc);
                 let permit = fast.action == Action::Permit;

@@ -2,7 +2,7 @@
 //! and every lent byte are compared, with the slices lent at each edge of memory.
 
 use crate::boundary::{path, policy, table, verdict};
-use crate::lent::{Lent, EDGES};
+use crate::lent::{lend, Lent, EDGES};
 use crate::path::{read_path_text, write_path_text};
 use crate::refusal::Refusal;
 use crate::request::PathRequest;
@@ -50,15 +50,11 @@ fn asked(table: &[u8], request: &PathRequest, answer: u64, proved: fn(&[u8], &Pa
     })
 }
 
-/// Lends the inputs to the proved call and compares its answer with this one.
+/// Compares the answer of the proved call with this one.
 fn answered<const N: usize>(inputs: [&[u8]; N], answer: u64, proved: impl Fn([&[u8]; N]) -> u64) -> u64 {
     for edge in EDGES {
-        let lent = inputs.map(|input| Lent::holding(input, edge));
-        let theirs = proved(lent.each_ref().map(Lent::slice));
+        let theirs = lend(inputs, edge, &proved);
         assert_eq!(theirs, answer, "answer {theirs:#x}, not {answer:#x}, on\n{}", shown(&inputs));
-        for (lent, input) in lent.iter().zip(inputs) {
-            lent.assert_holds(input);
-        }
     }
     answer
 }

@@ -83,6 +83,16 @@ impl Lent {
     }
 }
 
+/// Lends the inputs to a call, and sees that they stay as they are.
+pub fn lend<const N: usize>(inputs: [&[u8]; N], edge: Edge, call: impl FnOnce([&[u8]; N]) -> u64) -> u64 {
+    let lent = inputs.map(|input| Lent::holding(input, edge));
+    let answer = call(lent.each_ref().map(Lent::slice));
+    for (lent, input) in lent.iter().zip(inputs) {
+        lent.assert_holds(input);
+    }
+    answer
+}
+
 #[cfg(test)]
 mod tests {
     use super::*;

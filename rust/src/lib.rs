@@ -13,6 +13,7 @@ pub mod fault;
 pub mod frame;
 pub mod generate;
 pub mod hex;
+pub mod hosts;
 pub mod json;
 pub mod lent;
 pub mod limits;

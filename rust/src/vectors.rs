@@ -199,8 +199,32 @@ pub const EXAMPLE_POLICY: &str = r#"{
 }
 "#;
 
+/// The example in the definition that document 000 quotes, there in YAML.
+pub const SERVICE_POLICY: &str = r#"{
+  "name": "example-policy",
+  "allow_rules": [
+    {
+      "name": "admin-access",
+      "source": {
+        "principals": [
+          "spiffe://foo.com/sa/admin1",
+          "spiffe://foo.com/sa/admin2",
+          "spiffe://foo.com/sa/admin3"
+        ]
+      },
+      "request": { "paths": ["/pkg.service/*"] }
+    },
+    {
+      "name": "dev-access",
+      "source": { "principals": ["spiffe://foo.com/sa/dev"] },
+      "request": { "paths": ["/pkg.service/foo", "/pkg.service/bar"] }
+    }
+  ]
+}
+"#;
+
 /// All policies.
-pub const POLICIES: [&str; 4] = [POLICY_OF_NOBODY, SSH_POLICY, SSH_POLICY_WITH_DENIALS, EXAMPLE_POLICY];
+pub const POLICIES: [&str; 5] = [POLICY_OF_NOBODY, SSH_POLICY, SSH_POLICY_WITH_DENIALS, SERVICE_POLICY, EXAMPLE_POLICY];
 
 /// Values of JSON that are no policy.
 pub const JSON: [&str; 27] = [

@@ -3,38 +3,42 @@
 
 use std::fmt;
 
-use burgee_rust::boundary::{path, policy, table, verdict};
+use burgee_rust::boundary::{path, policy, rotation as proved, table, verdict};
 use burgee_rust::generate::any::{any, any_mode, any_room, Kind, ORIGIN, PATH_BYTES, PATH_TEXT, POLICY, TABLE, USER};
+use burgee_rust::generate::rotation::spoil_record;
 use burgee_rust::limits;
 use burgee_rust::path::{read_path_text, write_path_text};
 use burgee_rust::policy::check_policy;
 use burgee_rust::random::Random;
 use burgee_rust::request::PathRequest;
+use burgee_rust::rotation::{self, Record};
 use burgee_rust::table::{check_table, group_count};
 use burgee_rust::verdict::{path_verdict, tree_verdict};
 use burgee_rust::word;
 
 const CALLS: usize = 1_000_000;
-/// How many inputs of each kind there are to choose from.
-const INPUTS: usize = 256;
+const KINDS_OF_CALL: usize = 13;
 
-/// Inputs of one kind, and the buffer that lends one of them.
+/// What is lent for reading: a buffer for each.
+const INPUTS: [Kind; 6] = [TABLE, USER, ORIGIN, PATH_TEXT, PATH_BYTES, POLICY];
+
+/// A buffer, and what it may hold.
 struct Input {
-    all: Vec<Vec<u8>>,
+    choice: Vec<Vec<u8>>,
     lent: Vec<u8>,
 }
 
 impl Input {
     fn new(random: &mut Random, kind: &Kind) -> Input {
-        let all: Vec<Vec<u8>> = (0..INPUTS).map(|_| any(random, kind)).collect();
-        let longest = all.iter().map(Vec::len).max().unwrap_or(0);
-        Input { all, lent: Vec::with_capacity(longest + 1) }
+        let choice: Vec<Vec<u8>> = (0..256).map(|_| any(random, kind)).collect();
+        let longest = choice.iter().map(Vec::len).max().unwrap_or(0);
+        Input { choice, lent: Vec::with_capacity(longest) }
     }
 
-    /// Another input, now and then with another byte somewhere.
+    /// Another text, now and then with another byte somewhere.
     fn change(&mut self, random: &mut Random) {
         self.lent.clear();
-        self.lent.extend(random.pick(&self.all));
+        self.lent.extend(random.pick(&self.choice));
         if random.one_in(8) && !self.lent.is_empty() {
             let at = random.below(self.lent.len());
             self.lent[at] = random.byte();
@@ -42,92 +46,100 @@ impl Input {
     }
 }
 
-/// The buffer that the proved calls fill, and the one that the Rust ones do.
-struct Output {
-    theirs: Vec<u8>,
-    ours: Vec<u8>,
+/// What the calls of one side change.
+#[derive(Clone, PartialEq, Eq)]
+struct Changed {
+    output: Vec<u8>,
+    record: Record,
+    store: Vec<u8>,
 }
 
 struct Buffers {
-    table: Input,
-    user: Input,
+    inputs: [Input; INPUTS.len()],
     mode: u32,
-    origin: Input,
-    path_text: Input,
-    path_bytes: Input,
-    policy: Input,
-    output: Output,
+    /// How much of the output is lent.
     room: usize,
+    theirs: Changed,
+    ours: Changed,
 }
 
 impl Buffers {
     fn new(random: &mut Random) -> Buffers {
-        let zeros = vec![0; limits::PATH_TEXT + 500];
-        Buffers {
-            table: Input::new(random, &TABLE),
-            user: Input::new(random, &USER),
-            mode: 1,
-            origin: Input::new(random, &ORIGIN),
-            path_text: Input::new(random, &PATH_TEXT),
-            path_bytes: Input::new(random, &PATH_BYTES),
-            policy: Input::new(random, &POLICY),
-            output: Output { theirs: zeros.clone(), ours: zeros },
-            room: 0,
-        }
+        let changed = Changed {
+            output: vec![0; limits::PATH_TEXT + 500],
+            record: Record::factory(2),
+            store: vec![0; 2 * limits::SLOT],
+        };
+        let inputs = INPUTS.each_ref().map(|kind| Input::new(random, kind));
+        Buffers { inputs, mode: 1, room: 0, theirs: changed.clone(), ours: changed }
     }
 
     fn change(&mut self, random: &mut Random) {
-        for input in [
-            &mut self.table,
-            &mut self.user,
-            &mut self.origin,
-            &mut self.path_text,
-            &mut self.path_bytes,
-            &mut self.policy,
-        ] {
+        for input in &mut self.inputs {
             if random.one_in(2) {
                 input.change(random);
             }
         }
         self.mode = any_mode(random);
         self.room = any_room(random);
+        if random.one_in(16) {
+            let mut record = Record::factory(random.between(1, 2) as u32);
+            if random.one_in(8) {
+                spoil_record(random, &mut record);
+            }
+            (self.theirs.record, self.ours.record) = (record, record);
+        }
+        if random.one_in(4) {
+            // Where the texts of the slots begin.
+            let (at, byte) = (random.below(2) * limits::SLOT + random.below(200), random.byte());
+            (self.theirs.store[at], self.ours.store[at]) = (byte, byte);
+        }
     }
 
     /// One call, of both; gives the proved answer and the Rust one.
     fn call(&mut self, number: usize) -> (u64, u64) {
-        let (table_text, user) = (&self.table.lent[..], &self.user.lent[..]);
-        let request = PathRequest { user, mode: self.mode, origin: &self.origin.lent, path: &self.path_text.lent };
-        let (theirs, ours) = (&mut self.output.theirs[..self.room], &mut self.output.ours[..self.room]);
+        let [table, user, origin, text, bytes, policy] = self.inputs.each_ref().map(|input| &input.lent[..]);
+        let request = PathRequest { user, mode: self.mode, origin, path: text };
+        let (theirs, ours) = (&mut self.theirs, &mut self.ours);
+        let outputs = (&mut theirs.output[..self.room], &mut ours.output[..self.room]);
+        let (record, store) = (&mut theirs.record, &mut theirs.store);
+        let (our_record, our_store) = (&mut ours.record, &mut ours.store);
+        let upload = if our_record.kind == 1 { policy } else { table };
         match number {
-            0 => {
-                let text = &self.path_text.lent;
-                (path::path_read(text, theirs), word::filled(read_path_text(text, ours)))
+            0 => (path::path_read(text, outputs.0), word::filled(read_path_text(text, outputs.1))),
+            1 => (path::path_write(bytes, outputs.0), word::filled(write_path_text(bytes, outputs.1))),
+            2 => (table::table_check(table), word::checked(check_table(table))),
+            3 => (table::group_count(table, user), word::group_count(group_count(table, user))),
+            4 => (verdict::path_verdict(table, &request), word::path_verdict(path_verdict(table, &request))),
+            5 => (verdict::tree_verdict(table, &request), word::tree_verdict(tree_verdict(table, &request))),
+            6 => (policy::policy_check(policy), word::checked(check_policy(policy))),
+            7 => (proved::start(record, store), word::checked(rotation::start(our_record, our_store))),
+            8 => {
+                (proved::upload(record, store, upload), word::checked(rotation::upload(our_record, our_store, upload)))
             }
-            1 => {
-                let bytes = &self.path_bytes.lent;
-                (path::path_write(bytes, theirs), word::filled(write_path_text(bytes, ours)))
-            }
-            2 => (table::table_check(table_text), word::checked(check_table(table_text))),
-            3 => (table::group_count(table_text, user), word::group_count(group_count(table_text, user))),
-            4 => (verdict::path_verdict(table_text, &request), word::path_verdict(path_verdict(table_text, &request))),
-            5 => (verdict::tree_verdict(table_text, &request), word::tree_verdict(tree_verdict(table_text, &request))),
-            _ => (policy::policy_check(&self.policy.lent), word::checked(check_policy(&self.policy.lent))),
+            9 => (proved::finalize(record, store), word::checked(rotation::finalize(our_record, our_store))),
+            10 => (proved::close(record, store), word::checked(rotation::close(our_record, our_store))),
+            11 => (
+                proved::probe_path(record, store, &request),
+                word::path_verdict(rotation::probe_path(our_record, our_store, &request)),
+            ),
+            _ => (
+                proved::probe_tree(record, store, &request),
+                word::tree_verdict(rotation::probe_tree(our_record, our_store, &request)),
+            ),
         }
     }
 }
 
-/// What is lent, for a failed comparison.
+/// What is lent, for a comparison that fails.
 impl fmt::Display for Buffers {
     fn fmt(&self, f: &mut fmt::Formatter) -> fmt::Result {
-        let Buffers { table, user, mode, origin, path_text, path_bytes, policy, room, .. } = self;
-        for input in [table, user, origin, path_text, path_bytes, policy] {
+        for input in &self.inputs {
             writeln!(f, "{}", input.lent.escape_ascii())?;
         }
-        write!(f, "mode {mode}, room {room}")
+        write!(f, "mode {}, room {}, {:?} afterwards", self.mode, self.room, self.ours.record)
     }
 }
-
-const KINDS_OF_CALL: usize = 7;
 
 #[test]
 fn a_million_mixed_calls_on_one_set_of_buffers() {
@@ -141,15 +153,12 @@ fn a_million_mixed_calls_on_one_set_of_buffers() {
         let number = random.below(KINDS_OF_CALL);
         let (theirs, ours) = buffers.call(number);
         assert_eq!(theirs, ours, "answer {theirs:#x}, not {ours:#x}, to call {number} in round {round}: {buffers}");
-        assert!(
-            buffers.output.theirs == buffers.output.ours,
-            "bytes filled by call {number} in round {round}: {buffers}"
-        );
+        assert!(buffers.theirs == buffers.ours, "bytes stored by call {number} in round {round}: {buffers}");
         made[number] += 1;
         refused[number] += usize::from(word::refusal_number(theirs) != 0);
     }
     for (made, refused) in made.iter().zip(refused) {
         assert!(*made >= CALLS / KINDS_OF_CALL / 2);
-        assert!((made / 8..made / 8 * 7).contains(&refused), "{refused} of {made} refused");
+        assert!((made / 16..made / 16 * 15).contains(&refused), "{refused} of {made} refused");
     }
 }

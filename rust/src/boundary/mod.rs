@@ -53,5 +53,6 @@ macro_rules! call {
 
 pub mod path;
 pub mod policy;
+pub mod rotation;
 pub mod table;
 pub mod verdict;

@@ -5,6 +5,7 @@ pub mod damage;
 pub mod path;
 pub mod policy;
 pub mod policy_fault;
+pub mod rotation;
 pub mod short;
 pub mod table;
 pub mod table_fault;

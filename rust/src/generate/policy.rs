@@ -1,6 +1,8 @@
 //! RPC policies and requests: good ones, out of a few names so that they match often.
 
+use crate::limits;
 use crate::random::Random;
+use crate::rpc::RpcRequest;
 
 type Bytes = Vec<u8>;
 
@@ -231,6 +233,12 @@ pub struct Rpc {
     pub headers: Bytes,
 }
 
+impl Rpc {
+    pub fn request(&self) -> RpcRequest<'_> {
+        RpcRequest { identity: &self.identity, path: &self.path, headers: &self.headers }
+    }
+}
+
 pub fn good_rpc(random: &mut Random) -> Rpc {
     let identity = *random.pick(&["", "alice", "bob", "a", "alicex", "xalice", "marge", "eve"]);
     let path = *random.pick(&["", "/p.S/m", "/p.S/n", "/p.S/", "/p.S/mm", "m", "/p.T/m", "/", "x/p.S/m"]);
@@ -246,30 +254,54 @@ pub fn good_rpc(random: &mut Random) -> Rpc {
 /// A good policy of about `len` bytes, without white space, and with at most 64 rules
 /// in each list.
 pub fn policy_of_length(len: usize) -> Bytes {
-    let mut policy = Policy { name: b"policy".to_vec(), deny_rules: Some(Vec::new()), allow_rules: Vec::new() };
     let mut random = Random::new(1);
-    let rule = |number: usize| Rule {
-        name: format!("rule-{number:03}").into_bytes(),
-        source: Some(Source {
-            principals: Some(
-                (0..3).map(|n| format!("spiffe://company.com/sa/user-{number}-{n}").into_bytes()).collect(),
-            ),
-        }),
-        request: Some(Request {
-            paths: Some(vec![format!("/gnmi.gNMI/{number}/*").into_bytes(), format!("*/Set{number}").into_bytes()]),
-            headers: None,
-        }),
-    };
+    let mut lists = [Vec::new(), Vec::new()];
+    let mut room = len - br#"{"name":"policy","deny_rules":[],"allow_rules":[]}"#.len();
     for number in 0.. {
-        let list = if number % 2 == 0 { &mut policy.allow_rules } else { policy.deny_rules.get_or_insert_default() };
-        list.push(rule(number));
-        let text = policy.node(&mut random).text(&mut random, false);
-        if text.len() > len {
-            let list =
-                if number % 2 == 0 { &mut policy.allow_rules } else { policy.deny_rules.get_or_insert_default() };
-            list.pop();
+        let rule = padded_rule(number);
+        let rule_len = rule_node(&mut random, &rule).text(&mut random, false).len() + 1;
+        if rule_len > room {
             break;
         }
+        room -= rule_len;
+        lists[number % 2].push(rule);
     }
+    let [allow_rules, deny_rules] = lists;
+    let policy = Policy { name: b"policy".to_vec(), deny_rules: Some(deny_rules), allow_rules };
     policy.node(&mut random).text(&mut random, false)
+}
+
+fn padded_rule(number: usize) -> Rule {
+    let principals = (0..3).map(|n| format!("spiffe://company.com/sa/user-{number}-{n}").into_bytes());
+    let paths = [format!("/gnmi.gNMI/{number}/*"), format!("*/Set{number}")].map(String::into_bytes);
+    Rule {
+        name: format!("rule-{number:03}").into_bytes(),
+        source: Some(Source { principals: Some(principals.collect()) }),
+        request: Some(Request { paths: Some(paths.into()), headers: None }),
+    }
+}
+
+/// A policy full of headers that are not carried, for a request with many header lines:
+/// each of them has to be looked for in every line.
+pub fn policy_of_headers() -> Bytes {
+    let header = |number: usize| Header { key: format!("x-{number:02}").into(), values: vec![b"".to_vec()] };
+    let headers: Vec<Header> = (0..limits::POLICY_ENTRIES).map(header).collect();
+    let rule = |number: usize| Rule {
+        name: number.to_string().into_bytes(),
+        source: None,
+        request: Some(Request { paths: None, headers: Some([&headers[..31], &[never(number)]].concat()) }),
+    };
+    let policy = Policy { name: b"p".to_vec(), deny_rules: None, allow_rules: (0..12).map(rule).collect() };
+    let mut random = Random::new(1);
+    policy.node(&mut random).text(&mut random, false)
+}
+
+/// A header that decides against its rule.
+fn never(number: usize) -> Header {
+    Header { key: format!("y-{number:02}").into(), values: vec![b"*".to_vec()] }
+}
+
+/// Header lines of 8,192 bytes, 2,048 of them.
+pub fn many_header_lines() -> Bytes {
+    b"z:v\n".repeat(limits::HEADER_LINES / 4)
 }
