@@ -1,4 +1,5 @@
 // The command line: each command prints what one call of the proved libraries answers, one fact a line.
+mod explanation;
 mod input;
 mod paths;
 mod policies;
@@ -39,8 +40,8 @@ fn groups() {
     tables::groups(&text[..n], &user[..u]);
 }
 
-// burgee verdict|tree FILE USER read|write ORIGIN PATH
-fn verdict(is_single: bool) {
+// burgee verdict|tree|explain FILE USER read|write ORIGIN PATH
+fn verdict(command: &[u8]) {
     let mut word = io::buffer();
     let w = os::arg(4, &mut word);
     let mode = input::mode(&word[..w]);
@@ -60,10 +61,13 @@ fn verdict(is_single: bool) {
     let p = os::arg(6, &mut path);
     let mut text = io::large_buffer();
     let n = io::read_full(fd, &mut text);
-    if is_single {
-        tables::verdict(&text[..n], &user[..u], mode, &origin[..o], &path[..p]);
-    } else {
+    if text::string::is_same(command, b"tree") {
         tables::tree(&text[..n], &user[..u], mode, &origin[..o], &path[..p]);
+        return;
+    }
+    tables::verdict(&text[..n], &user[..u], mode, &origin[..o], &path[..p]);
+    if text::string::is_same(command, b"explain") {
+        explanation::rest(&mut text[..n], &user[..u], mode, &origin[..o], &path[..p]);
     }
 }
 
@@ -96,7 +100,9 @@ fn explain_use() {
 
 // The command, if it is one and has the arguments that it takes.
 fn run(command: &[u8], words: usize) -> bool {
-    let is_verdict = text::string::is_same(command, b"verdict");
+    let is_verdict = text::string::is_same(command, b"verdict")
+        | text::string::is_same(command, b"tree")
+        | text::string::is_same(command, b"explain");
     if text::string::is_same(command, b"table") & (words == 3) {
         table();
     } else if text::string::is_same(command, b"policy") & (words == 3) {
@@ -105,8 +111,8 @@ fn run(command: &[u8], words: usize) -> bool {
         groups();
     } else if text::string::is_same(command, b"path") & (words == 4) {
         path();
-    } else if (is_verdict | text::string::is_same(command, b"tree")) & (words == 7) {
-        verdict(is_verdict);
+    } else if is_verdict & (words == 7) {
+        verdict(command);
     } else if text::string::is_same(command, b"help") {
         explain_use();
     } else {

@@ -7,6 +7,7 @@ pub fn all() {
         burgee groups FILE USER\n\
         burgee verdict FILE USER read|write ORIGIN PATH\n\
         burgee tree FILE USER read|write ORIGIN PATH\n\
+        burgee explain FILE USER read|write ORIGIN PATH\n\
         burgee path read TEXT\n\
         burgee path write BYTES\n\
         burgee policy FILE\n\
@@ -73,6 +74,23 @@ fn tree() {
     );
 }
 
+fn explain() {
+    crate::say::text(
+        b"burgee explain FILE USER read|write ORIGIN PATH\n\
+        \n\
+        The verdict, and then every rule that matches, in ranking order: the first decides, and of each other one\n\
+        the line says at which step of the ranking it lost to the first. The steps are, in this order:\n\
+        elements, definite keys, user over group, deny over permit, smaller id.\n\
+        \n\
+        $ burgee explain examples/files/yard.table ann write '' '/interfaces/interface[name=uplink]/config'\n\
+        permit\n\
+        rule 2\n\
+        id eng-ports\n\
+        1 decides: rule 2, permit, 3 elements, 0 definite keys, group, id eng-ports\n\
+        2 lost at elements: rule 3, deny, 2 elements, 1 definite keys, user, id ann-no-uplink\n",
+    );
+}
+
 fn path() {
     crate::say::text(
         b"burgee path read TEXT\n\
@@ -110,6 +128,8 @@ pub fn on(command: &[u8]) {
         verdict();
     } else if text::string::is_same(command, b"tree") {
         tree();
+    } else if text::string::is_same(command, b"explain") {
+        explain();
     } else if text::string::is_same(command, b"path") {
         path();
     } else if text::string::is_same(command, b"policy") {

@@ -42,7 +42,7 @@ pub fn count(text: &[u8], kind: u8) -> usize {
 }
 
 // Where the line of the row that has this number among those of its kind begins.
-fn find(text: &[u8], kind: u8, number: usize) -> usize
+pub fn find(text: &[u8], kind: u8, number: usize) -> usize
     ensures { λ r. ⌜ r ≤ length (now (text .entry)) ⌝ }
 {
     let mut left = number;
