@@ -6,6 +6,7 @@
 
 pub mod boundary;
 pub mod brute;
+pub mod brute_rotation;
 pub mod brute_rpc;
 pub mod charset;
 pub mod compare;

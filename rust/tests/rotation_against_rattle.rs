@@ -1,6 +1,7 @@
 //! The rotation: traces of calls on two copies of a record and its store, one changed
 //! by the proved calls and one by the Rust ones, compared byte for byte after each.
 
+use burgee_rust::brute_rotation::Machine;
 use burgee_rust::generate::damage::damage;
 use burgee_rust::generate::rotation::{some_call, some_record, spoil_record, Ask, Call};
 use burgee_rust::generate::table::table_of_length;
@@ -121,6 +122,44 @@ fn traces() {
     tally.assert_at_least(&[(1, 30), (2, 100), (3, 30), (4, 100), (5, 30), (6, 20), (20, 200), (21, 50), (22, 30)]);
     tally.assert_at_least(&[(30, 30), (31, 100), (34, 5), (35, 20)]);
     assert!(live_slots.iter().all(|count| *count >= 1_000), "live in each slot: {live_slots:?}");
+}
+
+/// Traces from factory follow a machine that has only texts: so a live text is there
+/// byte for byte until another one is finalized, and in force again after a close.
+#[test]
+fn traces_follow_the_plain_machine() {
+    let mut random = Random::new(0x54);
+    let mut tally = Tally::default();
+    for trace in 0..200 {
+        let kind = 1 + trace % 2;
+        let store = random_store(&mut random, 2 * SLOT);
+        let mut hosts = Hosts::new(Record::factory(kind), store, EDGES[trace as usize / 2 % 2]);
+        let mut machine = Machine::factory(kind == 1);
+        for _ in 0..60 {
+            let call = some_call(&mut random, kind);
+            let answer = hosts.call(&call);
+            assert_eq!(answer, machine.step(&call), "{call:?}");
+            assert_eq!(texts_of(&hosts), machine, "after {call:?}");
+            tally.count(answer);
+        }
+    }
+    tally.assert_at_least(&[(0, 3_000), (12, 500), (13, 1_000), (14, 200), (31, 50), (5, 30), (22, 30)]);
+}
+
+/// What the record and the store say.
+fn texts_of(hosts: &Hosts) -> Machine {
+    let (record, store) = (hosts.record(), hosts.store());
+    let text = |slot: u32, len: u32| {
+        let start = slot as usize * SLOT;
+        (len != NONE).then(|| store[start..start + len as usize].to_vec())
+    };
+    let other_slot = if record.live_len == NONE { 0 } else { 1 - record.live_slot };
+    Machine {
+        is_policy: record.kind == 1,
+        live: text(record.live_slot, record.live_len),
+        candidate: text(other_slot, record.candidate_len),
+        is_on: record.rotating != 0,
+    }
 }
 
 /// Damages a few bytes at the start of a slot, where texts lie.

@@ -56,15 +56,15 @@ fn read_back(bytes: &[u8], text: &[u8]) {
     match r {
         Filled::Length(n) => {
             io::print_decimal(1, n as u64);
-            crate::show::space();
+            show::space();
             io::print_decimal(1, text.len() as u64);
             if text::string::is_same(bytes, &back[..n]) {
-                crate::show::line(b" same");
+                show::line(b" same");
             } else {
-                crate::show::line(b" differ");
+                show::line(b" differ");
             }
         }
-        Filled::Refused(number) => crate::show::number(number),
+        Filled::Refused(number) => show::number(number),
     }
 }
 
@@ -76,6 +76,6 @@ pub fn run() {
     let r = path_text::writer::write_text(&bytes, &mut text);
     match r {
         Filled::Length(n) => read_back(&bytes, &text[..n]),
-        Filled::Refused(number) => crate::show::number(number),
+        Filled::Refused(number) => show::number(number),
     }
 }

@@ -2,7 +2,6 @@
 // The head of the file `stdin` says what a line of it means.
 mod longest;
 mod parse;
-mod show;
 
 use path_text::Filled;
 ghost use Prim.Native.Nat.{_≤_};

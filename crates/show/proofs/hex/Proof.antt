@@ -2,8 +2,8 @@
 use borrow.Author.Needs.{needs}
 use Prim.Native.Nat.{_-_, _≤_}
 use lib.ListN.{length}
-use Rattle.path_vectors.proofs.show.hex.Statement.{statement}
-use Rattle.path_vectors.proofs.show.hex.Tie as tie
+use Rattle.show.proofs.hex.Statement.{statement}
+use Rattle.show.proofs.hex.Tie as tie
 
 abbrev Inv-loop : tie.InvT-loop
 Inv-loop s i₀ i = i ≤ length s
