@@ -3,9 +3,11 @@
 
 use std::hint::black_box;
 
+use burgee_rust::boundary::table::table_check;
 use burgee_rust::boundary::verdict as proved;
-use burgee_rust::generate::table::{table_of_interfaces, table_of_the_worst_tree};
-use burgee_rust::measure::Table;
+use burgee_rust::generate::table::table_of_interfaces;
+use burgee_rust::generate::worst_tree::worst_trees;
+use burgee_rust::measure::{best, shown, Table};
 use burgee_rust::request::PathRequest;
 use burgee_rust::verdict::{path_verdict, tree_verdict};
 use burgee_rust::word;
@@ -26,8 +28,22 @@ fn main() {
             tree_row(&printed, &format!("{rules} rules, {} bytes, {name}", text.len()), &text, "/");
         }
     }
-    let text = table_of_the_worst_tree();
-    tree_row(&printed, &format!("worst tree, 256 rules, {} bytes", text.len()), &text, "/");
+
+    let printed = Table::new("Trees that take long");
+    for worst in worst_trees() {
+        tree_row(&printed, worst.name, &worst.table, str::from_utf8(&worst.path).expect("path text is ASCII"));
+    }
+
+    println!("\n### Trees that take long, beside the check of their tables\n");
+    println!("| input | rules | tree verdict (best) | check (best) | ratio |");
+    println!("|---|---:|---:|---:|---:|");
+    for worst in worst_trees() {
+        let request = PathRequest { user: b"u", mode: 1, origin: b"", path: &worst.path };
+        let rules = worst.table.split(|b| *b == b'\n').filter(|line| line.starts_with(b"04")).count();
+        let tree = best(|| proved::tree_verdict(black_box(&worst.table), black_box(&request)));
+        let check = best(|| table_check(black_box(&worst.table)));
+        println!("| {} | {rules} | {} | {} | {:.1} |", worst.name, shown(tree), shown(check), tree / check);
+    }
 }
 
 fn request(path: &str) -> PathRequest<'_> {

@@ -47,6 +47,12 @@ impl Table {
     }
 }
 
+/// The best time of a call, in nanoseconds.
+pub fn best(mut call: impl FnMut() -> u64) -> f64 {
+    let count = calls_in_a_sample(&mut call);
+    summary((0..SAMPLES).map(|_| time(&mut call, count)).collect()).best
+}
+
 /// Warms up, and finds how many calls fill a sample.
 fn calls_in_a_sample(call: &mut impl FnMut() -> u64) -> u32 {
     let start = Instant::now();
@@ -72,7 +78,7 @@ fn summary(mut times: Vec<f64>) -> Timing {
     Timing { median: times[times.len() / 2], best: times[0] }
 }
 
-fn shown(nanoseconds: f64) -> String {
+pub fn shown(nanoseconds: f64) -> String {
     if nanoseconds < 10_000.0 {
         format!("{nanoseconds:.0} ns")
     } else {

@@ -1,5 +1,5 @@
 pub mod Counting
 pub mod Parts
 pub mod Steps
-pub mod Joined
+pub mod Stores
 pub mod Verdict

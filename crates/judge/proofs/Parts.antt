@@ -1,24 +1,23 @@
 -- The parts of a rule in its bytes, and the order by what is read of them.
 use mathlib.Core.Path.{_≡_, refl, sym, ap, _∙_}
-use mathlib.Core.Bool.{Bool, true, false, not, xor}
+use mathlib.Core.Bool.{Bool, true, false}
 use mathlib.Core.List.{List, [], _∷_}
 use Prim.Native.Nat.{ℕ, zero, suc, _+_, _-_, _≤_, _<_}
 use native.Mathlib.Omega.{arith}
 use borrow.Author.Tests.{eq-eqb, ne-eqb, lt-ltb, le-ltb, eqb-true, eqb-false}
 use lib.Dec.{eqb, ltb}
 use lib.ListN.{length, take, drop, getD}
-use Rattle.text.specs.Test.{_and_, _or_, if_then_else_}
+use Rattle.text.specs.Test.{_or_}
 use Rattle.text.specs.String.{Str, more, before}
 use Rattle.text.proofs.Tests.{by}
 use Rattle.path.specs.Path.{Path}
 use Rattle.table.specs.Table.{Rule}
 use Rattle.verdict.specs.Cover.{covers}
-use Rattle.verdict.specs.Join.{agree, coversBoth}
 use Rattle.verdict.specs.Order.{definites, better, earlier, rankBy, rank}
 use Rattle.verdict.proofs.Order.{more-same, more-other, better-rank, unless-small}
 use Rattle.place.specs.Place.{strEnd, strIn, elemsEnd, elemsIn, pathEnd, pathIn}
 use Rattle.place.proofs.Cursor.{str-grows, path-room, length-elems}
-use Rattle.judge.specs.Rules.{idAt, originAt, pathAt, ruleIn, ruleEnd, weight, fitting}
+use Rattle.judge.specs.Rules.{idAt, originAt, pathAt, ruleIn, ruleEnd}
 use Rattle.judge.specs.Best.{lacks, Ranked, wins}
 use Rattle.judge.specs.declared.best.Best.{Best}
 use Rattle.judge.proofs.Counting.{few-keys}
@@ -80,12 +79,6 @@ module _ (f : List ℕ) where
     pub covers-in : t ≡ covers (elemsIn (getD f a 0) f (a + 1)) ps → covers (ruleIn f s .path) ps ≡ t
     covers-in e = ap (λ (q : Path). covers q ps) (sym (path-in s a i)) ∙ sym e
 
-    pub agree-in : t ≡ agree (elemsIn (getD f a 0) f (a + 1)) ps → agree (ruleIn f s .path) ps ≡ t
-    agree-in e = ap (λ (q : Path). agree q ps) (sym (path-in s a i)) ∙ sym e
-
-    pub both-in : (rs : Path) → t ≡ coversBoth (elemsIn (getD f a 0) f (a + 1)) rs ps → coversBoth (ruleIn f s .path) rs ps ≡ t
-    both-in rs e = ap (λ (q : Path). coversBoth q rs ps) (sym (path-in s a i)) ∙ sym e
-
 -- ---- the order
 
 pub earlier-by : (r s : Rule) (x y : Str) → x ≡ r .id → y ≡ s .id → before x y ≡ earlier r s
@@ -130,47 +123,3 @@ module _ (f : List ℕ) (s x : ℕ) (b : Best) (h : ruleEnd f s ≤ length f) (i
 
   pub held-there : x ≡ b .weight → ruleEnd f (b .at) ≤ length f
   held-there e = k (ne-eqb (b .weight) 0 (omega arith)) .0
-
--- ---- opposite actions
-
-pub xor-true : (v : Bool) → not v ≡ xor true v
-unfolding xor
-xor-true true = refl
-xor-true false = refl
-
-pub xor-false : (v : Bool) → v ≡ xor false v
-unfolding xor
-xor-false true = refl
-xor-false false = refl
-
--- ---- weights
-
-module _ (test : Rule → Bool) (r : Rule) (x : ℕ) (h : x ≡ weight test r) where
-  weight-pass : test r ≡ true → x ≡ suc (rank r)
-  unfolding weight if_then_else_
-  weight-pass e = h ∙ rw e
-
-  weight-fail : test r ≡ false → x ≡ 0
-  unfolding weight if_then_else_
-  weight-fail e = h ∙ rw e
-
-  pub weight-none : x ≡ 0 → test r ≡ false
-  weight-none z = by (test r) (λ e. let w : x ≡ suc (rank r) = weight-pass e in absurd (omega arith)) (λ e. e)
-
-  pub weight-some : (x ≡ 0 → ⊥) → test r ≡ true
-  weight-some z = by (test r) (λ e. e) (λ e. absurd (z (weight-fail e)))
-
-  pub weight-heavy : (x ≡ 0 → ⊥) → x ≡ suc (rank r)
-  weight-heavy z = weight-pass (weight-some z)
-
-pub weight-off : (app : Rule → Bool) (p : Path) (r : Rule) → app r ≡ false → 0 ≡ weight (fitting app p) r
-unfolding weight if_then_else_ _and_
-weight-off app p r e = rw e
-
-pub weight-apart : (app : Rule → Bool) (p : Path) (r : Rule) → agree (r .path) p ≡ false → 0 ≡ weight (fitting app p) r
-unfolding weight if_then_else_ _and_
-weight-apart app p r e = by (app r) (λ h. rw (h, e)) (λ h. rw h)
-
-pub weight-fit : (app : Rule → Bool) (p : Path) (r : Rule) (x : ℕ) → app r ≡ true → agree (r .path) p ≡ true → x ≡ rank r → x + 1 ≡ weight (fitting app p) r
-unfolding weight if_then_else_ _and_
-weight-fit app p r x h e i = rw (h, e) (omega arith)

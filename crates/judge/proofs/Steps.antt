@@ -71,13 +71,6 @@ module _ (over : Rule → Rule → Bool) where
     unfolding held prefer if_then_else_
     best-none = let e : n - 0 ≡ n = omega arith in rw e
 
-    -- from a rule that is held from the start
-    pub best-self : (b : Best) → lacks b ≡ false
-        → prefer over (some (record { number = b .number; rule = ruleIn f (b .at) })) (choose over test 0 (rulesIn f starts n 0))
-        ≡ prefer over (held f b) (choose over test 0 (rulesIn f starts (n - 0) 0))
-    unfolding held if_then_else_
-    best-self b h = let e : n - 0 ≡ n = omega arith in rw (h, e)
-
     rules-cons : (i : ℕ) → i < n → rulesIn f starts (n - i) i ≡ ruleIn f (getD starts i 0) ∷ rulesIn f starts (n - (i + 1)) (i + 1)
     unfolding rulesIn
     rules-cons i h = let e : n - i ≡ suc (n - (i + 1)) = omega arith in rw (e, add-one)

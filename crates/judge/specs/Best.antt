@@ -1,7 +1,7 @@
 -- The best rule so far, and the tests that the loops over the rules make.
 use mathlib.Core.Path.{_≡_}
 use Prim.Native.Nat.{ℕ, suc, _≤_}
-use mathlib.Core.Bool.{Bool, true, false, not, xor}
+use mathlib.Core.Bool.{Bool, false}
 use mathlib.Core.List.{List}
 use mathlib.Core.Option.{Option, none, some}
 use lib.Dec.{eqb}
@@ -10,9 +10,7 @@ use Rattle.text.specs.Test.{_and_, _or_, if_then_else_}
 use Rattle.path.specs.Path.{Path}
 use Rattle.table.specs.Table.{Rule}
 use Rattle.verdict.specs.Cover.{covers}
-use Rattle.verdict.specs.Join.{agree, coversBoth}
-use Rattle.verdict.specs.Order.{Numbered, better, choose, rank}
-use Rattle.verdict.specs.Verdict.{action}
+use Rattle.verdict.specs.Order.{Numbered, rank}
 use Rattle.judge.specs.Rules.{ruleIn, ruleEnd}
 use Rattle.judge.specs.declared.best.Best.{Best}
 
@@ -40,15 +38,3 @@ wins over f s b = lacks b or over (ruleIn f s) (ruleIn f (b .at))
 -- the rule passes `app`, and covers p
 abbrev pub matching : (Rule → Bool) → Path → Rule → Bool
 matching app p s = app s and covers (s .path) p
-
--- the rule passes `app`, and covers the joined path of r and p
-abbrev pub matchingBoth : (Rule → Bool) → Path → Path → Rule → Bool
-matchingBoth app r p s = app s and coversBoth (s .path) r p
-
--- the action of the best rule for the joined path of r and p
-abbrev pub permitsBoth : (Rule → Bool) → List Rule → Path → Path → Bool
-permitsBoth app rules r p = action (choose better (matchingBoth app r p) 0 rules)
-
--- the rule passes `app`, and its joined path with p gets another action than v
-abbrev pub opposing : (Rule → Bool) → List Rule → Path → Bool → Rule → Bool
-opposing app rules p v r = app r and xor (permitsBoth app rules (r .path) p) v

@@ -5,11 +5,7 @@ use mathlib.Core.Bool.{Bool}
 use mathlib.Core.List.{List, [], _∷_}
 use lib.Dec.{eqb}
 use lib.ListN.{length, getD}
-use Rattle.text.specs.Test.{_and_, if_then_else_}
-use Rattle.path.specs.Path.{Path}
 use Rattle.table.specs.Table.{Rule}
-use Rattle.verdict.specs.Join.{agree}
-use Rattle.verdict.specs.Order.{rank}
 use Rattle.place.specs.Place.{strEnd, strIn, pathIn, pathEnd}
 
 -- "action (0 deny, 1 permit), mode (1 read, 2 write), subject (0 user, 1 group), S subject name, S id, S origin, path"
@@ -48,22 +44,3 @@ Laid f starts n = (i : ℕ) → i < n → ruleEnd f (getD starts i 0) ≤ length
 -- `on` marks the rules that pass the test
 abbrev pub Marked : (Rule → Bool) → List ℕ → List ℕ → List ℕ → ℕ → Type 0
 Marked app f starts on n = (i : ℕ) → i < n → eqb (getD on i 0) 1 ≡ app (ruleIn f (getD starts i 0))
-
--- a rule's rank and 1, or 0 where it fails the test
-unfoldable pub weight : (Rule → Bool) → Rule → ℕ
-weight test r = if test r then suc (rank r) else 0
-
--- the rule passes, and its path agrees with p
-abbrev pub fitting : (Rule → Bool) → Path → Rule → Bool
-fitting app p r = app r and agree (r .path) p
-
--- what is kept of the first n rules: the weights of those that pass the test, and where the paths of all are
-abbrev pub Weights : (Rule → Bool) → List ℕ → List ℕ → List ℕ → ℕ → Type 0
-Weights test f starts weights n = (i : ℕ) → i < n → getD weights i 0 ≡ weight test (ruleIn f (getD starts i 0))
-
-abbrev pub Paths : List ℕ → List ℕ → List ℕ → ℕ → Type 0
-Paths f starts paths n = (i : ℕ) → i < n → getD paths i 0 ≡ pathAt f (getD starts i 0)
-
--- a weight is 0, or the rank and 1
-abbrev pub Heavy : List ℕ → ℕ → ℕ → Type 0
-Heavy f s x = (x ≡ 0 → ⊥) → x ≡ suc (rank (ruleIn f s))

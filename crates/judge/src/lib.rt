@@ -2,4 +2,3 @@
 pub mod best;
 pub mod decide;
 pub mod rule;
-pub mod tree;

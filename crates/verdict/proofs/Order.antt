@@ -178,6 +178,13 @@ better-rank r s p q =
     ∙ nest-2 (length (r .path) * 65536 + definites (r .path)) (length (s .path) * 65536 + definites (s .path)) (unless (r .byGroup)) (unless (s .byGroup)) _ (unless-small (r .byGroup)) (unless-small (s .byGroup))
     ∙ nest-2 _ _ (unless (r .permit)) (unless (s .permit)) _ (unless-small (r .permit)) (unless-small (s .permit))
 
+unless-one : (x y : Bool) → unless x ≡ unless y → x ≡ y
+unfolding if_then_else_
+unless-one true true h = refl
+unless-one true false h = absurd (omega arith)
+unless-one false true h = absurd (omega arith)
+unless-one false false h = refl
+
 -- two rules of which none is better have one action
 pub tied-permit : (r s : Rule) → better r s ≡ false → better s r ≡ false → r .permit ≡ s .permit
 unfolding better
@@ -187,9 +194,11 @@ tied-permit r s e f =
     let c = tied _ _ _ _ (b .1) (b .2) in
     let d = tied _ _ _ _ (c .1) (c .2) in
     unless-one (r .permit) (s .permit) (d .0)
-  where
-    unless-one : (x y : Bool) → unless x ≡ unless y → x ≡ y
-    unless-one true true h = refl
-    unless-one true false h = absurd (unfold if_then_else_ in omega arith)
-    unless-one false true h = absurd (unfold if_then_else_ in omega arith)
-    unless-one false false h = refl
+
+-- and so have two of one rank
+pub rank-permit : (r s : Rule) → rank r ≡ rank s → r .permit ≡ s .permit
+unfolding rank rankBy
+rank-permit r s e =
+    let x = unless-small (r .permit) in
+    let y = unless-small (s .permit) in
+    unless-one (r .permit) (s .permit) (omega arith)

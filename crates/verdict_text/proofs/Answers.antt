@@ -18,11 +18,12 @@ use Rattle.table.specs.Group.{lists}
 use Rattle.verdict.specs.Order.{better, earlier, Numbered, choose}
 use Rattle.verdict.specs.Verdict.{Request, concerns, applies, decider, action, permits, opposes, word, answer, tree}
 use Rattle.verdict.proofs.Choose.{numbered}
-use Rattle.judge.specs.Rules.{ruleIn, rulesIn, Marked, fitting, Weights, Heavy}
-use Rattle.judge.specs.Best.{lacks, held, matching, opposing}
+use Rattle.judge.specs.Rules.{ruleIn, rulesIn, Marked}
+use Rattle.judge.specs.Best.{lacks, held, matching}
 use Rattle.judge.specs.declared.best.Best.{Best}
-use Rattle.judge.proofs.Parts.{weight-heavy}
-use Rattle.judge.proofs.Verdict.{decided, opposed}
+use Rattle.judge.proofs.Verdict.{decided}
+use Rattle.tree.specs.Tree.{opposing, fitting, Weights}
+use Rattle.tree.proofs.Verdict.{opposed}
 use Rattle.concern.specs.Concern.{hasOf, concernsBy, appliesBy, Applying}
 use Rattle.verdict_text.specs.Ready.{Ready, Groups, asked}
 use Rattle.verdict_text.specs.Calls.{decidedBy, spread}
@@ -89,9 +90,6 @@ module _ (t : Table) (f starts holders : List ℕ) (n : ℕ) (ready : Ready t f 
 
     -- the opposing rule
     module _ (weights : List ℕ) (w : (app : Rule → Bool) → Marked app f starts on n → Weights (fitting app p) f starts weights n) where
-      pub heavy : (j : ℕ) → j < n → Heavy f (getD starts j 0) (getD weights j 0)
-      heavy j l = weight-heavy _ _ _ (w (applies t (asked user mode origin p)) marks j l)
-
       module _ (v : Bool) (b : Best) (h : (test : Rule → Bool) → Weights test f starts weights n → held f b ≡ choose earlier (opposing test (rulesIn f starts n 0) p v) 0 (rulesIn f starts n 0)) where
         opposer : held f b ≡ choose earlier (opposing (fitting (applies t (asked user mode origin p)) p) (rulesIn f starts n 0) p v) 0 (rulesIn f starts n 0)
         opposer = h (fitting (applies t (asked user mode origin p)) p) (w (applies t (asked user mode origin p)) marks)

@@ -94,8 +94,8 @@ pub fn tree_answer(
     let v = judge::best::permitted(f, d);
     let mut weights = [0usize; 256];
     let mut paths = [0u16; 256];
-    judge::tree::weigh(f, starts, &on, n, g, 1, k, &mut weights, &mut paths);
-    let b = judge::tree::witness(f, starts, &weights, &paths, n, v, g, 1, k);
+    tree::weigh::weigh(f, starts, &on, n, g, 1, k, &mut weights, &mut paths);
+    let b = tree::witness::witness(f, starts, &weights, &paths, n, v, g, 1, k);
     spread_of(f, v, b)
 }
 

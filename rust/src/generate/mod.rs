@@ -9,3 +9,4 @@ pub mod rotation;
 pub mod short;
 pub mod table;
 pub mod table_fault;
+pub mod worst_tree;

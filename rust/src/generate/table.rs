@@ -396,7 +396,7 @@ fn padded_path(random: &mut Random, mut size: usize) -> Path {
 }
 
 /// A rule about reading by user `u` with an empty origin.
-fn rule_of_u(action: u8, id: &str, path: Path) -> Line {
+pub(super) fn rule_of_u(action: u8, id: &str, path: Path) -> Line {
     let (subject, id) = (b"u".to_vec(), id.as_bytes().to_vec());
     Line::Rule(Rule { action, mode: 1, subject_kind: 0, subject, id, origin: Vec::new(), path })
 }
@@ -414,19 +414,6 @@ pub fn table_of_interfaces(rules: usize, permit: bool, mixed: bool) -> Vec<u8> {
         path.elements[1].keys.push(key);
         let opposite = mixed && number + 1 == rules;
         lines.push(rule_of_u(u8::from(permit != opposite), &format!("r{number:03}"), path));
-    }
-    table_text(&lines)
-}
-
-/// The tree that takes longest: 256 rules that fit the root and agree in all names of
-/// a long path, so that each joined path has to be compared with every better rule to
-/// its last element; and all permitted, so that none ends the search.
-pub fn table_of_the_worst_tree() -> Vec<u8> {
-    let mut lines = vec![Line::version("v1"), rule_of_u(1, "r", Path::default())];
-    for number in 1..256 {
-        let mut path = Path { elements: vec![Element { name: b"a".to_vec(), keys: Vec::new() }; 14] };
-        path.elements[13].keys.push(Key { name: b"k".to_vec(), value: format!("{number:03}").into_bytes() });
-        lines.push(rule_of_u(1, &format!("{number:03}"), path));
     }
     table_text(&lines)
 }

@@ -5,7 +5,7 @@ use Prim.Native.Nat.{ℕ, _+_, _-_, _≤_, zero-le}
 use lib.Dec.{eqb}
 use lib.ListN.{length, getD, length-set}
 use Rattle.judge.specs.Rules.{ruleIn}
-use Rattle.judge.proofs.Joined.{stored}
+use Rattle.judge.proofs.Stores.{stored}
 use Rattle.concern.specs.Concern.{appliesBy, Applying}
 use Rattle.concern.proofs.mark.Statement.{statement}
 use Rattle.concern.proofs.mark.Tie as tie

@@ -8,11 +8,11 @@ use borrow.Author.Tests.{not-true, not-false, eq-eqb, ne-eqb}
 use Rattle.text.proofs.Tests.{clash}
 use Rattle.path.specs.Path.{Path}
 use Rattle.table.specs.Table.{Rule}
-use Rattle.verdict.specs.Order.{better, earlier, choose, prefer}
-use Rattle.verdict.proofs.Order.{better-order, earlier-order}
+use Rattle.verdict.specs.Order.{better, choose, prefer}
+use Rattle.verdict.proofs.Order.{better-order}
 use Rattle.place.specs.Place.{elemsIn}
-use Rattle.judge.specs.Rules.{ruleIn, rulesIn, Marked, Weights, fitting}
-use Rattle.judge.specs.Best.{held, Sound, Ranked, matching, matchingBoth, permitsBoth, opposing}
+use Rattle.judge.specs.Rules.{rulesIn, Marked}
+use Rattle.judge.specs.Best.{held, Ranked, matching}
 use Rattle.judge.proofs.Steps.{best-none, best-turn, best-end}
 use Rattle.judge.proofs.decide.decide.Statement.{statement}
 use Rattle.judge.proofs.decide.decide.Tie as tie

@@ -3,7 +3,6 @@ use mathlib.Core.Path.{sym, _∙_}
 use native.Mathlib.Numerals.{add-one}
 use borrow.Author.Tests.{not-true, not-false, eq-eqb, ne-eqb}
 use Rattle.verdict.specs.Cover.{covers}
-use Rattle.verdict.specs.Join.{coversBoth}
 use Rattle.verdict.specs.Order.{better, earlier}
 use Rattle.place.specs.Place.{elemsIn}
 use Rattle.table.specs.Table.{Rule}

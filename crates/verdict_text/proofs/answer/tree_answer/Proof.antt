@@ -5,7 +5,7 @@ use lib.ListN.{length, length-replicate}
 use Rattle.place.specs.Place.{pathIn}
 use Rattle.place.proofs.Cursor.{path-room}
 use Rattle.verdict_text.specs.Calls.{spread}
-use Rattle.verdict_text.proofs.Answers.{verdict-is, heavy, opposer-below, spread-is}
+use Rattle.verdict_text.proofs.Answers.{verdict-is, opposer-below, spread-is}
 use Rattle.verdict_text.proofs.answer.tree_answer.Statement.{statement}
 use Rattle.verdict_text.proofs.answer.tree_answer.Tie as tie
 
@@ -52,7 +52,7 @@ slice-aggregate-weigh-3 c = search needs
 weigh-requires : tie.Need-weigh-requires
 weigh-requires c κs =
     let at-start = c .before .before .before .before .before .before .before .before .before .before .before .before .before .before .before .before in
-    let e = at-start .pre .0 .1 .few in (at-start .pre .0 .1 .laid, at-start .pre .1 .0, omega arith, omega arith, omega arith, at-start .pre .1 .2, at-start .pre .0 .1 .short)
+    let e = at-start .pre .0 .1 .few in (at-start .pre .0 .1 .laid, at-start .pre .1 .0, omega arith, omega arith, omega arith, at-start .pre .1 .2, at-start .pre .0 .1 .short, at-start .pre .0 .1 .few)
 
 slice-aggregate-witness : tie.Need-slice-aggregate-witness
 slice-aggregate-witness c = search needs
@@ -62,10 +62,10 @@ slice-aggregate-witness-2 c = search needs
 
 witness-requires : tie.Need-witness-requires
 witness-requires c κs =
+    let at-shared-slice-known7 = c .before .before .before .before .before .before .before .before .before .before .before .shared-slice-known7 in
     let at-weigh = c .before .before .before .before .weigh in
-    let at-mark = c .before .before .before .before .before .before .before .before .before .before .before .before .before .mark in
     let at-start = c .before .before .before .before .before .before .before .before .before .before .before .before .before .before .before .before .before .before .before .before .before in
-    let e = at-start .pre .0 .1 .few in (heavy _ (at-start .args .f .now) (at-start .args .starts .now) (at-start .args .holders .now) (at-start .args .n) (at-start .pre .0 .1) (at-start .args .user .now) (at-start .args .set) (at-start .pre .0 .2) (at-start .args .mode) (at-start .args .origin .now) (pathIn (at-start .args .g .now) 0) (at-mark .last .1 .1 .1 .1 .1 .1 .1 .1 .0) (at-mark .ensures .1) (at-weigh .last .1 .1 .1 .1 .1 .1 .1 .0) (at-weigh .ensures .3), at-weigh .ensures .2, at-start .pre .0 .1 .laid, at-start .pre .1 .0, omega arith, omega arith, at-start .pre .1 .2, at-start .pre .0 .1 .short)
+    let e = at-start .pre .0 .1 .few in (at-weigh .ensures .3, at-weigh .ensures .2, at-start .pre .0 .1 .laid, at-start .pre .0 .1 .short, at-start .pre .0 .1 .few, at-start .pre .1 .0, omega arith, omega arith, omega (arith, at-shared-slice-known7 .given 0), at-start .pre .1 .2)
 
 spread-of-requires : tie.Need-spread-of-requires
 spread-of-requires c κs =
@@ -73,7 +73,7 @@ spread-of-requires c κs =
     let at-weigh = c .before .before .before .before .before .weigh in
     let at-mark = c .before .before .before .before .before .before .before .before .before .before .before .before .before .before .mark in
     let at-start = c .before .before .before .before .before .before .before .before .before .before .before .before .before .before .before .before .before .before .before .before .before .before in
-    opposer-below _ (at-start .args .f .now) (at-start .args .starts .now) (at-start .args .holders .now) (at-start .args .n) (at-start .pre .0 .1) (at-start .args .user .now) (at-start .args .set) (at-start .pre .0 .2) (at-start .args .mode) (at-start .args .origin .now) (pathIn (at-start .args .g .now) 0) (at-mark .last .1 .1 .1 .1 .1 .1 .1 .1 .0) (at-mark .ensures .1) (at-weigh .last .1 .1 .1 .1 .1 .1 .1 .0) (at-weigh .ensures .3) _ (at-witness .result) (at-witness .ensures .1)
+    opposer-below _ (at-start .args .f .now) (at-start .args .starts .now) (at-start .args .holders .now) (at-start .args .n) (at-start .pre .0 .1) (at-start .args .user .now) (at-start .args .set) (at-start .pre .0 .2) (at-start .args .mode) (at-start .args .origin .now) (pathIn (at-start .args .g .now) 0) (at-mark .last .1 .1 .1 .1 .1 .1 .1 .1 .0) (at-mark .ensures .1) (at-weigh .last .1 .1 .1 .1 .1 .1 .1 .0) (at-weigh .ensures .4) _ (at-witness .result) (at-witness .ensures .1)
 
 returns : tie.Need-returns
 returns c =
@@ -84,7 +84,7 @@ returns c =
     let at-decide = c .before .before .before .before .before .before .before .before .before .before .before .decide in
     let at-mark = c .before .before .before .before .before .before .before .before .before .before .before .before .before .before .before .mark in
     let at-start = c .before .before .before .before .before .before .before .before .before .before .before .before .before .before .before .before .before .before .before .before .before .before .before in
-    λ t ready groups. at-spread-of .ensures ∙ ap spread (spread-is t (at-start .args .f .now) (at-start .args .starts .now) (at-start .args .holders .now) (at-start .args .n) ready (at-start .args .user .now) (at-start .args .set) groups (at-start .args .mode) (at-start .args .origin .now) (pathIn (at-start .args .g .now) 0) (at-mark .last .1 .1 .1 .1 .1 .1 .1 .1 .0) (at-mark .ensures .1) (at-weigh .last .1 .1 .1 .1 .1 .1 .1 .0) (at-weigh .ensures .3) _ (at-witness .result) (at-witness .ensures .1) (at-start .pre .1 .3) (verdict-is t (at-start .args .f .now) (at-start .args .starts .now) (at-start .args .holders .now) (at-start .args .n) ready (at-start .args .user .now) (at-start .args .set) groups (at-start .args .mode) (at-start .args .origin .now) (pathIn (at-start .args .g .now) 0) (at-mark .last .1 .1 .1 .1 .1 .1 .1 .1 .0) (at-mark .ensures .1) (at-decide .result) _ (at-decide .ensures .1) (at-permitted .ensures)))
+    λ t ready groups. at-spread-of .ensures ∙ ap spread (spread-is t (at-start .args .f .now) (at-start .args .starts .now) (at-start .args .holders .now) (at-start .args .n) ready (at-start .args .user .now) (at-start .args .set) groups (at-start .args .mode) (at-start .args .origin .now) (pathIn (at-start .args .g .now) 0) (at-mark .last .1 .1 .1 .1 .1 .1 .1 .1 .0) (at-mark .ensures .1) (at-weigh .last .1 .1 .1 .1 .1 .1 .1 .0) (at-weigh .ensures .4) _ (at-witness .result) (at-witness .ensures .1) (at-start .pre .1 .3) (verdict-is t (at-start .args .f .now) (at-start .args .starts .now) (at-start .args .holders .now) (at-start .args .n) ready (at-start .args .user .now) (at-start .args .set) groups (at-start .args .mode) (at-start .args .origin .now) (pathIn (at-start .args .g .now) 0) (at-mark .last .1 .1 .1 .1 .1 .1 .1 .1 .0) (at-mark .ensures .1) (at-decide .result) _ (at-decide .ensures .1) (at-permitted .ensures)))
 
 pub tree-answer-spec : {M : Type 1} → statement M
 tree-answer-spec =

@@ -1,0 +1,4 @@
+pub mod Weights
+pub mod Walk
+pub mod Deciding
+pub mod Verdict

@@ -1,0 +1,85 @@
+-- What is kept of the rules for the tree verdict, and the tests that its loops make.
+use mathlib.Core.Path.{_≡_}
+use Prim.Native.Nat.{ℕ, suc, _+_, _*_, _/_, _%_, _≤_, _<_}
+use mathlib.Core.Bool.{Bool, true, xor}
+use mathlib.Core.List.{List}
+use lib.ListN.{length, getD}
+use Rattle.text.specs.Test.{_and_, if_then_else_}
+use Rattle.path.specs.Path.{Path}
+use Rattle.table.specs.Table.{Rule}
+use Rattle.verdict.specs.Join.{agree, coversBoth}
+use Rattle.verdict.specs.Order.{better, choose, rank}
+use Rattle.verdict.specs.Verdict.{action}
+use Rattle.place.specs.Place.{pathIn, pathEnd}
+use Rattle.bloom.specs.Bloom.{bits}
+use Rattle.judge.specs.Rules.{pathAt, ruleIn}
+
+-- ---- the tests
+
+-- the rule passes `app`, and its path agrees with p
+abbrev pub fitting : (Rule → Bool) → Path → Rule → Bool
+fitting app p r = app r and agree (r .path) p
+
+-- the rule passes `app`, and covers the joined path of r and p
+abbrev pub matchingBoth : (Rule → Bool) → Path → Path → Rule → Bool
+matchingBoth app r p s = app s and coversBoth (s .path) r p
+
+-- the action of the best rule for the joined path of r and p
+abbrev pub permitsBoth : (Rule → Bool) → List Rule → Path → Path → Bool
+permitsBoth app rules r p = action (choose better (matchingBoth app r p) 0 rules)
+
+-- the rule passes `app`, and its joined path with p gets another action than v
+abbrev pub opposing : (Rule → Bool) → List Rule → Path → Bool → Rule → Bool
+opposing app rules p v r = app r and xor (permitsBoth app rules (r .path) p) v
+
+-- ---- weights
+
+-- a rule's rank and 1, or 0 where it fails the test
+unfoldable pub weight : (Rule → Bool) → Rule → ℕ
+weight test r = if test r then suc (rank r) else 0
+
+-- of each of the first n rules its weight, and its number in the last eight bits
+abbrev pub Weights : (Rule → Bool) → List ℕ → List ℕ → List ℕ → ℕ → Type 0
+Weights test f starts weights n = (i : ℕ) → i < n → getD weights i 0 ≡ weight test (ruleIn f (getD starts i 0)) * 256 + i
+
+pub record Packed (x i : ℕ) : Type 0 where
+  pub number : x % 256 ≡ i
+  pub light : x < 9223372036854775808
+
+-- where the paths of the first n rules are
+abbrev pub Paths : List ℕ → List ℕ → List ℕ → ℕ → Type 0
+Paths f starts paths n = (i : ℕ) → i < n → getD paths i 0 ≡ pathAt f (getD starts i 0)
+
+-- r is the greatest of the first n weights that are less than the limit, or 0 where none is
+pub record Below (weights : List ℕ) (n limit r : ℕ) : Type 0 where
+  pub top : (j : ℕ) → j < n → getD weights j 0 < limit → getD weights j 0 ≤ r
+  pub there : 0 < r → (j : ℕ) × (j < n) × (getD weights j 0 ≡ r)
+  pub less : 0 < r → r < limit
+
+-- the Bloom filters of the paths of those that fit
+abbrev pub Filters : ℕ → List ℕ → List ℕ → List ℕ → List ℕ → ℕ → Type 0
+Filters w f weights paths filters n = (i : ℕ) → i < n → 255 < getD weights i 0 → getD filters i 0 ≡ bits w 0 (pathIn f (getD paths i 0))
+
+-- after each that fits the next in weight
+abbrev pub Nexts : List ℕ → List ℕ → ℕ → Type 0
+Nexts weights next n = (i : ℕ) → i < n → 255 < getD weights i 0 → Below weights n (getD weights i 0) (getD next i 0)
+
+-- what is kept of n rules; the first in weight is `first`
+pub record Kept (f weights paths next low high : List ℕ) (n first : ℕ) : Type 0 where
+  pub few : n ≤ 256
+  pub laid : (i : ℕ) → i < n → pathEnd f (getD paths i 0) ≤ length f
+  pub packed : (i : ℕ) → i < n → Packed (getD weights i 0) i
+  pub start : Below weights n 9223372036854775808 first
+  pub nexts : Nexts weights next n
+  pub lows : Filters 26 f weights paths low n
+  pub highs : Filters 20 f weights paths high n
+
+-- ---- the deciding rule
+
+-- rule d covers the joined path of rule i's and p, and none that covers it weighs more
+pub record Heaviest (f weights paths : List ℕ) (n : ℕ) (p : Path) (i d : ℕ) : Type 0 where
+  pub inside : d < n
+  pub fits : 255 < getD weights d 0
+  pub covering : coversBoth (pathIn f (getD paths d 0)) (pathIn f (getD paths i 0)) p ≡ true
+  pub unbeaten : (j : ℕ) → j < n → coversBoth (pathIn f (getD paths j 0)) (pathIn f (getD paths i 0)) p ≡ true
+      → getD weights j 0 / 256 ≤ getD weights d 0 / 256
