@@ -29,6 +29,7 @@ pub fn worst_trees() -> Vec<WorstTree> {
         named("keys that are asked", full_table(partly_asked), &keyed(&[4])),
         named("ranks that rise", full_table(rising), &plain(16)),
         named("keys that rise", full_table(rising_keys), &keyed(&[4; 16])),
+        named("values of one hash", values_of_one_hash(), &root),
     ]
 }
 
@@ -134,4 +135,21 @@ fn rising_keys(number: usize) -> (u8, u8, Path) {
     }
     let (subject, action) = [(b'g', 1), (b'g', 0), (b'u', 1), (b'u', 0)][number % 4];
     (subject, action, path)
+}
+
+/// Values made so that the proved library's Bloom filters tell no rule from another: all have the digits of the
+/// first. Its author has to know the hash.
+fn values_of_one_hash() -> Vec<u8> {
+    let digits = |value: &[u8]| {
+        let start = 13 * 256;
+        b"z".iter().chain(value).fold(start, |h, b| (h + u64::from(*b)) * 2_654_435_761 % (1 << 32)) >> 20
+    };
+    let value = |number: usize| (0..4).map(|at| b'0' + (number >> (6 * at) & 63) as u8).collect::<Vec<u8>>();
+    let first = digits(&value(0));
+    let values: Vec<Vec<u8>> = (0..).map(value).filter(|value| digits(value) == first).take(256).collect();
+    full_table(|number| {
+        let mut path = last_key(plain(14), number);
+        path.elements[13].keys[0].value.clone_from(&values[number]);
+        (b'u', (number % 2) as u8, path)
+    })
 }
