@@ -2,3 +2,4 @@
 pub mod Factory
 pub mod InForce
 pub mod Probes
+pub mod RpcProbe

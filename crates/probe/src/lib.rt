@@ -1,4 +1,6 @@
 // Probes: a request judged on what is in force.
+pub mod rpcs;
+
 ghost use mathlib.Core.Path.{_≡_};
 ghost use mathlib.Core.Option.{none};
 ghost use Rattle.table.specs.declared.Checked.the-variants.{Accepted};

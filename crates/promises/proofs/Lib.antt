@@ -1,3 +1,4 @@
+pub mod AnyBytes
 pub mod Examples
 pub mod Groups
 pub mod PathReturn

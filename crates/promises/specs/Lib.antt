@@ -1,3 +1,4 @@
+pub mod AnyBytes
 pub mod Examples
 pub mod First
 pub mod Groups

@@ -1,0 +1,32 @@
+// The RPC probe.
+ghost use mathlib.Core.Path.{_≡_};
+ghost use Rattle.rpc.specs.Request.{requestFault};
+ghost use Rattle.probe.specs.Rpc.{unlessRpc, rpcProbeWord};
+ghost use Rattle.probe.specs.declared.rpcs.RpcAnswer.the-variants.{PermitAll};
+use rpc::verdict::Verdict;
+
+pub enum RpcAnswer {
+    // Without a text: everything is permitted, and no rule named.
+    PermitAll,
+    Judged(Verdict),
+}
+
+pub fn of_rpc(a: RpcAnswer) -> u64
+    ensures { λ w. ⌜ w ≡ rpcProbeWord a ⌝ }
+{
+    match a {
+        RpcAnswer::PermitAll => 256,
+        RpcAnswer::Judged(v) => rpc::word::of_verdict(v),
+    }
+}
+
+// Kind 1 without a text permits all, once the request is judged.
+fn factory_rpc(identity: &[u8], path: &[u8], headers: &[u8]) -> RpcAnswer
+    ensures { λ a. ⌜ a ≡ unlessRpc (requestFault (now (identity .entry)) (now (path .entry)) (now (headers .entry))) PermitAll ⌝ }
+{
+    let number = rpc::request::request_fault(identity, path, headers);
+    if number != 255 {
+        return RpcAnswer::Judged(Verdict::Refused(number));
+    }
+    RpcAnswer::PermitAll
+}
