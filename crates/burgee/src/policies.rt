@@ -2,6 +2,8 @@
 ghost use mathlib.Core.Path.{_≡_};
 ghost use Rattle.policy.specs.Policy.{judgement};
 ghost use Rattle.policy_text.specs.Answer.{checkOf, wordOf};
+ghost use Rattle.rpc.specs.Verdict.{rpcWord};
+ghost use Rattle.rpc.specs.Call.{rpcVerdict};
 use policy_text::check::Check;
 
 fn of_check(c: Check) -> u64
@@ -19,4 +21,17 @@ pub extern "C" fn burgee_policy_check(policy: &[u8]) -> u64
     ensures { λ r. ⌜ r ≡ wordOf (checkOf (judgement (now (policy .entry)))) ⌝ }
 {
     of_check(policy_text::check::check_policy(policy))
+}
+
+// The action for one RPC, and the rule that decides.
+#[no_mangle]
+pub extern "C" fn burgee_rpc_verdict(
+    policy: &[u8],
+    identity: &[u8],
+    path: &[u8],
+    headers: &[u8],
+) -> u64
+    ensures { λ r. ⌜ r ≡ rpcWord (rpcVerdict (now (policy .entry)) (now (identity .entry)) (now (path .entry)) (now (headers .entry))) ⌝ }
+{
+    rpc::word::of_verdict(rpc_text::verdict::rpc_verdict(policy, identity, path, headers))
 }

@@ -1,0 +1,147 @@
+-- The whole call: each way out of it.
+use mathlib.Core.Path.{_≡_, refl, sym, ap, ap₂, _∙_, subst}
+use mathlib.Core.Bool.{Bool, true, false}
+use mathlib.Core.List.{List, [], _∷_, map}
+use mathlib.Core.Option.{Option, none, some}
+use Prim.Native.Nat.{ℕ, _≤_, _<_}
+use native.Mathlib.Omega.{arith}
+use lib.Dec.{eqb, ltb}
+use lib.ListN.{length}
+use borrow.Author.Tests.{eq-eqb, ne-eqb, eqb-true, eqb-false}
+use Rattle.text.specs.Test.{_or_, if_then_else_}
+use Rattle.text.specs.String.{Str, bytes}
+use Rattle.text.specs.Refusal.{_when_else_, clear}
+use Rattle.text.proofs.Tests.{by, clash}
+use Rattle.rfc8259.specs.Json.{Json}
+use Rattle.rfc8259.specs.Parser.{parse}
+use Rattle.json.specs.Meaning.{answered}
+use Rattle.json.specs.Scan.{whiteAt}
+use Rattle.json_tree.specs.Tree.{treeAt, Stands}
+use Rattle.json_tree.proofs.Whole.{text-stands, text-tree}
+use Rattle.policy.specs.Policy.{Policy, member, items, ruleIn, policyIn, treeJudgement, judgement, policyOfTree, policyOf}
+use Rattle.policy_text.specs.Place.{placed}
+use Rattle.policy_text.specs.Answer.{checkOf}
+use Rattle.policy_text.specs.declared.check.Check.{Check}
+use Rattle.policy_text.specs.declared.check.Check.the-variants as check
+use Rattle.rpc.specs.Request.{Request, badText, badHeaders, requestFault}
+use Rattle.rpc.specs.Verdict.{ruleMatches, firstFrom, allowed, decided, verdict}
+use Rattle.rpc.specs.Call.{request, verdictBy, unless, rpcVerdict}
+use Rattle.rpc.specs.declared.verdict.Verdict.{Verdict}
+use Rattle.rpc.specs.declared.verdict.Verdict.the-variants.{Refused, Denied, Permitted, Default}
+use Rattle.rpc_text.specs.Walk.{firstOf}
+use Rattle.rpc_text.specs.declared.rule.First.{First}
+use Rattle.rpc_text.specs.declared.rule.First.the-variants as first
+
+-- ---- verdict_at
+
+first-at : (o : Option ℕ) (n : ℕ) → firstOf o ≡ first.At n → o ≡ some n
+unfolding firstOf
+first-at none n e = let z : _≡_ {A = ℕ} 0 1 = cc in absurd (omega arith)
+first-at (some m) n e = cc
+
+first-nothing : (o : Option ℕ) → firstOf o ≡ first.Nothing → o ≡ none
+unfolding firstOf
+first-nothing none e = refl
+first-nothing (some m) e = let z : _≡_ {A = ℕ} 0 1 = cc in absurd (omega arith)
+
+module _ (r : Request) (j : Json) where
+  abbrev rulesFirst : Json → Option ℕ
+  rulesFirst l = firstFrom 0 (ruleMatches r) (map ruleIn (items l))
+
+  verdict-open : verdict (policyIn j) r ≡ decided (firstFrom 0 (ruleMatches r) (map ruleIn (items (member (bytes "deny_rules") j)))) (firstFrom 0 (ruleMatches r) (map ruleIn (items (member (bytes "allow_rules") j))))
+  unfolding verdict policyIn
+  verdict-open = refl
+
+  module _ (s : Str) (d : ℕ) (m : member (bytes "deny_rules") j ≡ placed 15 s d) (f : First) (q : f ≡ firstOf (firstFrom 0 (ruleMatches r) (map ruleIn (items (placed 15 s d))))) where
+    pub verdict-denied : (n : ℕ) → f ≡ first.At n → Denied n ≡ verdict (policyIn j) r
+    unfolding decided
+    verdict-denied n e = sym (verdict-open ∙ ap (λ (o : Option ℕ). decided o (rulesFirst (member (bytes "allow_rules") j))) (ap rulesFirst m ∙ first-at _ n (sym q ∙ e)))
+
+    module _ (z : f ≡ first.Nothing) (a : ℕ) (k : member (bytes "allow_rules") j ≡ placed 15 s a) (g : First) (p : g ≡ firstOf (firstFrom 0 (ruleMatches r) (map ruleIn (items (placed 15 s a))))) where
+      pub verdict-permitted : (n : ℕ) → g ≡ first.At n → Permitted n ≡ verdict (policyIn j) r
+      unfolding decided allowed
+      verdict-permitted n e = sym (verdict-open ∙ ap₂ (λ (x y : Option ℕ). decided x y) (ap rulesFirst m ∙ first-nothing _ (sym q ∙ z)) (ap rulesFirst k ∙ first-at _ n (sym p ∙ e)))
+
+      pub verdict-default : g ≡ first.Nothing → Default ≡ verdict (policyIn j) r
+      unfolding decided allowed
+      verdict-default e = sym (verdict-open ∙ ap₂ (λ (x y : Option ℕ). decided x y) (ap rulesFirst m ∙ first-nothing _ (sym q ∙ z)) (ap rulesFirst k ∙ first-nothing _ (sym p ∙ e)))
+
+-- ---- rpc_verdict
+
+unless-refused : (n : ℕ) (v : Verdict) → (n ≡ 255 → ⊥) → unless n v ≡ Refused n
+unfolding unless if_then_else_
+unless-refused n v h = rw (ne-eqb n 255 h)
+
+unless-clear : (n : ℕ) (v : Verdict) → n ≡ 255 → unless n v ≡ v
+unfolding unless if_then_else_
+unless-clear n v h = rw (eq-eqb n 255 h)
+
+check-clear : (n : ℕ) → n ≡ 255 → checkOf n ≡ check.Accepted
+unfolding checkOf if_then_else_
+check-clear n h = rw (eq-eqb n 255 h)
+
+check-refused : (n : ℕ) → (n ≡ 255 → ⊥) → checkOf n ≡ check.Refused n
+unfolding checkOf if_then_else_
+check-refused n h = rw (ne-eqb n 255 h)
+
+refusal-is : {a b : ℕ} → check.Refused a ≡ check.Refused b → a ≡ b
+refusal-is e = cc
+
+not-both : {n : ℕ} {X : Type 0} → check.Accepted ≡ check.Refused n → X
+not-both e = let z : _≡_ {A = ℕ} 0 1 = cc in absurd (omega arith)
+
+pub accepted-clear : (n : ℕ) → check.Accepted ≡ checkOf n → n ≡ 255
+accepted-clear n h = by (eqb n 255) (λ t. eqb-true _ _ t) (λ t. not-both (h ∙ check-refused n (eqb-false _ _ t)))
+
+-- an accepted text
+module _ (policy : Str) (c : judgement policy ≡ 255) where
+  long-open : judgement policy ≡ (if ltb 16384 (length policy) then 30 else treeJudgement (parse policy))
+  unfolding judgement
+  long-open = refl
+
+  tree-clear : treeJudgement (parse policy) ≡ 255
+  unfolding if_then_else_
+  tree-clear = by (ltb 16384 (length policy)) (λ t. let z : _≡_ {A = ℕ} 30 255 = (rw t at (sym long-open)) ∙ c in absurd (omega arith)) (λ t. (rw t at (sym long-open)) ∙ c)
+
+  json-clear : (o : Option Json) → treeJudgement o ≡ 255 → answered o ≡ true
+  unfolding treeJudgement answered
+  json-clear none e = absurd (omega (arith, e))
+  json-clear (some j) e = refl
+
+  is-json : answered (parse policy) ≡ true
+  is-json = json-clear (parse policy) tree-clear
+
+  module _ (i : ℕ) (w : i ≡ whiteAt policy 0) where
+    pub policy-stands : Stands 16 policy i
+    policy-stands = rw w (text-stands policy is-json)
+
+    policy-is : policyOf policy ≡ some (policyIn (treeAt 16 policy i))
+    unfolding policyOf policyOfTree if_then_else_
+    policy-is = rw (eq-eqb (judgement policy) 255 c, text-tree policy is-json, w)
+
+by-policy : (p : Policy) (r : Request) → verdictBy (some p) r ≡ verdict p r
+unfolding verdictBy
+by-policy p r = refl
+
+module _ (policy identity path headers : Str) where
+  call-open : rpcVerdict policy identity path headers ≡ unless (judgement policy) (unless (requestFault identity path headers) (verdictBy (policyOf policy) (request identity path headers)))
+  unfolding rpcVerdict
+  call-open = refl
+
+  pub policy-refused : (n : ℕ) → check.Refused n ≡ checkOf (judgement policy) → Refused n ≡ rpcVerdict policy identity path headers
+  policy-refused n h =
+      by (eqb (judgement policy) 255) (λ t. not-both (sym (h ∙ check-clear _ (eqb-true _ _ t))))
+      (λ t. let z = eqb-false (judgement policy) 255 t in ap Refused (refusal-is (h ∙ check-refused _ z)) ∙ sym (call-open ∙ unless-refused _ _ z))
+
+  module _ (c : judgement policy ≡ 255) where
+    pub request-refused : (n : ℕ) → n ≡ requestFault identity path headers → (n ≡ 255 → ⊥) → Refused n ≡ rpcVerdict policy identity path headers
+    request-refused n e z = ap Refused e ∙ sym (call-open ∙ unless-clear _ _ c ∙ unless-refused _ _ (λ x. z (e ∙ x)))
+
+    pub request-judged : (i : ℕ) → i ≡ whiteAt policy 0 → requestFault identity path headers ≡ 255 → (v : Verdict) → v ≡ verdict (policyIn (treeAt 16 policy i)) (request identity path headers) → v ≡ rpcVerdict policy identity path headers
+    request-judged i w f v e = e ∙ sym (call-open ∙ unless-clear _ _ c ∙ unless-clear _ _ f ∙ ap (λ (o : Option Policy). verdictBy o (request identity path headers)) (policy-is policy c i w) ∙ by-policy _ _)
+
+pub headers-good : (identity path headers : Str) → requestFault identity path headers ≡ 255 → badHeaders headers ≡ false
+unfolding requestFault if_then_else_
+headers-good identity path headers e =
+    by (badText identity or badText path) (λ t. let z : _≡_ {A = ℕ} 40 255 = rw t at e in absurd (omega arith))
+    (λ t. by (badHeaders headers) (λ u. let z : _≡_ {A = ℕ} 41 255 = rw (t, u) at e in absurd (omega arith)) (λ u. u))
