@@ -51,6 +51,8 @@ extern "C" {
 #define BURGEE_REFUSED_POLICY_STAR 36u   /* an asterisk misplaced, or two                 */
 #define BURGEE_REFUSED_POLICY_KEY 37u    /* a barred or ill-spelt header key              */
 #define BURGEE_REFUSED_POLICY_RULE 38u   /* a rule name twice in a list                   */
+#define BURGEE_REFUSED_IDENTITY 40u      /* identity or path too long, or a byte in them  */
+#define BURGEE_REFUSED_HEADERS 41u       /* header lines ill-formed or too long           */
 
 /* The refusal number, or 0 where the call was not refused. */
 static inline unsigned burgee_answer_refusal(uint64_t answer)
@@ -162,6 +164,15 @@ uint64_t burgee_tree_verdict(const uint8_t *table, size_t table_len, const uint8
 
 /* Checks a whole policy text. Answers 0, or a refusal from 30 to 38, without a line. */
 uint64_t burgee_policy_check(const uint8_t *policy, size_t policy_len);
+
+/*
+ * The verdict for one RPC. `identity` is empty without a client certificate; `headers`
+ * are lines: name, `:`, value, LF. The rule's number counts in `deny_rules` where the
+ * action is deny, in `allow_rules` where it is permit. Refused as burgee_policy_check
+ * is, then with 40 or 41.
+ */
+uint64_t burgee_rpc_verdict(const uint8_t *policy, size_t policy_len, const uint8_t *identity, size_t identity_len,
+                            const uint8_t *path, size_t path_len, const uint8_t *headers, size_t headers_len);
 
 /* ---- Rotation ------------------------------------------------------------------ */
 

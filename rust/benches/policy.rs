@@ -1,11 +1,14 @@
-//! The policy check: the speed of the two implementations.
+//! The policy check and the RPC verdict: the speed of the two implementations. A
+//! verdict reads the whole policy each time.
 
 use std::hint::black_box;
 
-use burgee_rust::boundary::policy as proved;
-use burgee_rust::generate::policy::policy_of_length;
+use burgee_rust::boundary::policy as proved_policy;
+use burgee_rust::boundary::rpc as proved_rpc;
+use burgee_rust::generate::policy::{many_header_lines, policy_of_headers, policy_of_length};
 use burgee_rust::measure::Table;
 use burgee_rust::policy::check_policy;
+use burgee_rust::rpc::{rpc_verdict, RpcRequest};
 use burgee_rust::vectors::{EXAMPLE_POLICY, SSH_POLICY};
 use burgee_rust::word;
 
@@ -22,8 +25,25 @@ fn main() {
     for (name, text) in &policies {
         printed.row(
             &format!("{name}, {} bytes", text.len()),
-            || proved::policy_check(black_box(text)),
+            || proved_policy::policy_check(black_box(text)),
             || word::checked(check_policy(black_box(text))),
         );
     }
+
+    let headers = b"user-agent:client/1.0\ndev-path:/dev/path/x\naccept:a\naccept:b\n";
+    let printed = Table::new("RPC verdict, by default");
+    for (name, text) in &policies {
+        verdict_row(&printed, &format!("{name}, {} bytes", text.len()), text, headers);
+    }
+    let (text, headers) = (policy_of_headers(), many_header_lines());
+    verdict_row(&printed, &format!("384 headers, {} bytes, and 8 KB of header lines", text.len()), &text, &headers);
+}
+
+fn verdict_row(printed: &Table, name: &str, text: &[u8], headers: &[u8]) {
+    let request = RpcRequest { identity: b"spiffe://company.com/sa/nobody", path: b"/gnmi.gNMI/Get", headers };
+    printed.row(
+        name,
+        || proved_rpc::rpc_verdict(black_box(text), black_box(&request)),
+        || word::rpc_verdict(rpc_verdict(black_box(text), black_box(&request))),
+    );
 }

@@ -1,11 +1,12 @@
 //! Each public call of the proved library on the same input as the Rust one: the answer
 //! and every lent byte are compared, with the slices lent at each edge of memory.
 
-use crate::boundary::{path, policy, table, verdict};
+use crate::boundary::{path, policy, rpc, table, verdict};
 use crate::lent::{lend, Lent, EDGES};
 use crate::path::{read_path_text, write_path_text};
 use crate::refusal::Refusal;
 use crate::request::PathRequest;
+use crate::rpc::RpcRequest;
 use crate::word;
 
 /// Path text to path bytes: the answer and what was filled.
@@ -41,6 +42,13 @@ pub fn tree_verdict(table: &[u8], request: &PathRequest) -> u64 {
 pub fn policy_check(policy: &[u8]) -> u64 {
     let answer = word::checked(crate::policy::check_policy(policy));
     answered([policy], answer, |[policy]| policy::policy_check(policy))
+}
+
+pub fn rpc_verdict(policy: &[u8], request: &RpcRequest) -> u64 {
+    let answer = word::rpc_verdict(crate::rpc::rpc_verdict(policy, request));
+    answered([policy, request.identity, request.path, request.headers], answer, |[policy, identity, path, headers]| {
+        rpc::rpc_verdict(policy, &RpcRequest { identity, path, headers })
+    })
 }
 
 fn asked(table: &[u8], request: &PathRequest, answer: u64, proved: fn(&[u8], &PathRequest) -> u64) -> u64 {

@@ -10,7 +10,10 @@ use std::env;
 use std::time::{Duration, Instant};
 
 use burgee_rust::compare;
-use burgee_rust::generate::any::{any, any_mode, any_room, ORIGIN, PATH_BYTES, PATH_TEXT, POLICY, TABLE, USER};
+use burgee_rust::generate::any::{
+    any, any_mode, any_room, HEADERS, IDENTITY, ORIGIN, PATH_BYTES, PATH_TEXT, POLICY, RPC_PATH, TABLE, USER,
+};
+use burgee_rust::generate::policy::Rpc;
 use burgee_rust::generate::rotation::{some_record, spoil_record, Ask, Call};
 use burgee_rust::hosts::Hosts;
 use burgee_rust::lent::EDGES;
@@ -27,7 +30,7 @@ struct Target {
     call: fn(&mut Random) -> u64,
 }
 
-const TARGETS: [Target; 13] = [
+const TARGETS: [Target; 14] = [
     Target { name: "path_read", call: |random| compare::path_read(&any(random, &PATH_TEXT), any_room(random)).0 },
     Target { name: "path_write", call: |random| compare::path_write(&any(random, &PATH_BYTES), any_room(random)).0 },
     Target { name: "table_check", call: |random| compare::table_check(&any(random, &TABLE)) },
@@ -35,6 +38,7 @@ const TARGETS: [Target; 13] = [
     Target { name: "path_verdict", call: |random| verdict(random, compare::path_verdict) },
     Target { name: "tree_verdict", call: |random| verdict(random, compare::tree_verdict) },
     Target { name: "policy_check", call: |random| compare::policy_check(&any(random, &POLICY)) },
+    Target { name: "rpc_verdict", call: rpc_verdict },
     Target { name: "start", call: |random| on_a_host(random, |_| Call::Start) },
     Target { name: "upload", call: |random| on_a_host(random, any_upload) },
     Target { name: "finalize", call: |random| on_a_host(random, |_| Call::Finalize) },
@@ -52,8 +56,16 @@ fn any_ask(random: &mut Random) -> Ask {
     }
 }
 
+fn any_rpc(random: &mut Random) -> Rpc {
+    Rpc { identity: any(random, &IDENTITY), path: any(random, &RPC_PATH), headers: any(random, &HEADERS) }
+}
+
 fn verdict(random: &mut Random, compare: fn(&[u8], &PathRequest) -> u64) -> u64 {
     compare(&any(random, &TABLE), &any_ask(random).request())
+}
+
+fn rpc_verdict(random: &mut Random) -> u64 {
+    compare::rpc_verdict(&any(random, &POLICY), &any_rpc(random).request())
 }
 
 /// Any record and store, one of them at fault now and then.

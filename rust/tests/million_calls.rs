@@ -3,8 +3,10 @@
 
 use std::fmt;
 
-use burgee_rust::boundary::{path, policy, rotation as proved, table, verdict};
-use burgee_rust::generate::any::{any, any_mode, any_room, Kind, ORIGIN, PATH_BYTES, PATH_TEXT, POLICY, TABLE, USER};
+use burgee_rust::boundary::{path, policy, rotation as proved, rpc, table, verdict};
+use burgee_rust::generate::any::{
+    any, any_mode, any_room, Kind, HEADERS, IDENTITY, ORIGIN, PATH_BYTES, PATH_TEXT, POLICY, RPC_PATH, TABLE, USER,
+};
 use burgee_rust::generate::rotation::spoil_record;
 use burgee_rust::limits;
 use burgee_rust::path::{read_path_text, write_path_text};
@@ -12,15 +14,16 @@ use burgee_rust::policy::check_policy;
 use burgee_rust::random::Random;
 use burgee_rust::request::PathRequest;
 use burgee_rust::rotation::{self, Record};
+use burgee_rust::rpc::{rpc_verdict, RpcRequest};
 use burgee_rust::table::{check_table, group_count};
 use burgee_rust::verdict::{path_verdict, tree_verdict};
 use burgee_rust::word;
 
 const CALLS: usize = 1_000_000;
-const KINDS_OF_CALL: usize = 13;
+const KINDS_OF_CALL: usize = 14;
 
 /// What is lent for reading: a buffer for each.
-const INPUTS: [Kind; 6] = [TABLE, USER, ORIGIN, PATH_TEXT, PATH_BYTES, POLICY];
+const INPUTS: [Kind; 9] = [TABLE, USER, ORIGIN, PATH_TEXT, PATH_BYTES, POLICY, IDENTITY, RPC_PATH, HEADERS];
 
 /// A buffer, and what it may hold.
 struct Input {
@@ -98,8 +101,10 @@ impl Buffers {
 
     /// One call, of both; gives the proved answer and the Rust one.
     fn call(&mut self, number: usize) -> (u64, u64) {
-        let [table, user, origin, text, bytes, policy] = self.inputs.each_ref().map(|input| &input.lent[..]);
+        let [table, user, origin, text, bytes, policy, identity, rpc_path, headers] =
+            self.inputs.each_ref().map(|input| &input.lent[..]);
         let request = PathRequest { user, mode: self.mode, origin, path: text };
+        let rpc = RpcRequest { identity, path: rpc_path, headers };
         let (theirs, ours) = (&mut self.theirs, &mut self.ours);
         let outputs = (&mut theirs.output[..self.room], &mut ours.output[..self.room]);
         let (record, store) = (&mut theirs.record, &mut theirs.store);
@@ -113,13 +118,14 @@ impl Buffers {
             4 => (verdict::path_verdict(table, &request), word::path_verdict(path_verdict(table, &request))),
             5 => (verdict::tree_verdict(table, &request), word::tree_verdict(tree_verdict(table, &request))),
             6 => (policy::policy_check(policy), word::checked(check_policy(policy))),
-            7 => (proved::start(record, store), word::checked(rotation::start(our_record, our_store))),
-            8 => {
+            7 => (rpc::rpc_verdict(policy, &rpc), word::rpc_verdict(rpc_verdict(policy, &rpc))),
+            8 => (proved::start(record, store), word::checked(rotation::start(our_record, our_store))),
+            9 => {
                 (proved::upload(record, store, upload), word::checked(rotation::upload(our_record, our_store, upload)))
             }
-            9 => (proved::finalize(record, store), word::checked(rotation::finalize(our_record, our_store))),
-            10 => (proved::close(record, store), word::checked(rotation::close(our_record, our_store))),
-            11 => (
+            10 => (proved::finalize(record, store), word::checked(rotation::finalize(our_record, our_store))),
+            11 => (proved::close(record, store), word::checked(rotation::close(our_record, our_store))),
+            12 => (
                 proved::probe_path(record, store, &request),
                 word::path_verdict(rotation::probe_path(our_record, our_store, &request)),
             ),

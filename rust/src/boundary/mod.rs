@@ -54,5 +54,6 @@ macro_rules! call {
 pub mod path;
 pub mod policy;
 pub mod rotation;
+pub mod rpc;
 pub mod table;
 pub mod verdict;

@@ -2,7 +2,7 @@
 
 use super::damage::damage;
 use super::path::{good_path, FRAME_MARKS, NAME_BYTES, TEXT_MARKS};
-use super::policy::good_policy;
+use super::policy::{good_policy, good_rpc};
 use super::policy_fault::PART_FAULTS;
 use super::table::{dense_path, dense_table, table_text, Shape, ORIGINS, USERS};
 use super::table_fault::LINE_FAULTS;
@@ -20,6 +20,9 @@ pub const TABLE: Kind = Kind { good: some_table, marks: b"0123456789abcdef012345
 pub const PATH_TEXT: Kind = Kind { good: some_path_text, marks: TEXT_MARKS, longest: 14_000 };
 pub const PATH_BYTES: Kind = Kind { good: |random| some_path(random).bytes(), marks: FRAME_MARKS, longest: 10_000 };
 pub const POLICY: Kind = Kind { good: some_policy, marks: b"{}[],:\"\"\\ *ak\n\t\0\x7f", longest: 16_500 };
+pub const IDENTITY: Kind = Kind { good: |random| good_rpc(random).identity, marks: b" ~a*\x1f\x7f", longest: 270 };
+pub const RPC_PATH: Kind = Kind { good: |random| good_rpc(random).path, marks: b"/.*a\x1f\x7f", longest: 270 };
+pub const HEADERS: Kind = Kind { good: |random| good_rpc(random).headers, marks: b"k:v,\n\n-K\x7f", longest: 8_300 };
 pub const USER: Kind = Kind { good: |random| random.pick(&USERS).as_bytes().to_vec(), marks: NAME_BYTES, longest: 80 };
 pub const ORIGIN: Kind =
     Kind { good: |random| random.pick(&ORIGINS).as_bytes().to_vec(), marks: NAME_BYTES, longest: 40 };
