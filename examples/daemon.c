@@ -9,6 +9,7 @@
  *   show KIND                     what the record says
  *   path USER read|write PATH     may the user read or write there?
  *   tree USER read|write PATH     and all that lies beneath?
+ *   rpc IDENTITY PATH             may the client call this?
  *
  * Each is answered in one line. A line that begins with `#` is a remark. A daemon of a
  * switch would keep its records and stores from one start to the next.
@@ -110,6 +111,8 @@ static void serve_question(int words, char word[4][256])
     } else if (words == 4 && is(word[0], "tree")) {
         print_tree(burgee_record_probe_tree(HOST(&table_host), SLICE(word[1]), mode_named(word[2]), SLICE(""),
                                             SLICE(word[3])));
+    } else if (words == 3 && is(word[0], "rpc")) {
+        print_action(burgee_record_probe_rpc(HOST(&policy_host), SLICE(word[1]), SLICE(word[2]), SLICE("")));
     } else {
         printf("no such command");
     }

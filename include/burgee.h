@@ -224,7 +224,7 @@ uint64_t burgee_close(burgee_record *record, const uint8_t *store, size_t store_
 
 /*
  * Probes judge a request on what is in force: the candidate, else the live text, else
- * factory, which denies every path, naming no rule. They take the
+ * factory, which permits every RPC and denies every path, naming no rule. They take the
  * parts of the record one by one; use the burgee_record_probe_... functions below to
  * give the record. Refused with 11, 15 or 16, then as the text in force is, then as the
  * request is.
@@ -237,6 +237,11 @@ uint64_t burgee_probe_tree(uint32_t kind, uint32_t live_slot, uint32_t live_len,
                            uint32_t candidate_len, const uint8_t *store, size_t store_len, const uint8_t *user,
                            size_t user_len, uint32_t mode, const uint8_t *origin, size_t origin_len,
                            const uint8_t *path, size_t path_len);
+uint64_t burgee_probe_rpc(uint32_t kind, uint32_t live_slot, uint32_t live_len, uint32_t rotating,
+                          uint32_t candidate_len, const uint8_t *store, size_t store_len, const uint8_t *identity,
+                          size_t identity_len, const uint8_t *path, size_t path_len, const uint8_t *headers,
+                          size_t headers_len);
+
 static inline uint64_t burgee_record_probe_path(const burgee_record *record, const uint8_t *store, size_t store_len,
                                                 const uint8_t *user, size_t user_len, uint32_t mode,
                                                 const uint8_t *origin, size_t origin_len, const uint8_t *path,
@@ -255,6 +260,15 @@ static inline uint64_t burgee_record_probe_tree(const burgee_record *record, con
     return burgee_probe_tree(record->kind, record->live_slot, record->live_len, record->rotating,
                              record->candidate_len, store, store_len, user, user_len, mode, origin, origin_len, path,
                              path_len);
+}
+
+static inline uint64_t burgee_record_probe_rpc(const burgee_record *record, const uint8_t *store, size_t store_len,
+                                               const uint8_t *identity, size_t identity_len, const uint8_t *path,
+                                               size_t path_len, const uint8_t *headers, size_t headers_len)
+{
+    return burgee_probe_rpc(record->kind, record->live_slot, record->live_len, record->rotating,
+                            record->candidate_len, store, store_len, identity, identity_len, path, path_len, headers,
+                            headers_len);
 }
 
 #ifdef __cplusplus

@@ -10,6 +10,7 @@ use burgee_rust::measure::Table;
 use burgee_rust::random::Random;
 use burgee_rust::request::PathRequest;
 use burgee_rust::rotation::{self, Record};
+use burgee_rust::rpc::RpcRequest;
 use burgee_rust::word;
 
 fn main() {
@@ -27,6 +28,9 @@ fn main() {
     }
 
     let printed = Table::new("Probes");
+    for text in &policies {
+        probe_rpc(&printed, text);
+    }
     for text in &tables {
         probe_table(&printed, text);
     }
@@ -70,6 +74,17 @@ fn upload(printed: &Table, kind: u32, name: &str, text: &[u8]) {
         name,
         || proved::upload(&mut rotating(kind), &mut theirs, black_box(text)),
         || word::checked(rotation::upload(&mut rotating(kind), &mut ours, black_box(text))),
+    );
+}
+
+fn probe_rpc(printed: &Table, text: &[u8]) {
+    let (record, mut store) = live(1, text);
+    let ours = store.clone();
+    let request = RpcRequest { identity: b"nobody", path: b"/gnmi.gNMI/Get", headers: b"" };
+    printed.row(
+        &format!("RPC on a policy, {} bytes", text.len()),
+        || proved::probe_rpc(black_box(&record), &mut store, &request),
+        || word::rpc_verdict(rotation::probe_rpc(black_box(&record), &ours, &request)),
     );
 }
 

@@ -1,10 +1,13 @@
 //! The rotation once more, as a machine that has only texts: for tests, and with
 //! nothing in common with `rotation` but the paper.
 
+use crate::frame::Action;
 use crate::generate::rotation::Call;
 use crate::policy::check_policy;
+use crate::refusal::Refusal;
+use crate::rpc::{rpc_verdict, RpcVerdict};
 use crate::table::check_table;
-use crate::vectors::VERSION_ONLY;
+use crate::vectors::{POLICY_OF_NOBODY, VERSION_ONLY};
 use crate::verdict::{path_verdict, tree_verdict};
 use crate::word;
 
@@ -28,6 +31,7 @@ impl Machine {
             Call::Upload(_) | Call::Finalize | Call::Close if !self.is_on => 13,
             Call::Finalize if self.candidate.is_none() => 14,
             Call::ProbePath(_) | Call::ProbeTree(_) if self.is_policy => 16,
+            Call::ProbeRpc(_) if !self.is_policy => 16,
             Call::Start => {
                 self.is_on = true;
                 0
@@ -51,6 +55,10 @@ impl Machine {
             }
             Call::ProbePath(ask) => word::path_verdict(path_verdict(self.table(), &ask.request())),
             Call::ProbeTree(ask) => word::tree_verdict(tree_verdict(self.table(), &ask.request())),
+            Call::ProbeRpc(rpc) => match self.in_force() {
+                Some(policy) => word::rpc_verdict(rpc_verdict(policy, &rpc.request())),
+                None => permit_unless_refused(rpc_verdict(POLICY_OF_NOBODY.as_bytes(), &rpc.request())),
+            },
         }
     }
 
@@ -62,4 +70,9 @@ impl Machine {
     fn in_force(&self) -> Option<&[u8]> {
         self.candidate.as_deref().or(self.live.as_deref())
     }
+}
+
+/// The factory's answer to a request that some policy judges.
+fn permit_unless_refused(answer: Result<RpcVerdict, Refusal>) -> u64 {
+    word::rpc_verdict(answer.map(|_| RpcVerdict { action: Action::Permit, rule: None }))
 }

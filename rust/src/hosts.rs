@@ -2,10 +2,12 @@
 //! one by the Rust ones, and they are compared byte for byte after each call.
 
 use crate::boundary::rotation as proved;
+use crate::generate::policy::Rpc;
 use crate::generate::rotation::{Ask, Call};
 use crate::lent::{lend, Edge, Lent};
 use crate::request::PathRequest;
 use crate::rotation::{self, Record};
+use crate::rpc::RpcRequest;
 use crate::word;
 
 pub struct Hosts {
@@ -85,6 +87,7 @@ fn call_rust(record: &mut Record, store: &mut [u8], call: &Call) -> u64 {
         Call::Close => word::checked(rotation::close(record, store)),
         Call::ProbePath(ask) => word::path_verdict(rotation::probe_path(record, store, &ask.request())),
         Call::ProbeTree(ask) => word::tree_verdict(rotation::probe_tree(record, store, &ask.request())),
+        Call::ProbeRpc(rpc) => word::rpc_verdict(rotation::probe_rpc(record, store, &rpc.request())),
     }
 }
 
@@ -96,6 +99,11 @@ fn call_proved(record: &mut Record, store: &mut [u8], call: &Call, edge: Edge) -
         Call::Upload(text) => lend([text], edge, |[text]| proved::upload(record, store, text)),
         Call::ProbePath(ask) => probe(record, store, ask, edge, proved::probe_path),
         Call::ProbeTree(ask) => probe(record, store, ask, edge, proved::probe_tree),
+        Call::ProbeRpc(Rpc { identity, path, headers }) => {
+            lend([identity, path, headers], edge, |[identity, path, headers]| {
+                proved::probe_rpc(record, store, &RpcRequest { identity, path, headers })
+            })
+        }
     }
 }
 

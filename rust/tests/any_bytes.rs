@@ -30,7 +30,7 @@ struct Target {
     call: fn(&mut Random) -> u64,
 }
 
-const TARGETS: [Target; 14] = [
+const TARGETS: [Target; 15] = [
     Target { name: "path_read", call: |random| compare::path_read(&any(random, &PATH_TEXT), any_room(random)).0 },
     Target { name: "path_write", call: |random| compare::path_write(&any(random, &PATH_BYTES), any_room(random)).0 },
     Target { name: "table_check", call: |random| compare::table_check(&any(random, &TABLE)) },
@@ -45,6 +45,7 @@ const TARGETS: [Target; 14] = [
     Target { name: "close", call: |random| on_a_host(random, |_| Call::Close) },
     Target { name: "probe_path", call: |random| on_a_host(random, |random| Call::ProbePath(any_ask(random))) },
     Target { name: "probe_tree", call: |random| on_a_host(random, |random| Call::ProbeTree(any_ask(random))) },
+    Target { name: "probe_rpc", call: |random| on_a_host(random, |random| Call::ProbeRpc(any_rpc(random))) },
 ];
 
 fn any_ask(random: &mut Random) -> Ask {

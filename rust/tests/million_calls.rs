@@ -20,7 +20,7 @@ use burgee_rust::verdict::{path_verdict, tree_verdict};
 use burgee_rust::word;
 
 const CALLS: usize = 1_000_000;
-const KINDS_OF_CALL: usize = 14;
+const KINDS_OF_CALL: usize = 15;
 
 /// What is lent for reading: a buffer for each.
 const INPUTS: [Kind; 9] = [TABLE, USER, ORIGIN, PATH_TEXT, PATH_BYTES, POLICY, IDENTITY, RPC_PATH, HEADERS];
@@ -129,9 +129,13 @@ impl Buffers {
                 proved::probe_path(record, store, &request),
                 word::path_verdict(rotation::probe_path(our_record, our_store, &request)),
             ),
-            _ => (
+            13 => (
                 proved::probe_tree(record, store, &request),
                 word::tree_verdict(rotation::probe_tree(our_record, our_store, &request)),
+            ),
+            _ => (
+                proved::probe_rpc(record, store, &rpc),
+                word::rpc_verdict(rotation::probe_rpc(our_record, our_store, &rpc)),
             ),
         }
     }

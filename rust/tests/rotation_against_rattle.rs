@@ -3,6 +3,7 @@
 
 use burgee_rust::brute_rotation::Machine;
 use burgee_rust::generate::damage::damage;
+use burgee_rust::generate::policy::Rpc;
 use burgee_rust::generate::rotation::{some_call, some_record, spoil_record, Ask, Call};
 use burgee_rust::generate::table::table_of_length;
 use burgee_rust::hosts::Hosts;
@@ -22,8 +23,13 @@ fn ask(path: &str) -> Ask {
     Ask { user: b"u".to_vec(), mode: 1, origin: Vec::new(), path: path.into() }
 }
 
+fn rpc(identity: &str) -> Rpc {
+    Rpc { identity: identity.into(), path: b"/gnsi.ssh.Ssh/Get".to_vec(), headers: Vec::new() }
+}
+
 /// Answer words.
 const PERMIT_BY_0: u64 = 1 << 8 | 1 << 16;
+const PERMIT_BY_NONE: u64 = 1 << 8;
 const DENY: u64 = 0;
 
 #[test]
@@ -57,6 +63,7 @@ fn a_table_from_factory_to_the_third() {
         assert_eq!(hosts.call(&probe), PERMIT_BY_0);
         assert_eq!(hosts.call(&Call::Close), 0);
         assert_eq!(hosts.call(&probe), DENY);
+        assert_eq!(hosts.call(&Call::ProbeRpc(rpc("alice"))), 16);
     }
 }
 
@@ -64,14 +71,19 @@ fn a_table_from_factory_to_the_third() {
 fn a_policy_from_factory_to_the_second() {
     for edge in EDGES {
         let mut hosts = Hosts::new(Record::factory(1), vec![0xEE; 2 * SLOT], edge);
+        let alice = Call::ProbeRpc(rpc("spiffe://company.com/sa/alice"));
+        assert_eq!(hosts.call(&alice), PERMIT_BY_NONE, "factory permits all and names no rule");
         assert_eq!(hosts.call(&Call::Start), 0);
         assert_eq!(hosts.call(&Call::Upload(POLICY_OF_NOBODY.into())), 0);
+        assert_eq!(hosts.call(&alice), DENY);
         assert_eq!(hosts.call(&Call::Upload(SSH_POLICY.into())), 0);
+        assert_eq!(hosts.call(&alice), PERMIT_BY_0);
         assert_eq!(hosts.call(&Call::Close), 0);
+        assert_eq!(hosts.call(&alice), PERMIT_BY_NONE);
         assert_eq!(hosts.call(&Call::Start), 0);
         assert_eq!(hosts.call(&Call::Upload(POLICY_OF_NOBODY.into())), 0);
         assert_eq!(hosts.call(&Call::Finalize), 0);
-        assert_eq!((hosts.record().live_slot, hosts.record().live_len), (0, POLICY_OF_NOBODY.len() as u32));
+        assert_eq!(hosts.call(&alice), DENY);
         assert_eq!(hosts.call(&Call::ProbePath(ask("/a"))), 16);
         assert_eq!(hosts.call(&Call::ProbeTree(ask("/a"))), 16);
     }
@@ -120,7 +132,7 @@ fn traces() {
     }
     tally.assert_at_least(&[(0, 5_000), (11, 300), (12, 500), (13, 1_000), (14, 200), (15, 50), (16, 300)]);
     tally.assert_at_least(&[(1, 30), (2, 100), (3, 30), (4, 100), (5, 30), (6, 20), (20, 200), (21, 50), (22, 30)]);
-    tally.assert_at_least(&[(30, 30), (31, 100), (34, 5), (35, 20)]);
+    tally.assert_at_least(&[(30, 30), (31, 100), (34, 5), (35, 20), (40, 30), (41, 50)]);
     assert!(live_slots.iter().all(|count| *count >= 1_000), "live in each slot: {live_slots:?}");
 }
 
@@ -189,6 +201,7 @@ fn records_of_every_shape() {
             Call::Close,
             Call::ProbePath(ask("/a")),
             Call::ProbeTree(ask("/")),
+            Call::ProbeRpc(rpc("spiffe://company.com/sa/alice")),
         ];
         for live_slot in [0, 1, 2, NONE] {
             for live_len in [0, lens[0], lens[1], 16_385, 32_768, 32_769, NONE - 1, NONE] {
@@ -205,7 +218,8 @@ fn records_of_every_shape() {
             }
         }
     }
-    tally.assert_at_least(&[(0, 1_000), (2, 100), (4, 50), (12, 100), (13, 30), (14, 20), (15, 8_000), (16, 300)]);
+    tally.assert_at_least(&[(0, 1_000), (2, 100), (4, 50), (12, 100), (13, 30), (14, 20), (15, 10_000), (16, 500)]);
+    tally.assert_at_least(&[(30, 30), (31, 30)]);
 }
 
 /// 11 comes before 15, whatever else there is; a longer store is as good as one of
@@ -219,6 +233,7 @@ fn stores_of_every_length() {
         Call::Close,
         Call::ProbePath(ask("/a")),
         Call::ProbeTree(ask("/a")),
+        Call::ProbeRpc(rpc("")),
     ];
     let mut hosts = Hosts::new(Record::factory(2), vec![0x55; 70_000], Edge::End);
     for record in [
@@ -294,4 +309,6 @@ fn corrupt_texts() {
     assert_eq!(hosts.call(&Call::ProbePath(faulty.clone())), 20);
     hosts.set_record(Record::factory(1));
     assert_eq!(hosts.call(&Call::ProbePath(faulty)), 16);
+    let faulty = Rpc { headers: b"x".to_vec(), ..rpc("") };
+    assert_eq!(hosts.call(&Call::ProbeRpc(faulty)), 41);
 }

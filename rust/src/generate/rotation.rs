@@ -2,7 +2,7 @@
 
 use super::damage::damage;
 use super::path::{good_path, TEXT_MARKS};
-use super::policy::{good_policy, policy_of_length};
+use super::policy::{good_policy, good_rpc, policy_of_length, Rpc};
 use super::policy_fault::{put_json_fault, PART_FAULTS};
 use super::table::{dense_path, dense_table, table_of_length, table_text, Shape};
 use super::table_fault::LINE_FAULTS;
@@ -34,6 +34,7 @@ pub enum Call {
     Close,
     ProbePath(Ask),
     ProbeTree(Ask),
+    ProbeRpc(Rpc),
 }
 
 /// A call, mostly one that suits a record of this kind.
@@ -43,6 +44,7 @@ pub fn some_call(random: &mut Random, kind: u32) -> Call {
         2..=6 => Call::Upload(some_text(random, kind)),
         7 | 8 => Call::Finalize,
         9 => Call::Close,
+        _ if random.one_in(10) == (kind == 2) => Call::ProbeRpc(some_rpc(random)),
         10..=12 => Call::ProbePath(some_ask(random)),
         _ => Call::ProbeTree(some_ask(random)),
     }
@@ -97,6 +99,17 @@ fn some_ask(random: &mut Random) -> Ask {
         origin: random.pick(&["", "", "", "", "", "", "oc", "\n"]).as_bytes().to_vec(),
         path,
     }
+}
+
+fn some_rpc(random: &mut Random) -> Rpc {
+    let mut rpc = good_rpc(random);
+    if random.one_in(12) {
+        damage(random, &mut rpc.headers, b"k:\nK\t\x7f\0");
+    }
+    if random.one_in(12) {
+        damage(random, &mut rpc.identity, b"\0\n\x7f\x80\xff");
+    }
+    rpc
 }
 
 /// A good record of this kind with any texts in the store, live and candidate at random.
