@@ -2,6 +2,7 @@
 ghost use mathlib.Core.Path.{_≡_};
 ghost use Rattle.verdict_text.specs.Calls.{pathWord, treeWord};
 ghost use Rattle.probe.specs.Probe.{probePath, probeTree};
+ghost use Rattle.probe.specs.Rpc.{probeRpc, rpcProbeWord};
 ghost use Rattle.burgee.specs.Record.{recordOf};
 use rotation::Record;
 
@@ -55,4 +56,29 @@ pub extern "C" fn burgee_probe_tree(
         candidate_len: candidate_len,
     };
     verdict_text::word::of_tree(probe::probe_tree(r, store, user, mode, origin, path))
+}
+
+// The action for one RPC, and the rule that decides.
+#[no_mangle]
+pub extern "C" fn burgee_probe_rpc(
+    kind: u32,
+    live_slot: u32,
+    live_len: u32,
+    rotating: u32,
+    candidate_len: u32,
+    store: &[u8],
+    identity: &[u8],
+    path: &[u8],
+    headers: &[u8],
+) -> u64
+    ensures { λ r. ⌜ r ≡ rpcProbeWord (probeRpc (recordOf kind «live_slot» «live_len» rotating «candidate_len») (now (store .entry)) (now (identity .entry)) (now (path .entry)) (now (headers .entry))) ⌝ }
+{
+    let r = Record {
+        kind: kind,
+        live_slot: live_slot,
+        live_len: live_len,
+        rotating: rotating,
+        candidate_len: candidate_len,
+    };
+    probe::rpcs::of_rpc(probe::rpcs::probe_rpc(r, store, identity, path, headers))
 }

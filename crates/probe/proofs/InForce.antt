@@ -58,11 +58,5 @@ module _ (r : Record) (n number kind : ℕ) (e : number ≡ probeRefusal kind r 
         subst-bounded : Bounded (inForce r) → (slot ≤ 1) × (len ≤ 32768)
         subst-bounded b = let k : inForce r ≡ Text slot len = sym g ∙ h in rw k at b
 
-    pub in-slot : slot ≤ 1
-    in-slot = bounds .0
-
-    pub in-length : len ≤ 32768
-    in-length = bounds .1
-
     pub in-store : slot * 32768 + len ≤ n
     in-store = let a = bounds .0 in let b = bounds .1 in let c = fine-store in omega arith

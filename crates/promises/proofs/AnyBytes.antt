@@ -16,7 +16,7 @@ use Rattle.rotation.specs.Calls.{stepped, start, uploadAnswer, upload, storedBy
 use Rattle.rotation.specs.declared.Record.{Record}
 use Rattle.upload.specs.Offered.{offeredCheck}
 use Rattle.burgee.specs.Word.{upper, filledWord, checkedWord}
-use Rattle.promises.specs.AnyBytes.{PublicCall, PathRead, PathWrite, TableCheck, GroupCount, PathVerdict, TreeVerdict, PolicyCheck, Start, Upload, Finalize, Close, ProbePath, ProbeTree, Lending, word, before, after, AnyBytes}
+use Rattle.promises.specs.AnyBytes.{PublicCall, PathRead, PathWrite, TableCheck, GroupCount, PathVerdict, TreeVerdict, PolicyCheck, RpcVerdict, Start, Upload, Finalize, Close, ProbePath, ProbeTree, ProbeRpc, Lending, word, before, after, AnyBytes}
 
 -- a length's word has nothing in bits 0 to 7
 length-word : (n : ℕ) → upper n % 2 ^ 8 ≡ 0
@@ -52,9 +52,11 @@ any-bytes (GroupCount table user) bad = refl
 any-bytes (PathVerdict table user mode origin path) bad = refl
 any-bytes (TreeVerdict table user mode origin path) bad = refl
 any-bytes (PolicyCheck policy) bad = refl
+any-bytes (RpcVerdict policy identity path headers) bad = refl
 any-bytes (Start rec store) bad = both-kept _ _ _ _ (record-kept _ _ _ bad) refl
 any-bytes (Upload rec store text) bad = both-kept _ _ _ _ (record-kept _ _ _ bad) (store-kept _ _ _ store text bad)
 any-bytes (Finalize rec store) bad = both-kept _ _ _ _ (record-kept _ _ _ bad) refl
 any-bytes (Close rec store) bad = both-kept _ _ _ _ (record-kept _ _ _ bad) refl
 any-bytes (ProbePath rec store user mode origin path) bad = refl
 any-bytes (ProbeTree rec store user mode origin path) bad = refl
+any-bytes (ProbeRpc rec store identity path headers) bad = refl

@@ -14,10 +14,13 @@ use Rattle.table.specs.Group.{groupCount}
 use Rattle.verdict_text.specs.Calls.{pathVerdict, treeVerdict, pathWord, treeWord}
 use Rattle.policy.specs.Policy.{judgement}
 use Rattle.policy_text.specs.Answer.{checkOf, wordOf}
+use Rattle.rpc.specs.Call.{rpcVerdict}
+use Rattle.rpc.specs.Verdict.{rpcWord}
 use Rattle.rotation.specs.Calls.{start, upload, uploadStore, finalize, close}
 use Rattle.rotation.specs.declared.Record.{Record}
 use Rattle.upload.specs.Offered.{offeredCheck}
 use Rattle.probe.specs.Probe.{probePath, probeTree}
+use Rattle.probe.specs.Rpc.{probeRpc, rpcProbeWord}
 use Rattle.burgee.specs.Word.{filledWord, checkedWord, countedWord}
 
 -- every public call, with what it is given
@@ -29,12 +32,14 @@ pub data PublicCall : Type 0 where
   PathVerdict : (table user : Str) (mode : ℕ) (origin path : Str) → PublicCall
   TreeVerdict : (table user : Str) (mode : ℕ) (origin path : Str) → PublicCall
   PolicyCheck : (policy : Str) → PublicCall
+  RpcVerdict : (policy identity path headers : Str) → PublicCall
   Start : (rec : Record) (store : Str) → PublicCall
   Upload : (rec : Record) (store text : Str) → PublicCall
   Finalize : (rec : Record) (store : Str) → PublicCall
   Close : (rec : Record) (store : Str) → PublicCall
   ProbePath : (rec : Record) (store user : Str) (mode : ℕ) (origin path : Str) → PublicCall
   ProbeTree : (rec : Record) (store user : Str) (mode : ℕ) (origin path : Str) → PublicCall
+  ProbeRpc : (rec : Record) (store identity path headers : Str) → PublicCall
 
 -- the word that it answers
 unfoldable pub word : PublicCall → ℕ
@@ -45,12 +50,14 @@ word (GroupCount table user) = countedWord (groupCount table user)
 word (PathVerdict table user mode origin path) = pathWord (pathVerdict table user mode origin path)
 word (TreeVerdict table user mode origin path) = treeWord (treeVerdict table user mode origin path)
 word (PolicyCheck policy) = wordOf (checkOf (judgement policy))
+word (RpcVerdict policy identity path headers) = rpcWord (rpcVerdict policy identity path headers)
 word (Start rec store) = checkedWord (start rec (length store) .answer)
 word (Upload rec store text) = checkedWord (upload offeredCheck rec (length store) text .answer)
 word (Finalize rec store) = checkedWord (finalize rec (length store) .answer)
 word (Close rec store) = checkedWord (close rec (length store) .answer)
 word (ProbePath rec store user mode origin path) = pathWord (probePath rec store user mode origin path)
 word (ProbeTree rec store user mode origin path) = treeWord (probeTree rec store user mode origin path)
+word (ProbeRpc rec store identity path headers) = rpcProbeWord (probeRpc rec store identity path headers)
 
 -- what is lent to be stored to: a record, and bytes
 pub record Lending : Type 0 where
@@ -69,12 +76,14 @@ before (GroupCount table user) = nothing
 before (PathVerdict table user mode origin path) = nothing
 before (TreeVerdict table user mode origin path) = nothing
 before (PolicyCheck policy) = nothing
+before (RpcVerdict policy identity path headers) = nothing
 before (Start rec store) = record { state = some rec; bytes = store }
 before (Upload rec store text) = record { state = some rec; bytes = store }
 before (Finalize rec store) = record { state = some rec; bytes = store }
 before (Close rec store) = record { state = some rec; bytes = store }
 before (ProbePath rec store user mode origin path) = nothing
 before (ProbeTree rec store user mode origin path) = nothing
+before (ProbeRpc rec store identity path headers) = nothing
 
 unfoldable pub after : PublicCall → Lending
 after (PathRead text out) = record { state = none; bytes = lent out (bytesFor text) }
@@ -84,12 +93,14 @@ after (GroupCount table user) = nothing
 after (PathVerdict table user mode origin path) = nothing
 after (TreeVerdict table user mode origin path) = nothing
 after (PolicyCheck policy) = nothing
+after (RpcVerdict policy identity path headers) = nothing
 after (Start rec store) = record { state = some (start rec (length store) .next); bytes = store }
 after (Upload rec store text) = record { state = some (upload offeredCheck rec (length store) text .next); bytes = uploadStore offeredCheck rec store text }
 after (Finalize rec store) = record { state = some (finalize rec (length store) .next); bytes = store }
 after (Close rec store) = record { state = some (close rec (length store) .next); bytes = store }
 after (ProbePath rec store user mode origin path) = nothing
 after (ProbeTree rec store user mode origin path) = nothing
+after (ProbeRpc rec store identity path headers) = nothing
 
 -- a word with a number in bits 0 to 7 is a refusal
 abbrev pub Refuses : PublicCall → Type 0

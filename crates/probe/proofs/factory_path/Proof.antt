@@ -1,9 +1,8 @@
 use borrow.Author.Needs.{needs}
 use native.Mathlib.Omega.{arith}
 use mathlib.Core.Path.{ap, _∙_}
-use mathlib.Core.Option.{Option}
 use Rattle.table.specs.declared.Checked.the-variants.{Accepted}
-use Rattle.verdict_text.specs.Calls.{requestRefusal, request, pathAnswer}
+use Rattle.verdict_text.specs.Calls.{pathAnswer}
 use Rattle.probe.proofs.Factory.{empty, ready, groups, no-decider}
 use Rattle.probe.proofs.factory_path.Statement.{statement}
 use Rattle.probe.proofs.factory_path.Tie as tie

@@ -1,9 +1,8 @@
 use borrow.Author.Needs.{needs}
 use native.Mathlib.Omega.{arith}
 use mathlib.Core.Path.{ap, _∙_}
-use mathlib.Core.Option.{Option}
 use Rattle.table.specs.declared.Checked.the-variants.{Accepted}
-use Rattle.verdict_text.specs.Calls.{requestRefusal, request, treeAnswer}
+use Rattle.verdict_text.specs.Calls.{treeAnswer}
 use Rattle.probe.proofs.Factory.{empty, ready, groups, no-tree}
 use Rattle.probe.proofs.factory_tree.Statement.{statement}
 use Rattle.probe.proofs.factory_tree.Tie as tie

@@ -1,7 +1,6 @@
 use borrow.Author.Needs.{needs}
-use mathlib.Core.Path.{refl}
 use Rattle.probe.specs.Probe.{pathOn}
-use Rattle.probe.proofs.InForce.{in-slot, in-length, in-store}
+use Rattle.probe.proofs.InForce.{in-store}
 use Rattle.probe.proofs.Probes.{path-refused, path-judged, path-text}
 use Rattle.probe.proofs.probe_path.Statement.{statement}
 use Rattle.probe.proofs.probe_path.Tie as tie

@@ -1,7 +1,6 @@
 use borrow.Author.Needs.{needs}
-use mathlib.Core.Path.{refl}
 use Rattle.probe.specs.Probe.{treeOn}
-use Rattle.probe.proofs.InForce.{in-slot, in-length, in-store}
+use Rattle.probe.proofs.InForce.{in-store}
 use Rattle.probe.proofs.Probes.{tree-refused, tree-judged, tree-text}
 use Rattle.probe.proofs.probe_tree.Statement.{statement}
 use Rattle.probe.proofs.probe_tree.Tie as tie

@@ -1,0 +1,21 @@
+-- The word of what `probe_rpc` answers.
+use borrow.Author.Needs.{needs}
+use mathlib.Core.Path.{ap, _∙_}
+use Rattle.probe.specs.Rpc.{rpcProbeWord}
+use Rattle.burgee.proofs.probes.burgee_probe_rpc.Statement.{statement}
+use Rattle.burgee.proofs.probes.burgee_probe_rpc.Tie as tie
+
+probe-rpc-requires : tie.Need-probe-rpc-requires
+probe-rpc-requires c κs = search needs
+
+of-rpc-requires : tie.Need-of-rpc-requires
+of-rpc-requires c κs = search needs
+
+returns : tie.Need-returns
+returns c =
+    let at-of-rpc = c .of-rpc in
+    let at-probe-rpc = c .before .probe-rpc in
+    at-of-rpc .ensures ∙ ap rpcProbeWord (at-probe-rpc .ensures)
+
+pub burgee-probe-rpc-spec : {M : Type 1} → statement M
+burgee-probe-rpc-spec = tie.close (tie.spec probe-rpc-requires of-rpc-requires returns)
