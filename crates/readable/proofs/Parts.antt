@@ -1,0 +1,2 @@
+-- Parts.
+use Prim.Native.Nat.{ℕ}
