@@ -140,9 +140,7 @@ packedCode n a b s at =
     else unread
 
 unfoldable pub packedPlain : ℕ → Reader Str
-packedPlain c = do
-  b ← literal c
-  ret []
+packedPlain c s at = if ltb at (length s) and eqb (getD s at 0) c then got [] (at + 1) else unread
 
 unfoldable pub packed : Parts
 packed = record { string = packedString; time = packedTime; path = packedPath; code = packedCode; plain = packedPlain }

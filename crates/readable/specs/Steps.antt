@@ -33,15 +33,16 @@ unfoldable pub roomFor : Str → ℕ
 roomFor [] = 0
 roomFor (c ∷ cs) = longest c + roomFor cs
 
--- what r reads of s at `at` was stored into d from `to` on, and nothing else, and is not longer than `most`; where it reads nothing, nothing is said of d
+-- what r reads of s at `at`, within s, was stored into d from `to` on, and nothing else, and is not longer than `most`; where it reads nothing,
+-- nothing is said of d
 pub data Puts (most : ℕ) (r : Reader Str) (s : Str) (at : ℕ) : List ℕ → ℕ → List ℕ → Stored → Type 0 where
-  puts : {w : Str} {t : ℕ} {d : List ℕ} {to : ℕ} {d′ : List ℕ} {end : ℕ} → r s at ≡ got w t → Wrote d to w d′ end → length w ≤ most
+  puts : {w : Str} {t : ℕ} {d : List ℕ} {to : ℕ} {d′ : List ℕ} {end : ℕ} → r s at ≡ got w t → Wrote d to w d′ end → length w ≤ most → t ≤ length s
       → Puts most r s at d to d′ (stored.To t end)
   stops : {d : List ℕ} {to : ℕ} {d′ : List ℕ} → r s at ≡ unread → Puts most r s at d to d′ stored.Unread
 
--- what there is fills the start of d, and nothing else does; where there is nothing, nothing is said of d
+-- what there is, at most 14,001 bytes, fills the start of d, and nothing else does; where there is nothing, nothing is said of d
 pub data Fills : Option Str → List ℕ → List ℕ → Stored → Type 0 where
-  fills : {w : Str} {d d′ : List ℕ} {next end : ℕ} → Wrote d 0 w d′ end → end ≤ length d → Fills (some w) d d′ (stored.To next end)
+  fills : {w : Str} {d d′ : List ℕ} {next end : ℕ} → Wrote d 0 w d′ end → end ≤ 14001 → Fills (some w) d d′ (stored.To next end)
   nothing : {d d′ : List ℕ} → Fills none d d′ stored.Unread
 
 -- the line of the text that starts at `from` goes over to the start of d; the next one starts at `next`

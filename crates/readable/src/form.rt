@@ -17,7 +17,14 @@ fn convert_part(packing: bool, c: u8, s: &[u8], at: usize, out: &mut [u8], to: u
 }
 
 // The parts that the form names, one after another.
-fn convert_parts(packing: bool, form: &[u8], s: &[u8], at: usize, out: &mut [u8], to: usize) -> Stored
+fn convert_parts(
+    packing: bool,
+    form: &[u8],
+    s: &[u8],
+    at: usize,
+    out: &mut [u8],
+    to: usize,
+) -> Stored
     requires { ⌜ (to + roomFor (now form) ≤ length (now out)) × (at ≤ length (now s)) ⌝ }
     ensures { λ r. ⌜ Puts (roomFor (now (form .entry))) (parts (partsBy packing) (now (form .entry))) (now (s .entry)) at (now (out .entry)) to (now (out .exit)) r ⌝ }
 {

@@ -1,9 +1,8 @@
 // The parts of a readable line, as the bytes of a frame.
 ghost use mathlib.Core.Path.{_≡_};
-ghost use Prim.Native.Nat.{ℕ, _+_, _≤_, _<_};
-ghost use mathlib.Core.List.{List};
+ghost use Prim.Native.Nat.{_+_, _≤_};
 ghost use lib.ListN.{length};
-ghost use Rattle.readable.specs.Form.{packed, partOf, standsAt, packedString, packedTime, packedPath, packedCode, packedPlain};
+ghost use Rattle.readable.specs.Form.{packed, partOf, standsAt, packedString, packedTime, packedPath, packedCode};
 ghost use Rattle.readable.specs.Steps.{Puts, longest};
 use line::Line;
 use path_text::Filled;
@@ -100,23 +99,6 @@ fn code(s: &[u8], at: usize, n: u8, a: &[u8], b: &[u8], out: &mut [u8], to: usiz
     Stored::Unread
 }
 
-// Nothing is stored for a byte that stands for itself.
-fn plain(c: u8, s: &[u8], at: usize, to: usize) -> Stored
-    requires { ⌜ at ≤ length (now s) ⌝ }
-    ensures { λ r. ⌜ ((d : List ℕ) → to ≤ length d → 0 < c → Puts 1 (packedPlain c) (now (s .entry)) at d to d r) ⌝ }
-{
-    if s.len() <= at {
-        return Stored::Unread;
-    }
-    if s[at] != c {
-        return Stored::Unread;
-    }
-    Stored::To {
-        next: at + 1,
-        end: to,
-    }
-}
-
 pub fn part(c: u8, s: &[u8], at: usize, out: &mut [u8], to: usize) -> Stored
     requires { ⌜ (to + longest c ≤ length (now out)) × (at ≤ length (now s)) ⌝ }
     ensures { λ r. ⌜ Puts (longest c) (partOf packed c) (now (s .entry)) at (now (out .entry)) to (now (out .exit)) r ⌝ }
@@ -139,5 +121,15 @@ pub fn part(c: u8, s: &[u8], at: usize, out: &mut [u8], to: usize) -> Stored
     if c == b'K' {
         return code(s, at, 0, b"user", b"group", out, to);
     }
-    plain(c, s, at, to)
+    // a byte that stands for itself: nothing is stored
+    if s.len() <= at {
+        return Stored::Unread;
+    }
+    if s[at] != c {
+        return Stored::Unread;
+    }
+    Stored::To {
+        next: at + 1,
+        end: to,
+    }
 }

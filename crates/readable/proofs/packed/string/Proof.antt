@@ -1,37 +1,40 @@
+-- `string` stores the string, which stands in brackets, with its length byte.
 use borrow.Author.Needs.{needs}
+use Rattle.readable.specs.Steps.{stops}
+use Rattle.readable.proofs.Packing.{string-past, string-unpacked, string-packs, value-fits}
 use Rattle.readable.proofs.packed.string.Statement.{statement}
 use Rattle.readable.proofs.packed.string.Tie as tie
-use Rattle.readable.proofs.packed.string.Reads as reads
-use Rattle.readable.proofs.packed.string.Lts as lts
-use Rattle.path_text.proofs.reader.read_value.Reads as read-value-reads
 
--- src/packed.rt:17:9
 returns : tie.Need-returns
-returns c = ?
+returns c =
+    let at-if1 = c .if1 in
+    stops (string-past _ _ (at-if1 .taken))
 
--- src/packed.rt:19:8
 shared-slice-read-if2 : tie.Need-shared-slice-read-if2
 shared-slice-read-if2 c = search needs
 
--- src/packed.rt:20:9
 returns-2 : tie.Need-returns-2
-returns-2 c = ?
+returns-2 c =
+    let at-if2 = c .if2 in
+    stops (string-unpacked _ _ (at-if2 .taken))
 
--- src/packed.rt:22:38
 add-read-value : tie.Need-add-read-value
 add-read-value c = search needs
 
--- src/packed.rt:22:5
 read-value-requires : tie.Need-read-value-requires
-read-value-requires c κs = search needs
+read-value-requires c κs =
+    let at-if1 = c .before .before .before .if1 in
+    let at-start = c .before .before .before .before .before .before in
+    value-fits _ _ _ _ (at-start .pre .0) (at-if1 .left)
 
--- src/packed.rt:12:1
 same-length : tie.Need-same-length
 same-length c = search needs
 
--- src/packed.rt:12:1
 returns-3 : tie.Need-returns-3
-returns-3 c = ?
+returns-3 c =
+    let at-read-value = c .before .before .read-value in
+    let at-if2 = c .before .before .before .before .if2 in
+    string-packs _ _ (at-if2 .left) (at-read-value .ensures)
 
 pub string-spec : {M : Type 1} → statement M
 string-spec =

@@ -1,70 +1,96 @@
+-- `path` stores the path with which the frame ends.
 use borrow.Author.Needs.{needs}
+use native.Mathlib.Omega.{arith}
+use mathlib.Core.Path.{refl, sym, ap, _∙_}
+use lib.ListN.{length-take, drop}
+use lib.Seq.{length-take-le}
+use Rattle.text.specs.Fill.{put}
+use Rattle.path_text.specs.Calls.{textFor}
+use Rattle.path_text.proofs.Longest.{text-bound}
+use Rattle.readable.specs.Steps.{stops}
+use Rattle.readable.proofs.Showing.{path-past, path-unshown, path-puts}
+use Rattle.readable.proofs.Showing.{answered, unanswered, taken, tail}
+use mathlib.Core.Path.{sym, ap, _∙_}
+use lib.ListN.{length-take}
+use Rattle.readable.proofs.Showing.{path-past, path-unshown, path-puts, answered, unanswered, taken, tail}
 use Rattle.readable.proofs.shown.path.Statement.{statement}
 use Rattle.readable.proofs.shown.path.Tie as tie
-use Rattle.readable.proofs.shown.path.Reads as reads
-use Rattle.readable.proofs.shown.path.Lts as lts
-use Rattle.path_text.proofs.writer.write_text.Reads as write-text-reads
-use Rattle.text.proofs.fill.copy.Reads as copy-reads
 
--- src/shown.rt:52:9
 returns : tie.Need-returns
-returns c = ?
+returns c =
+    let at-if1 = c .if1 in
+    stops (path-past _ _ (at-if1 .taken))
 
--- src/shown.rt:56:43
 sub-write-text : tie.Need-sub-write-text
 sub-write-text c = search needs
 
--- src/shown.rt:56:43
 part-write-text-start : tie.Need-part-write-text-start
 part-write-text-start c = search needs
 
--- src/shown.rt:56:43
 part-write-text-end : tie.Need-part-write-text-end
 part-write-text-end c = search needs
 
--- src/shown.rt:56:53
 slice-aggregate-write-text : tie.Need-slice-aggregate-write-text
 slice-aggregate-write-text c = search needs
 
--- src/shown.rt:56:9
 write-text-requires : tie.Need-write-text-requires
 write-text-requires c κs = search needs
 
--- src/shown.rt:57:24
 enum-known-w : tie.Need-enum-known-w
 enum-known-w c = search needs
 
--- src/shown.rt:58:9
 enum-told : tie.Need-enum-told
 enum-told c = search needs
 
--- src/shown.rt:58:9
 returns-2 : tie.Need-returns-2
-returns-2 c = ?
+returns-2 c =
+    let at-enum-told = c .enum-told in
+    let at-write-text = c .before .before .before .write-text in
+    let at-if1 = c .before .before .before .before .before .before .if1 in
+    let at-start = c .before .before .before .before .before .before .before .before .before in
+    stops (path-unshown (at-start .args .f .now) (at-start .args .at) (at-if1 .left)
+    (ap textFor (sym (tail (at-start .args .f .now) (at-start .args .at) (omega (arith, at-if1 .left)))) ∙ unanswered _ _ _ (at-write-text .ensures .0) (λ s e. text-bound _ s e) _ (at-enum-told .given .1)))
 
--- src/shown.rt:60:22
 array-share-prefix-text : tie.Need-array-share-prefix-text
-array-share-prefix-text c = ?
+array-share-prefix-text c =
+    let at-w = c .before .w in
+    let at-write-text = c .before .before .before .before .write-text in
+    let a = answered _ _ _ (at-write-text .ensures .0) _ (at-w .given .1) in omega (arith, a .3)
 
--- src/shown.rt:60:22
 slice-aggregate-copy : tie.Need-slice-aggregate-copy
-slice-aggregate-copy c = ?
+slice-aggregate-copy c =
+    let at-w = c .before .before .w in
+    let at-write-text = c .before .before .before .before .before .write-text in
+    let a = answered _ _ _ (at-write-text .ensures .0) _ (at-w .given .1) in sym (length-take-le _ _ (omega (arith, a .3)))
 
--- src/shown.rt:60:5
 copy-requires : tie.Need-copy-requires
-copy-requires c κs = ?
+copy-requires c κs =
+    let at-w = c .before .before .before .w in
+    let at-write-text = c .before .before .before .before .before .before .write-text in
+    let at-start = c .before .before .before .before .before .before .before .before .before .before .before .before in
+    let a = answered _ _ _ (at-write-text .ensures .0) _ (at-w .given .1) in simp length-take (omega (arith, a .3, at-start .pre))
 
--- src/shown.rt:63:14
 add-t20 : tie.Need-add-t20
-add-t20 c = ?
+add-t20 c =
+    let at-w = c .before .before .before .before .before .before .w in
+    let at-write-text = c .before .before .before .before .before .before .before .before .before .write-text in
+    let at-start = c .before .before .before .before .before .before .before .before .before .before .before .before .before .before .before in
+    let a = answered _ _ _ (at-write-text .ensures .0) _ (at-w .given .1) in omega (arith, a .3, at-start .pre)
 
--- src/shown.rt:47:1
 same-length : tie.Need-same-length
 same-length c = search needs
 
--- src/shown.rt:47:1
 returns-3 : tie.Need-returns-3
-returns-3 c = ?
+returns-3 c =
+    let at-copy = c .before .before .copy in
+    let at-w = c .before .before .before .before .before .before .w in
+    let at-write-text = c .before .before .before .before .before .before .before .before .before .write-text in
+    let at-if1 = c .before .before .before .before .before .before .before .before .before .before .before .before .if1 in
+    let at-start = c .before .before .before .before .before .before .before .before .before .before .before .before .before .before .before in
+    let a = answered _ _ _ (at-write-text .ensures .0) _ (at-w .given .1) in
+    path-puts (at-start .args .f .now) (at-start .args .at) (at-start .args .out .now) _ (a .0) _ _ (at-if1 .left)
+    (ap textFor (sym (tail (at-start .args .f .now) (at-start .args .at) (omega (arith, at-if1 .left)))) ∙ a .1)
+    (record { ends = omega (arith, a .2); same = at-copy .ensures ∙ ap (put (at-start .args .out .now) (at-start .args .to)) (taken _ _ (a .0) _ _ (a .2) (a .4) (at-write-text .ensures .1)) })
 
 pub path-spec : {M : Type 1} → statement M
 path-spec =

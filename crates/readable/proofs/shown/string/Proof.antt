@@ -1,74 +1,116 @@
+-- `string` stores the string in brackets.
 use borrow.Author.Needs.{needs}
+use native.Mathlib.Omega.{arith}
+use Rattle.text.proofs.Frames.{string-ends}
+use Rattle.path_text.proofs.Reading.{part-length}
+use Rattle.readable.specs.Steps.{stops}
+use Rattle.readable.proofs.Showing.{string-unshown, long-unshown, string-shown, value-fits, close-room, closed-long, string-puts}
 use Rattle.readable.proofs.shown.string.Statement.{statement}
 use Rattle.readable.proofs.shown.string.Tie as tie
-use Rattle.readable.proofs.shown.string.Reads as reads
-use Rattle.readable.proofs.shown.string.Lts as lts
-use Rattle.path_text.proofs.writer.write_value.Reads as write-value-reads
-use Rattle.text.proofs.frame.string_end.Reads as string-end-reads
 
--- src/shown.rt:15:9
 string-end-requires : tie.Need-string-end-requires
 string-end-requires c κs = search needs
 
--- src/shown.rt:16:17
 enum-known-e : tie.Need-enum-known-e
 enum-known-e c = search needs
 
--- src/shown.rt:17:9
 enum-told : tie.Need-enum-told
 enum-told c = search needs
 
--- src/shown.rt:17:9
 returns : tie.Need-returns
-returns c = ?
+returns c =
+    let at-enum-told = c .enum-told in
+    let at-string-end = c .before .before .string-end in
+    stops (string-unshown _ _ _ (at-string-end .ensures) (at-enum-told .given .1))
 
--- src/shown.rt:19:17
 add-start : tie.Need-add-start
-add-start c = ?
+add-start c =
+    let at-e = c .before .e in
+    let at-string-end = c .before .before .before .string-end in
+    let t = string-ends _ _ _ (at-string-end .ensures) _ (at-e .given .1) in omega (arith, t .1, t .2)
 
--- src/shown.rt:20:13
 sub-s : tie.Need-sub-s
-sub-s c = ?
+sub-s c =
+    let at-e = c .before .e in
+    let at-string-end = c .before .before .before .string-end in
+    string-ends _ _ _ (at-string-end .ensures) _ (at-e .given .1) .1
 
--- src/shown.rt:20:13
 part-s-start : tie.Need-part-s-start
-part-s-start c = ?
+part-s-start c =
+    let at-e = c .before .e in
+    let at-string-end = c .before .before .before .string-end in
+    string-ends _ _ _ (at-string-end .ensures) _ (at-e .given .1) .1
 
--- src/shown.rt:20:13
 part-s-end : tie.Need-part-s-end
-part-s-end c = ?
+part-s-end c =
+    let at-e = c .before .e in
+    let at-string-end = c .before .before .before .string-end in
+    string-ends _ _ _ (at-string-end .ensures) _ (at-e .given .1) .2
 
--- src/shown.rt:22:9
 returns-2 : tie.Need-returns-2
-returns-2 c = ?
+returns-2 c =
+    let at-if1 = c .if1 in
+    let at-e = c .before .before .before .e in
+    let at-string-end = c .before .before .before .before .before .string-end in
+    let at-start = c .before .before .before .before .before .before .before .before in
+    let t = string-ends _ _ _ (at-string-end .ensures) _ (at-e .given .1) in
+    stops (long-unshown _ _ _ (at-string-end .ensures) _ (at-e .given .1) (omega (arith, at-if1 .taken, part-length (at-start .args .f .now) _ _ (t .1) (t .2))))
 
--- src/shown.rt:24:5
 slice-write-out : tie.Need-slice-write-out
 slice-write-out c = search needs
 
--- src/shown.rt:25:56
 add-write-value : tie.Need-add-write-value
 add-write-value c = search needs
 
--- src/shown.rt:25:9
 write-value-requires : tie.Need-write-value-requires
-write-value-requires c κs = ?
+write-value-requires c κs =
+    let at-if1 = c .before .if1 in
+    let at-e = c .before .before .before .before .e in
+    let at-string-end = c .before .before .before .before .before .before .string-end in
+    let at-start = c .before .before .before .before .before .before .before .before .before in
+    let t = string-ends _ _ _ (at-string-end .ensures) _ (at-e .given .1) in
+    value-fits (at-start .args .out .now) _ _ (at-start .pre) (omega (arith, at-if1 .left, part-length (at-start .args .f .now) _ _ (t .1) (t .2)))
 
--- src/shown.rt:26:5
 slice-write-out-2 : tie.Need-slice-write-out-2
-slice-write-out-2 c = ?
+slice-write-out-2 c =
+    let at-write-value = c .before .before .write-value in
+    let at-if1 = c .before .before .before .before .if1 in
+    let at-e = c .before .before .before .before .before .before .before .e in
+    let at-string-end = c .before .before .before .before .before .before .before .before .before .string-end in
+    let at-start = c .before .before .before .before .before .before .before .before .before .before .before .before in
+    let t = string-ends _ _ _ (at-string-end .ensures) _ (at-e .given .1) in
+    close-room (at-start .args .out .now) _ _ (at-start .pre) (omega (arith, at-if1 .left, part-length (at-start .args .f .now) _ _ (t .1) (t .2))) _ _ (at-write-value .ensures) .0
 
--- src/shown.rt:29:14
 add-t11 : tie.Need-add-t11
-add-t11 c = ?
+add-t11 c =
+    let at-write-value = c .before .before .write-value in
+    let at-if1 = c .before .before .before .before .if1 in
+    let at-e = c .before .before .before .before .before .before .before .e in
+    let at-string-end = c .before .before .before .before .before .before .before .before .before .string-end in
+    let at-start = c .before .before .before .before .before .before .before .before .before .before .before .before in
+    let t = string-ends _ _ _ (at-string-end .ensures) _ (at-e .given .1) in
+    omega (arith, close-room (at-start .args .out .now) _ _ (at-start .pre) (omega (arith, at-if1 .left, part-length (at-start .args .f .now) _ _ (t .1) (t .2))) _ _ (at-write-value .ensures) .1)
 
--- src/shown.rt:11:1
 same-length : tie.Need-same-length
-same-length c = ?
+same-length c =
+    let at-write-value = c .before .before .write-value in
+    let at-if1 = c .before .before .before .before .if1 in
+    let at-e = c .before .before .before .before .before .before .before .e in
+    let at-string-end = c .before .before .before .before .before .before .before .before .before .string-end in
+    let at-start = c .before .before .before .before .before .before .before .before .before .before .before .before in
+    let t = string-ends _ _ _ (at-string-end .ensures) _ (at-e .given .1) in
+    closed-long (at-start .args .out .now) _ _ (at-start .pre) (omega (arith, at-if1 .left, part-length (at-start .args .f .now) _ _ (t .1) (t .2))) _ _ (at-write-value .ensures)
 
--- src/shown.rt:11:1
 returns-3 : tie.Need-returns-3
-returns-3 c = ?
+returns-3 c =
+    let at-write-value = c .before .before .write-value in
+    let at-if1 = c .before .before .before .before .if1 in
+    let at-e = c .before .before .before .before .before .before .before .e in
+    let at-string-end = c .before .before .before .before .before .before .before .before .before .string-end in
+    let at-start = c .before .before .before .before .before .before .before .before .before .before .before .before in
+    let t = string-ends _ _ _ (at-string-end .ensures) _ (at-e .given .1) in
+    string-puts (at-start .args .out .now) _ _ (at-start .pre) (omega (arith, at-if1 .left, part-length (at-start .args .f .now) _ _ (t .1) (t .2))) _ _ (at-write-value .ensures) _ _ _
+    (string-shown _ _ _ (at-string-end .ensures) _ (at-e .given .1) (omega (arith, at-if1 .left, part-length (at-start .args .f .now) _ _ (t .1) (t .2)))) (t .2)
 
 pub string-spec : {M : Type 1} → statement M
 string-spec =

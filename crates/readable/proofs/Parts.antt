@@ -1,2 +1,0 @@
--- Parts.
-use Prim.Native.Nat.{ℕ}
