@@ -53,7 +53,7 @@ module _ (s : Str) (at : ℕ) where
         rw (← drop-drop (length n) at s, e) (drop-at n rest (length n) refl),
       )
 
-  literal-gives : (b : ℕ) (rest : Str) → drop at s ≡ b ∷ rest → Gives (literal b s at) s b rest
+  pub literal-gives : (b : ℕ) (rest : Str) → drop at s ≡ b ∷ rest → Gives (literal b s at) s b rest
   unfolding literal if_then_else_
   literal-gives b rest e = let f = first-byte s at b rest e in (at + 1, rw (eq-eqb (getD s at 0) b (f .1)), f .2)
 
@@ -93,7 +93,7 @@ pub value-open : (n : ℕ) (s : Str) (at : ℕ) → eqb (getD s at 0) 93 ≡ fal
 unfolding value if_then_else_ _>>=_ ret
 value-open n s at e = rw e
 
-value-gives : (v : Str) (n : ℕ) (s : Str) (at : ℕ) (rest : Str) → length v ≤ n → drop at s ≡ joined escaped v ++ 93 ∷ rest → Gives (value n s at) s v rest
+pub value-gives : (v : Str) (n : ℕ) (s : Str) (at : ℕ) (rest : Str) → length v ≤ n → drop at s ≡ joined escaped v ++ 93 ∷ rest → Gives (value n s at) s v rest
 unfolding joined
 value-gives [] n s at rest h e = let f = first-byte s at 93 rest e in (at + 1, value-closed n s at (eq-eqb _ _ (f .1)), f .2)
 value-gives (b ∷ v) zero s at rest h e = absurd (omega arith)

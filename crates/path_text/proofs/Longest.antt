@@ -27,7 +27,7 @@ escaped-length : (b : ℕ) → length (escaped b) ≤ 2
 unfolding escaped if_then_else_
 escaped-length b = by (isMark b) (λ e. rw e (omega arith)) (λ e. rw e (omega arith))
 
-value-length : (v : Str) → length (joined escaped v) ≤ 2 * length v
+pub value-length : (v : Str) → length (joined escaped v) ≤ 2 * length v
 unfolding joined
 value-length [] = omega arith
 value-length (b ∷ v) = omega (arith, length-append (escaped b) (joined escaped v), escaped-length b, value-length v)

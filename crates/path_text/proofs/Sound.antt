@@ -31,7 +31,7 @@ module _ (s : Str) (at : ℕ) where
   byte-took : (b : ℕ) → 0 < b → getD s at 0 ≡ b → Took s at (b ∷ []) (at + 1)
   byte-took b h e = rw (← e) (one-took (inside b h e))
 
-  literal-took : (b c t : ℕ) → 0 < b → literal b s at ≡ got c t → Took s at (b ∷ []) t
+  pub literal-took : (b c t : ℕ) → 0 < b → literal b s at ≡ got c t → Took s at (b ∷ []) t
   unfolding literal if_then_else_
   literal-took b c t h e =
       by (eqb (getD s at 0) b)
@@ -109,7 +109,7 @@ item-inside s at b t e =
 closed : (s : Str) (at : ℕ) → eqb (getD s at 0) 93 ≡ true → Took s at (joined escaped [] ++ 93 ∷ []) (at + 1)
 closed s at e = rw (joined-nil escaped) (byte-took s at 93 (omega arith) (eqb-true _ _ e))
 
-value-took : (n : ℕ) (s : Str) (at : ℕ) (v : Str) (t : ℕ) → value n s at ≡ got v t → Took s at (joined escaped v ++ 93 ∷ []) t
+pub value-took : (n : ℕ) (s : Str) (at : ℕ) (v : Str) (t : ℕ) → value n s at ≡ got v t → Took s at (joined escaped v ++ 93 ∷ []) t
 unfolding value if_then_else_ _>>=_ ret
 value-took zero s at v t e =
     by (eqb (getD s at 0) 93)

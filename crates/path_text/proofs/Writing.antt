@@ -42,11 +42,11 @@ module _ (d : List ℕ) (at b : ℕ) (h : at + length (escaped b) ≤ length d) 
 
 -- ---- a value
 
-joined-here : (w : ℕ → Str) (v : Str) (i : ℕ) → i < length v → joined w (drop i v) ≡ w (getD v i 0) ++ joined w (drop (i + 1) v)
+pub joined-here : (w : ℕ → Str) (v : Str) (i : ℕ) → i < length v → joined w (drop i v) ≡ w (getD v i 0) ++ joined w (drop (i + 1) v)
 unfolding joined
 joined-here w v i h = rw (add-one, drop-cons v i 0 h)
 
-joined-end : (w : ℕ → Str) (v : Str) (i : ℕ) → length v ≤ i → joined w (drop i v) ≡ []
+pub joined-end : (w : ℕ → Str) (v : Str) (i : ℕ) → length v ≤ i → joined w (drop i v) ≡ []
 unfolding joined
 joined-end w v i h = rw (drop-of-length-le v h)
 

@@ -124,7 +124,7 @@ fn read_plain(text: &[u8], at: usize, out: &mut [u8], to: usize) -> Stored
 }
 
 // A value with its length byte.
-fn read_value(text: &[u8], at: usize, out: &mut [u8], to: usize) -> Stored
+pub fn read_value(text: &[u8], at: usize, out: &mut [u8], to: usize) -> Stored
     requires { ⌜ Room 65 1 (now text) at (now out) to ⌝ }
     ensures { λ r. ⌜ Stores 65 1 stringBytes (value 64) (now (text .entry)) at (now (out .entry)) to (now (out .exit)) r ⌝ }
 {

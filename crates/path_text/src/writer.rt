@@ -33,7 +33,7 @@ fn write_byte(b: u8, out: &mut [u8], at: usize) -> usize
     at + 1
 }
 
-fn write_value(v: &[u8], out: &mut [u8], at: usize) -> usize
+pub fn write_value(v: &[u8], out: &mut [u8], at: usize) -> usize
     requires { ⌜ at + length (joined escaped (now v)) ≤ length (now out) ⌝ }
     ensures { λ r. ⌜ Wrote (now (out .entry)) at (joined escaped (now (v .entry))) (now (out .exit)) r ⌝ }
 {

@@ -1,0 +1,206 @@
+-- One step of each program that shows a part of a frame.
+use mathlib.Core.Path.{_≡_, refl, sym, ap, _∙_}
+use mathlib.Core.Bool.{Bool, true, false}
+use mathlib.Core.List.{List, [], _∷_, _++_}
+use mathlib.Core.Option.{Option, none, some}
+use Prim.Native.Nat.{ℕ, _+_, _-_, _≤_, _<_}
+use native.Mathlib.Omega.{arith}
+use borrow.Author.Tests.{eq-eqb, ne-eqb, lt-ltb, le-ltb, le-leb, lt-leb, leb-true}
+use lib.Dec.{leb}
+use lib.ListN.{length, take, drop, getD, set, length-append, length-drop}
+use lib.Seq.{take-all}
+use Rattle.text.specs.Test.{if_then_else_}
+use Rattle.text.specs.String.{Str, joined}
+use Rattle.text.specs.Frame.{Parsed, got, unread, Reader, _>>=_, ret, part, string, endOf}
+use Rattle.text.specs.Fill.{put, Wrote}
+use Rattle.text.specs.declared.frame.End.{End}
+use Rattle.text.specs.declared.frame.End.the-variants as ends
+use Rattle.text.proofs.Tests.{by}
+use Rattle.text.proofs.Frames.{byte-got, byte-unread, string-ends, string-misses}
+use Rattle.text.proofs.Filling.{Pending, fill-start, fill-room, fill-put, fill-set, fill-byte, wrote, wrote-byte}
+use Rattle.path_text.specs.Text.{escaped}
+use Rattle.path_text.specs.Calls.{answer, lent, textFor}
+use Rattle.path_text.specs.declared.Filled.{Filled}
+use Rattle.path_text.specs.declared.Filled.the-variants.{Length, Refused}
+use Rattle.path_text.specs.declared.reader.Stored.{Stored}
+use Rattle.path_text.specs.declared.reader.Stored.the-variants.{To, Unread}
+use Rattle.path_text.proofs.Longest.{value-length, text-bound}
+use Rattle.table.specs.Frame.{unknown}
+use Rattle.readable.specs.Form.{Parts, partOf, rest, quoted, hexText, shownString, shownTime, shownPath, shownCode, shownPlain, shown}
+use Rattle.readable.specs.Steps.{longest, Puts, puts, stops}
+use Rattle.readable.proofs.Stored.{front}
+use Rattle.readable.proofs.Digits.{hex-length}
+
+-- ---- which part it is
+
+module _ (p : Parts) (c : ℕ) where
+  pub is-string : c ≡ 83 → (partOf p c ≡ p .string) × (longest c ≡ 130)
+  unfolding partOf longest if_then_else_
+  is-string e = (rw e, rw e)
+
+  pub is-time : c ≡ 84 → (partOf p c ≡ p .time) × (longest c ≡ 16)
+  unfolding partOf longest if_then_else_
+  is-time e = (rw e, rw e)
+
+  pub is-path : c ≡ 80 → (partOf p c ≡ p .path) × (longest c ≡ 13520)
+  unfolding partOf longest if_then_else_
+  is-path e = (rw e, rw e)
+
+  pub is-action : c ≡ 65 → (partOf p c ≡ p .code 0 (100 ∷ 101 ∷ 110 ∷ 121 ∷ []) (112 ∷ 101 ∷ 114 ∷ 109 ∷ 105 ∷ 116 ∷ [])) × (longest c ≡ 6)
+  unfolding partOf longest if_then_else_
+  is-action e = (rw e, rw e)
+
+  pub is-mode : c ≡ 77 → (partOf p c ≡ p .code 1 (114 ∷ 101 ∷ 97 ∷ 100 ∷ []) (119 ∷ 114 ∷ 105 ∷ 116 ∷ 101 ∷ [])) × (longest c ≡ 6)
+  unfolding partOf longest if_then_else_
+  is-mode e = (rw e, rw e)
+
+  pub is-subject : c ≡ 75 → (partOf p c ≡ p .code 0 (117 ∷ 115 ∷ 101 ∷ 114 ∷ []) (103 ∷ 114 ∷ 111 ∷ 117 ∷ 112 ∷ [])) × (longest c ≡ 6)
+  unfolding partOf longest if_then_else_
+  is-subject e = (rw e, rw e)
+
+  pub is-plain : (c ≡ 83 → ⊥) → (c ≡ 84 → ⊥) → (c ≡ 80 → ⊥) → (c ≡ 65 → ⊥) → (c ≡ 77 → ⊥) → (c ≡ 75 → ⊥) → (partOf p c ≡ p .plain c) × (longest c ≡ 1)
+  unfolding partOf longest if_then_else_
+  is-plain s t q a m k =
+      (rw (ne-eqb c 83 s, ne-eqb c 84 t, ne-eqb c 80 q, ne-eqb c 65 a, ne-eqb c 77 m, ne-eqb c 75 k), rw (ne-eqb c 83 s, ne-eqb c 84 t, ne-eqb c 80 q, ne-eqb c 65 a, ne-eqb c 77 m, ne-eqb c 75 k))
+
+  pub put-as : {r : Reader Str} {m : ℕ} {s : Str} {at : ℕ} {d : List ℕ} {to : ℕ} {d′ : List ℕ} {q : Stored} → (partOf p c ≡ r) × (longest c ≡ m)
+      → Puts m r s at d to d′ q → Puts (longest c) (partOf p c) s at d to d′ q
+  put-as e h = rw (e .0, e .1) h
+
+-- ---- what path text answers
+
+module _ (out : List ℕ) (o : Option Str) (w : Filled) (i : w ≡ answer out o) where
+  pub answered : (n : ℕ) → w ≡ Length n → (s : Str) × (o ≡ some s) × (n ≡ length s) × (n ≤ length out) × (lent out o ≡ put out 0 s)
+  unfolding answer lent if_then_else_
+  answered n e = go o refl (sym e ∙ i)
+    where
+      go : (x : Option Str) → o ≡ x → Length n ≡ answer out x → (s : Str) × (o ≡ some s) × (n ≡ length s) × (n ≤ length out) × (lent out o ≡ put out 0 s)
+      go none j h = let z : _≡_ {A = ℕ} 0 1 = cc in absurd (omega arith)
+      go (some s) j h =
+          by (leb (length s) (length out))
+          (λ u. let h′ : Length n ≡ Length (length s) = h ∙ rw u in
+          let k : n ≡ length s = cc in (s, j, k, omega (arith, leb-true (length s) (length out) u), rw (j, u)))
+          (λ u. let h′ : Length n ≡ Refused 23 = h ∙ rw u in let z : _≡_ {A = ℕ} 0 1 = cc in absurd (omega arith))
+
+  pub unanswered : ((s : Str) → o ≡ some s → length s ≤ length out) → (k : ℕ) → w ≡ Refused k → o ≡ none
+  unfolding answer if_then_else_
+  unanswered b k e = go o refl (sym e ∙ i)
+    where
+      go : (x : Option Str) → o ≡ x → Refused k ≡ answer out x → o ≡ none
+      go none j h = j
+      go (some s) j h =
+          let h′ : Refused k ≡ Length (length s) = h ∙ rw (le-leb _ _ (b s j)) in
+          let z : _≡_ {A = ℕ} 0 1 = cc in absurd (omega arith)
+
+-- the result, in the buffer that it was made in
+pub taken : (z : List ℕ) (o : Option Str) (s t : Str) (n : ℕ) → n ≡ length s → lent z o ≡ put z 0 s → t ≡ lent z o → take n t ≡ s
+taken z o s t n e i j = front z s t n (record { ends = omega (arith, e); same = j ∙ i })
+
+pub tail : (f : List ℕ) (at : ℕ) → at ≤ length f → take (length f - at) (drop at f) ≡ drop at f
+tail f at h = take-all (length f - at) (drop at f) (omega (arith, length-drop at f))
+
+-- ---- strings
+
+module _ (f : Str) (at : ℕ) (r : End) (e : r ≡ endOf (string f at)) where
+  pub string-unshown : r ≡ ends.Unread → shownString f at ≡ unread
+  unfolding shownString _>>=_
+  string-unshown g = rw (string-misses f at r e g)
+
+  module _ (t : ℕ) (g : r ≡ ends.At t) where
+    pub long-unshown : 64 < length (part f (at + 1) t) → shownString f at ≡ unread
+    unfolding shownString _>>=_ if_then_else_ unknown
+    long-unshown h = rw (string-ends f at r e t g .0, lt-leb _ _ h)
+
+    pub string-shown : length (part f (at + 1) t) ≤ 64 → shownString f at ≡ got (quoted (part f (at + 1) t)) t
+    unfolding shownString _>>=_ if_then_else_ ret
+    string-shown h = rw (string-ends f at r e t g .0, le-leb _ _ h)
+
+module _ (d : List ℕ) (to : ℕ) (s : Str) (h : to + 130 ≤ length d) (l : length s ≤ 64) where
+  pub quoted-length : length (quoted s) ≤ 130
+  unfolding quoted
+  quoted-length = omega (arith, length-append (joined escaped s) (93 ∷ []), value-length s)
+
+  quoted-start : Pending d to (quoted s) d to (91 ∷ (joined escaped s ++ (93 ∷ [])))
+  unfolding quoted
+  quoted-start = fill-start d to (91 ∷ (joined escaped s ++ (93 ∷ []))) (omega (arith, length-append (joined escaped s) (93 ∷ []), value-length s))
+
+  opened : Pending d to (quoted s) (set d to 91) (to + 1) (joined escaped s ++ (93 ∷ []))
+  opened = fill-set d to (quoted s) d to 91 _ quoted-start
+
+  pub value-fits : to + 1 + length (joined escaped s) ≤ length (set d to 91)
+  value-fits = fill-room d to (quoted s) (set d to 91) (to + 1) (joined escaped s) (93 ∷ []) opened
+
+  module _ (d′ : List ℕ) (close : ℕ) (w : Wrote (set d to 91) (to + 1) (joined escaped s) d′ close) where
+    closing : Pending d to (quoted s) d′ close (93 ∷ [])
+    closing = fill-put d to (quoted s) (set d to 91) (to + 1) (joined escaped s) (93 ∷ []) d′ close opened (w .ends) (w .same)
+
+    pub close-room : (close < length d′) × (close < length d)
+    close-room = let b = fill-byte d to (quoted s) d′ close 93 [] closing in (b, omega (arith, b, closing .long))
+
+    closed : Pending d to (quoted s) (set d′ close 93) (close + 1) []
+    closed = fill-set d to (quoted s) d′ close 93 [] closing
+
+    pub closed-long : length (set d′ close 93) ≡ length d
+    closed-long = closed .long
+
+    pub string-puts : (f : Str) (at t : ℕ) → shownString f at ≡ got (quoted s) t → t ≤ length f → Puts 130 shownString f at d to (set d′ close 93) (To t (close + 1))
+    string-puts f at t e i = puts e (wrote d to (quoted s) _ _ closed) quoted-length i
+
+-- ---- the time
+
+module _ (f : Str) (at : ℕ) where
+  pub time-unshown : (length f - at ≡ 8 → ⊥) → shownTime f at ≡ unread
+  unfolding shownTime if_then_else_
+  time-unshown h = rw (ne-eqb _ _ h)
+
+  pub time-fits : (d : List ℕ) (to : ℕ) → to + 16 ≤ length d → length f - at ≡ 8 → to + length (hexText (drop at f)) ≤ length d
+  time-fits d to r h = omega (arith, hex-length (drop at f), length-drop at f)
+
+  pub time-puts : (d : List ℕ) (to : ℕ) (d′ : List ℕ) (end : ℕ) → length f - at ≡ 8 → Wrote d to (hexText (drop at f)) d′ end → Puts 16 shownTime f at d to d′ (To (length f) end)
+  unfolding shownTime if_then_else_
+  time-puts d to d′ end h w =
+      let e : shownTime f at ≡ got (hexText (drop at f)) (length f) = rw (eq-eqb _ _ h) in
+      puts e w (omega (arith, hex-length (drop at f), length-drop at f)) (omega arith)
+
+-- ---- paths
+
+module _ (f : Str) (at : ℕ) where
+  pub path-past : length f ≤ at → shownPath f at ≡ unread
+  unfolding shownPath if_then_else_
+  path-past h = rw (le-ltb _ _ h)
+
+  pub path-unshown : at < length f → textFor (drop at f) ≡ none → shownPath f at ≡ unread
+  unfolding shownPath if_then_else_ rest
+  path-unshown h e = rw (lt-ltb _ _ h, e)
+
+  pub path-puts : (d : List ℕ) (to : ℕ) (s d′ : List ℕ) (end : ℕ) → at < length f → textFor (drop at f) ≡ some s → Wrote d to s d′ end → Puts 13520 shownPath f at d to d′ (To (length f) end)
+  unfolding shownPath if_then_else_ rest
+  path-puts d to s d′ end h e w =
+      let i : shownPath f at ≡ got s (length f) = rw (lt-ltb _ _ h, e) in
+      puts i w (text-bound (drop at f) s e) (omega arith)
+
+-- ---- codes
+
+module _ (n : ℕ) (a b f : Str) (at : ℕ) where
+  pub code-past : length f ≤ at → shownCode n a b f at ≡ unread
+  unfolding shownCode _>>=_
+  code-past h = rw (byte-unread f at h)
+
+  module _ (h : at < length f) where
+    pub code-first : getD f at 0 ≡ n → shownCode n a b f at ≡ got a (at + 1)
+    unfolding shownCode _>>=_ if_then_else_ ret
+    code-first e = rw (byte-got f at h, eq-eqb _ _ e)
+
+    pub code-second : (getD f at 0 ≡ n → ⊥) → getD f at 0 ≡ n + 1 → shownCode n a b f at ≡ got b (at + 1)
+    unfolding shownCode _>>=_ if_then_else_ ret
+    code-second x e = rw (byte-got f at h, ne-eqb _ _ x, eq-eqb _ _ e)
+
+    pub code-other : (getD f at 0 ≡ n → ⊥) → (getD f at 0 ≡ n + 1 → ⊥) → shownCode n a b f at ≡ unread
+    unfolding shownCode _>>=_ if_then_else_ unknown
+    code-other x y = rw (byte-got f at h, ne-eqb _ _ x, ne-eqb _ _ y)
+
+-- ---- a byte that stands for itself
+
+pub plain-puts : (c : ℕ) (f : Str) (at : ℕ) (d : List ℕ) (to : ℕ) → to + 1 ≤ length d → at ≤ length f → Puts 1 (shownPlain c) f at d to (set d to c) (To at (to + 1))
+unfolding shownPlain ret
+plain-puts c f at d to h i = puts refl (wrote-byte d to c (omega arith)) (omega arith) i

@@ -1,0 +1,164 @@
+// The readable form of a rule table: `show` makes it, `pack` makes the table's text of it.
+ghost use mathlib.Core.Path.{_≡_};
+ghost use mathlib.Core.Bool.{false};
+ghost use Prim.Native.Nat.{_≤_, _<_};
+ghost use lib.ListN.{length};
+ghost use Rattle.text.specs.Fill.{put};
+ghost use Rattle.line.specs.Lines.{lines};
+ghost use Rattle.table.specs.Text.{check};
+ghost use Rattle.readable.specs.Lines.{shownLine, packedLine, lineBy, ending, stored, showAnswer, showLent, madeAnswer, madeLent, packAnswer, packLent, packedEnd, packedTable};
+ghost use Rattle.readable.specs.Steps.{Lays};
+use line::Line;
+use path_text::reader::Stored;
+use table::Checked;
+
+pub mod form;
+pub mod hex;
+pub mod packed;
+pub mod shown;
+
+// Of `show` and `pack`.
+pub enum Converted {
+    // The start of the lent buffer is the result, which has this length.
+    Length(usize),
+    // The table's refusal.
+    Refused { number: u8, line: usize },
+    // A line that is not of the form.
+    Unread { line: usize },
+    NoRoom,
+}
+
+// Of the lines of a text, stored one after another.
+pub enum Ended {
+    All(usize),
+    Unread { line: usize },
+    Full,
+}
+
+// The readable line of the table's line that starts at `from`.
+fn show_line(text: &[u8], from: usize, out: &mut [u8]) -> Stored
+    requires { ⌜ (from < length (now text)) × (length (now text) ≤ 32768) × (32769 ≤ length (now out)) ⌝ }
+    ensures { λ r. ⌜ Lays shownLine (now (text .entry)) from (now (out .entry)) (now (out .exit)) r ⌝ }
+{
+    let mut frame = [0u8; 16384];
+    let l = line::read_line(text, from, &mut frame, 0);
+    let Line::Frame { len, next } = l else {
+        return Stored::Unread;
+    };
+    let s = crate::form::show_frame(&frame[..len], out);
+    let Stored::To { next: _, end } = s else {
+        return Stored::Unread;
+    };
+    out[end] = 10;
+    Stored::To {
+        next: next,
+        end: end + 1,
+    }
+}
+
+// The table's line of the readable line that starts at `from`.
+fn pack_line(text: &[u8], from: usize, out: &mut [u8]) -> Stored
+    requires { ⌜ (from < length (now text)) × (32769 ≤ length (now out)) ⌝ }
+    ensures { λ r. ⌜ Lays packedLine (now (text .entry)) from (now (out .entry)) (now (out .exit)) r ⌝ }
+{
+    let stop = path_text::reader::find(text, from, 10, 10);
+    if text.len() <= stop {
+        return Stored::Unread;
+    }
+    let mut frame = [0u8; 16384];
+    let s = crate::form::pack_frame(&text[from..stop], &mut frame);
+    let Stored::To { next: _, end } = s else {
+        return Stored::Unread;
+    };
+    let close = crate::hex::write_hex(&frame[..end], out, 0);
+    out[close] = 10;
+    Stored::To {
+        next: stop + 1,
+        end: close + 1,
+    }
+}
+
+fn convert_line(packing: bool, text: &[u8], from: usize, out: &mut [u8]) -> Stored
+    requires { ⌜ (from < length (now text)) × (packing ≡ false → length (now text) ≤ 32768) × (32769 ≤ length (now out)) ⌝ }
+    ensures { λ r. ⌜ Lays (lineBy packing) (now (text .entry)) from (now (out .entry)) (now (out .exit)) r ⌝ }
+{
+    if packing {
+        return pack_line(text, from, out);
+    }
+    show_line(text, from, out)
+}
+
+// The lines one after another into out.
+fn convert_lines(packing: bool, text: &[u8], out: &mut [u8]) -> Ended
+    requires { ⌜ (packing ≡ false → length (now text) ≤ 32768) ⌝ }
+    ensures { λ r. ⌜ (r ≡ ending (lineBy packing) (length (now (out .entry))) 1 0 (lines (now (text .entry)))) × (now (out .exit) ≡ put (now (out .entry)) 0 (stored (lineBy packing) (length (now (out .entry))) 0 (lines (now (text .entry))))) ⌝ }
+{
+    let mut piece = [0u8; 32769];
+    let mut from = 0;
+    let mut at = 0;
+    let mut number = 1;
+    while from < text.len() {
+        let s = convert_line(packing, text, from, &mut piece);
+        let Stored::To { next, end } = s else {
+            return Ended::Unread { line: number };
+        };
+        if out.len() - at < end {
+            return Ended::Full;
+        }
+        text::fill::copy(&piece[..end], out, at);
+        at += end;
+        from = next;
+        number += 1;
+    }
+    Ended::All(at)
+}
+
+// A table text to its readable text.
+pub fn show(table: &[u8], out: &mut [u8]) -> Converted
+    ensures { λ r. ⌜ (r ≡ showAnswer (check (now (table .entry))) (now (table .entry)) (now (out .entry))) × (now (out .exit) ≡ showLent (check (now (table .entry))) (now (table .entry)) (now (out .entry))) ⌝ }
+{
+    let c = groups::check_table(table);
+    if let Checked::Refused { number, line } = c {
+        return Converted::Refused {
+            number: number,
+            line: line,
+        };
+    }
+    let e = convert_lines(false, table, out);
+    match e {
+        Ended::All(n) => Converted::Length(n),
+        Ended::Unread { line } => Converted::Unread { line: line },
+        Ended::Full => Converted::NoRoom,
+    }
+}
+
+// The table that was made, where it is one and there is room.
+fn hand_out(table: &[u8], out: &mut [u8]) -> Converted
+    ensures { λ r. ⌜ (r ≡ madeAnswer (check (now (table .entry))) (now (table .entry)) (now (out .entry))) × (now (out .exit) ≡ madeLent (check (now (table .entry))) (now (table .entry)) (now (out .entry))) ⌝ }
+{
+    let c = groups::check_table(table);
+    if let Checked::Refused { number, line } = c {
+        return Converted::Refused {
+            number: number,
+            line: line,
+        };
+    }
+    if out.len() < table.len() {
+        return Converted::NoRoom;
+    }
+    text::fill::copy(table, out, 0);
+    Converted::Length(table.len())
+}
+
+// A readable text to its table text.
+pub fn pack(text: &[u8], out: &mut [u8]) -> Converted
+    ensures { λ r. ⌜ (r ≡ packAnswer (packedEnd (now (text .entry))) (packedTable (now (text .entry))) (now (out .entry))) × (now (out .exit) ≡ packLent (packedEnd (now (text .entry))) (packedTable (now (text .entry))) (now (out .entry))) ⌝ }
+{
+    let mut table = [0u8; 32768];
+    let e = convert_lines(true, text, &mut table);
+    match e {
+        Ended::All(n) => hand_out(&table[..n], out),
+        Ended::Unread { line } => Converted::Unread { line: line },
+        Ended::Full => Converted::Refused { number: 1, line: 0 },
+    }
+}
