@@ -4,11 +4,11 @@ use mathlib.Core.Bool.{Bool, true, false, not}
 use mathlib.Core.List.{List, [], _∷_}
 use mathlib.Core.Option.{Option, none, some}
 use Prim.Native.Nat.{ℕ, suc}
-use Rattle.text.specs.Test.{_and_, _or_, if_then_else_, any}
-use Rattle.text.proofs.Tests.{by, clash}
-use Rattle.policy.specs.Policy.{Rule, Policy}
+use Rattle.text.specs.Test.{_and_, _or_, if_then_else_, _∈_, any}
+use Rattle.text.proofs.Tests.{by, clash, and-r, all→}
+use Rattle.policy.specs.Policy.{Header, Rule, Policy}
 use Rattle.rpc.specs.Request.{Request}
-use Rattle.rpc.specs.Verdict.{ruleMatches, firstFrom, allowed, decided, verdict, permits}
+use Rattle.rpc.specs.Verdict.{headerMatches, ruleMatches, firstFrom, allowed, decided, verdict, permits}
 use Rattle.rpc.specs.declared.verdict.Verdict.{Verdict}
 use Rattle.rpc.specs.declared.verdict.Verdict.the-variants.{Refused, Denied, Permitted, Default}
 
@@ -27,6 +27,11 @@ no-and : (b : Bool) → (b and false) ≡ false
 unfolding _and_
 no-and true = refl
 no-and false = refl
+
+-- "headers must all match"
+pub each-header : (r : Request) (u : Rule) (h : Header) → h ∈ u .headers → headerMatches r h ≡ false → ruleMatches r u ≡ false
+unfolding ruleMatches
+each-header r u h m e = by (ruleMatches r u) (λ t. clash (all→ (headerMatches r) (u .headers) (and-r _ _ (and-r _ _ t)) h m) e) (λ t. t)
 
 module _ (p : Policy) (r : Request) where
   -- "If a request matches any of the deny rules, then it will be denied."
