@@ -14,7 +14,8 @@ use Rattle.place.specs.Place.{strEnd, strIn}
 use Rattle.place.proofs.Cursor.{str-grows, path-room}
 use Rattle.judge.specs.Rules.{idAt, originAt, pathAt, ruleIn, ruleEnd}
 use Rattle.judge.proofs.Parts.{rule-room}
-use Rattle.concern.specs.Concern.{hasOf, concernsBy, appliesBy}
+use Rattle.groups.specs.Set.{hasOf}
+use Rattle.concern.specs.Concern.{concernsBy, appliesBy}
 
 module _ (f : List ℕ) (s : ℕ) where
   pub by-group : getD f (s + 2) 0 ≡ 1 → ruleIn f s .byGroup ≡ true

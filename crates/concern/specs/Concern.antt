@@ -1,5 +1,5 @@
 -- Which rules concern a request: by its mode, its origin, its user, and the set of the user's groups.
-use Prim.Native.Nat.{ℕ, _/_, _%_, _^_, _<_}
+use Prim.Native.Nat.{ℕ, _<_}
 use mathlib.Core.Path.{_≡_}
 use mathlib.Core.Bool.{Bool, true}
 use mathlib.Core.List.{List}
@@ -8,11 +8,8 @@ use lib.ListN.{getD}
 use Rattle.text.specs.Test.{_and_, if_then_else_}
 use Rattle.text.specs.String.{Str, same}
 use Rattle.table.specs.Table.{Rule}
+use Rattle.groups.specs.Set.{hasOf}
 use Rattle.judge.specs.Rules.{ruleIn}
-
--- "a set over at most 64 groups": group g is in it where the binary digit at g is 1
-abbrev pub hasOf : ℕ → ℕ → Bool
-hasOf set g = eqb (set / 2 ^ g % 2) 1
 
 -- of a rule whose subject, if it is a group, has the number g
 unfoldable pub concernsBy : ℕ → ℕ → Str → Rule → Bool

@@ -5,27 +5,9 @@ ghost use Prim.Native.Nat.{_≤_, _<_};
 ghost use lib.Dec.{eqb};
 ghost use lib.ListN.{length, getD};
 ghost use Rattle.judge.specs.Rules.{ruleIn, ruleEnd, Laid};
-ghost use Rattle.concern.specs.Concern.{hasOf, concernsBy, appliesBy, Few, Applying};
+ghost use Rattle.concern.specs.Concern.{concernsBy, appliesBy, Few, Applying};
 use table::GroupNumber;
 use table::RuleNumber;
-
-// Whether a group is in a set of groups.
-pub fn has(set: u64, g: GroupNumber) -> bool
-    requires { ⌜ g .0 < 64 ⌝ }
-    ensures { λ r. ⌜ r ≡ hasOf set (g .0) ⌝ }
-{
-    let n = g.0;
-    (set >> n) & 1 == 1
-}
-
-// The group of a rule.
-pub fn holder_of(holders: &[u8], rule: RuleNumber) -> GroupNumber
-    requires { ⌜ rule .0 < length (now holders) ⌝ }
-    ensures { λ r. ⌜ r .0 ≡ getD (now (holders .entry)) (rule .0) 0 ⌝ }
-{
-    let i = rule.0 as usize;
-    GroupNumber(holders[i])
-}
 
 // Whether the subject of the rule at s, group g if it is a group, is the user or in the user's groups.
 pub fn concerns_at(f: &[u8], s: usize, g: GroupNumber, set: u64, user: &[u8]) -> bool
@@ -33,7 +15,7 @@ pub fn concerns_at(f: &[u8], s: usize, g: GroupNumber, set: u64, user: &[u8]) ->
     ensures { λ r. ⌜ r ≡ concernsBy set (g .0) (now (user .entry)) (ruleIn (now (f .entry)) s) ⌝ }
 {
     if f[s + 2] == 1 {
-        return has(set, g);
+        return groups::has(set, g);
     }
     let a = s + 4;
     let d = place::str_end(f, s + 3);
@@ -86,7 +68,7 @@ pub fn mark(
     let mut i = 0;
     while i < n {
         let s = starts[i] as usize;
-        let g = holder_of(holders, RuleNumber(i as u16));
+        let g = groups::group_of(holders, RuleNumber(i as u16));
         on[i] = mark_at(f, s, g, set, user, mode, origin);
         i += 1;
     }

@@ -12,7 +12,8 @@ use lib.ListN.{length, getD}
 use Rattle.text.specs.Test.{_and_, _or_, if_then_else_, any, twice}
 use Rattle.text.specs.String.{Str, same}
 use Rattle.text.proofs.Tests.{by, clash, same-refl, neither, and-l}
-use Rattle.rows.specs.Strings.{stringAt, stringsIn, place, isPair, hasPair}
+use Rattle.place.specs.Place.{strIn}
+use Rattle.rows.specs.Strings.{stringsIn, place, isPair, hasPair}
 use Rattle.rows.proofs.Grow.{strings-length, place-test}
 use Rattle.table.specs.Table.{Member}
 use Rattle.table.specs.Refusal.{sameMember}
@@ -25,7 +26,7 @@ use Rattle.groups.proofs.Bits.{digit, digit-is, digit-small, has-insert
 -- ---- the loop
 
 module _ (user : Str) (f users owners : List ℕ) (n i : ℕ) where
-  pub set-turn : (w set set′ : ℕ) → i < n → set′ ≡ (if same user (stringAt f (getD users i 0)) then insertOf set (getD owners i 0) else set)
+  pub set-turn : (w set set′ : ℕ) → i < n → set′ ≡ (if same user (strIn f (getD users i 0)) then insertOf set (getD owners i 0) else set)
       → w ≡ setIn user f users owners (n - i) i set → w ≡ setIn user f users owners (n - (i + 1)) (i + 1) set′
   unfolding setIn
   set-turn w set set′ h e g = let k : n - i ≡ suc (n - (i + 1)) = omega arith in g ∙ rw (k, e, add-one)
@@ -72,11 +73,11 @@ unfolding _or_
 or-start t = refl
 
 module _ (user : Str) (f users owners : List ℕ) (g : ℕ) where
-  pair-same : (i : ℕ) → same user (stringAt f (getD users i 0)) ≡ true → eqb (getD owners i 0) g ≡ isPair g user f users owners i
+  pair-same : (i : ℕ) → same user (strIn f (getD users i 0)) ≡ true → eqb (getD owners i 0) g ≡ isPair g user f users owners i
   unfolding isPair
   pair-same i e = rw e (and-true (eqb (getD owners i 0) g))
 
-  pair-other : (i : ℕ) → same user (stringAt f (getD users i 0)) ≡ false → false ≡ isPair g user f users owners i
+  pair-other : (i : ℕ) → same user (strIn f (getD users i 0)) ≡ false → false ≡ isPair g user f users owners i
   unfolding isPair
   pair-other i e = rw e (and-none (eqb (getD owners i 0) g))
 
@@ -84,7 +85,7 @@ module _ (user : Str) (f users owners : List ℕ) (g : ℕ) where
   unfolding setIn hasPair if_then_else_
   has-in zero i set = or-end (hasOf set g)
   has-in (suc n) i set =
-      by (same user (stringAt f (getD users i 0)))
+      by (same user (strIn f (getD users i 0)))
       (λ e.
       rw e
       (has-in n (suc i) (insertOf set (getD owners i 0))

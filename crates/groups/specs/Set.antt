@@ -7,7 +7,7 @@ use lib.Bits.{bitOr}
 use lib.ListN.{getD}
 use Rattle.text.specs.Test.{if_then_else_}
 use Rattle.text.specs.String.{Str, same}
-use Rattle.rows.specs.Strings.{stringAt}
+use Rattle.place.specs.Place.{strIn}
 use lib.Count.{ones, trailingZeros}
 use Rattle.table.specs.Group.{badUser}
 use Rattle.table.specs.declared.Counted.{Counted}
@@ -27,7 +27,7 @@ hasOf set g = eqb (set / 2 ^ g % 2) 1
 unfoldable pub setIn : Str → List ℕ → List ℕ → List ℕ → ℕ → ℕ → ℕ → ℕ
 setIn user f users owners zero i set = set
 setIn user f users owners (suc n) i set =
-    setIn user f users owners n (suc i) (if same user (stringAt f (getD users i 0)) then insertOf set (getD owners i 0) else set)
+    setIn user f users owners n (suc i) (if same user (strIn f (getD users i 0)) then insertOf set (getD owners i 0) else set)
 
 -- only a rule's number picks the group of a rule
 abbrev pub groupOf : List ℕ → RuleNumber → GroupNumber

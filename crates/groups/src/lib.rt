@@ -4,7 +4,8 @@ ghost use Prim.Native.Nat.{_≤_, _<_};
 ghost use lib.ListN.{length};
 ghost use Rattle.text.specs.Test.{if_then_else_};
 ghost use Rattle.text.specs.String.{same};
-ghost use Rattle.rows.specs.Strings.{past, stringAt, Laid};
+ghost use Rattle.place.specs.Place.{strEnd, strIn};
+ghost use Rattle.rows.specs.Strings.{Laid};
 ghost use Rattle.keep.specs.Held.{Owned};
 ghost use Rattle.table.specs.Text.{check};
 ghost use Rattle.table.specs.Group.{groupCount};
@@ -42,8 +43,8 @@ pub fn group_of(holders: &[u8], rule: RuleNumber) -> GroupNumber
 
 // The group is put in where the string at `at` is the user.
 fn join(set: u64, g: GroupNumber, f: &[u8], at: usize, user: &[u8]) -> u64
-    requires { ⌜ (g .0 < 64) × (past (now f) at ≤ length (now f)) ⌝ }
-    ensures { λ r. ⌜ r ≡ (if same (now (user .entry)) (stringAt (now (f .entry)) at) then insertOf set (g .0) else set) ⌝ }
+    requires { ⌜ (g .0 < 64) × (strEnd (now f) at ≤ length (now f)) ⌝ }
+    ensures { λ r. ⌜ r ≡ (if same (now (user .entry)) (strIn (now (f .entry)) at) then insertOf set (g .0) else set) ⌝ }
 {
     if rows::is_at(f, at, user) {
         return insert(set, g);

@@ -17,7 +17,8 @@ use Rattle.text.specs.declared.frame.End.the-variants.{At, Unread}
 use Rattle.text.proofs.Tests.{by, and-l, and-r, neither, same→≡, or-false-r}
 use Rattle.text.proofs.Frames.{string-ends, string-misses}
 use Rattle.path.specs.Faults.{unsized}
-use Rattle.rows.specs.Strings.{stringAt, stringsIn, place, isPair, hasPair, hashFrom}
+use Rattle.place.specs.Place.{strIn}
+use Rattle.rows.specs.Strings.{stringsIn, place, isPair, hasPair, hashFrom}
 use Rattle.rows.proofs.Strings.{hash-small}
 use Rattle.rows.proofs.Grow.{rowsOf, rows-length, strings-length, place-any, place-test, place-le}
 use Rattle.table.specs.Table.{Member}
@@ -57,7 +58,7 @@ module _ (groups : List Str) (name u : Str) (f users owners : List ℕ) (d : twi
   pair-is : (j : ℕ) → getD owners j 0 < length groups
       → isPair (place name groups) u f users owners j ≡ sameMember (record { group = name; user = u }) (memberIn groups owners f users j)
   unfolding isPair sameMember
-  pair-is j h = ap (λ (t : Bool). t and same u (stringAt f (getD users j 0))) (sym (place-test name groups (getD owners j 0) d h))
+  pair-is j h = ap (λ (t : Bool). t and same u (strIn f (getD users j 0))) (sym (place-test name groups (getD owners j 0) d h))
 
   pub pairs-any : (k i n : ℕ) → i + k ≤ n → Owned owners n (length groups)
       → hasPair (place name groups) u f users owners k i ≡ any (sameMember (record { group = name; user = u })) (rowsOf (memberIn groups owners f users) k i)

@@ -7,7 +7,8 @@ use mathlib.Core.Option.{some}
 use lib.ListN.{length, getD, set}
 use Rattle.text.specs.String.{Str}
 use Rattle.text.specs.Frame.{got, string}
-use Rattle.rows.specs.Strings.{stringAt, place, hashFrom}
+use Rattle.place.specs.Place.{strIn}
+use Rattle.rows.specs.Strings.{place, hashFrom}
 use Rattle.rows.proofs.Grow.{rowsOf}
 use Rattle.table.specs.Table.{Member, Rule}
 use Rattle.table.specs.Frame.{group, member, rule, ruleBody, entryOf}
@@ -15,7 +16,7 @@ use Rattle.table.specs.Frame.{group, member, rule, ruleBody, entryOf}
 -- ---- members: each has the number of its group, and its user stands in the bytes
 
 abbrev pub memberIn : List Str → List ℕ → List ℕ → List ℕ → ℕ → Member
-memberIn groups owners f users i = record { group = getD groups (getD owners i 0) []; user = stringAt f (getD users i 0) }
+memberIn groups owners f users i = record { group = getD groups (getD owners i 0) []; user = strIn f (getD users i 0) }
 
 unfoldable pub membersIn : List Str → List ℕ → List ℕ → List ℕ → ℕ → List Member
 membersIn groups owners f users n = rowsOf (memberIn groups owners f users) n 0
@@ -28,10 +29,7 @@ abbrev pub Marked : List ℕ → (ℕ → ℕ) → ℕ → Type 0
 Marked seen place n = (i : ℕ) → i < n → getD seen (place i) 0 ≡ 1
 
 abbrev pub memberPlace : List ℕ → List ℕ → List ℕ → ℕ → ℕ
-memberPlace owners f users i = hashFrom (getD owners i 0) (stringAt f (getD users i 0))
-
-abbrev pub idPlace : List ℕ → List ℕ → ℕ → ℕ
-idPlace f ids i = hashFrom 0 (stringAt f (getD ids i 0))
+memberPlace owners f users i = hashFrom (getD owners i 0) (strIn f (getD users i 0))
 
 -- ---- what a row that is kept changes
 
@@ -55,19 +53,3 @@ pub record MemberKept (groups : List Str) (old f users owners seen : List ℕ) (
   pub users-set : users′ ≡ set users n (length old + at)
   pub owners-set : owners′ ≡ set owners n (place group groups)
   pub seen-set : seen′ ≡ set seen (hashFrom (place group groups) user) 1
-
--- a rule: its id stands at `at` of its frame
-pub record RuleKept (groups : List Str) (old f ids starts holders seen : List ℕ) (n : ℕ) (ids′ starts′ holders′ seen′ : List ℕ) : Type 0 where
-  pub kept : Rule
-  pub at : ℕ
-  pub holder : ℕ
-  pub last : ℕ
-  pub reads : entryOf f ≡ some (rule kept)
-  pub body : ruleBody f 1 ≡ got kept (length f)
-  pub stands : string f at ≡ got (kept .id) last
-  pub room : n < 256
-  pub held : kept .byGroup ≡ true → (holder < length groups) × (getD groups holder [] ≡ kept .subject)
-  pub ids-set : ids′ ≡ set ids n (length old + at)
-  pub starts-set : starts′ ≡ set starts n (length old + 1)
-  pub holders-set : holders′ ≡ set holders n holder
-  pub seen-set : seen′ ≡ set seen (hashFrom 0 (kept .id)) 1

@@ -12,10 +12,11 @@ use lib.ListN.{length, getD, set, length-append, length-set, List·getD-append}
 use lib.Seq.{getD-set-same, getD-set-other}
 use Rattle.text.specs.Test.{if_then_else_, any, twice}
 use Rattle.text.specs.String.{Str, same}
-use Rattle.text.specs.Frame.{got, unread, string, part}
+use Rattle.text.specs.Frame.{got, string, part}
 use Rattle.text.proofs.Tests.{by}
-use Rattle.text.proofs.Frames.{string-got, string-none, string-unread}
-use Rattle.rows.specs.Strings.{past, stringAt, stringsIn, Laid, place, hashFrom}
+use Rattle.place.specs.Place.{strEnd, strIn}
+use Rattle.place.proofs.Reading.{str-read}
+use Rattle.rows.specs.Strings.{stringsIn, Laid, place, hashFrom}
 use Rattle.rows.proofs.Strings.{hash-small}
 use Rattle.rows.proofs.Grow.{rowsOf, rows-same, rows-grow, strings-length, string-front, old-start, new-start, old-string, strings-grow, laid-grow, laid-stays, strings-stay, place-at, place-le, twice-snoc}
 use Rattle.table.specs.Table.{Member, Rule}
@@ -23,35 +24,17 @@ use Rattle.table.specs.Frame.{Entry, version, group, member, rule, ruleBody, en
 use Rattle.table.specs.Refusal.{Earlier, with}
 use Rattle.table.specs.Text.{maybe, asRule}
 use Rattle.table.proofs.Inside.{inside-string, inside-rule, reads-more, reads-after}
-use Rattle.keep.specs.Held.{memberIn, membersIn, Owned, Marked, memberPlace, idPlace, GroupKept, MemberKept, RuleKept}
+use Rattle.keep.specs.Held.{memberIn, membersIn, Owned, Marked, memberPlace, GroupKept, MemberKept}
+use Rattle.keep_rule.specs.Kept.{idPlace, RuleKept}
 use Rattle.load.specs.declared.row.Counts.{Counts}
 use Rattle.load.specs.Held.{idsOf, RulesAt, HoldersAt, Holds, Held, counted}
 
 -- ---- a string that was read
 
-never : {A : Type 0} {X : Type 0} {a : A} {e : ℕ} → unread ≡ got a e → X
-never q = let z : _≡_ {A = ℕ} 0 1 = cc in absurd (omega arith)
-
-got-value : {A : Type 0} {a b : A} {s t : ℕ} → got a s ≡ got b t → (a ≡ b) × (s ≡ t)
-got-value q = (cc, cc)
-
-string-is : (f : List ℕ) (at : ℕ) (s : Str) (t : ℕ) → string f at ≡ got s t → (stringAt f at ≡ s) × (past f at ≤ length f)
-unfolding stringAt past
-string-is f at s t i =
-    by (ltb at (length f))
-    (λ u.
-    let a : at < length f = ltb-true _ _ u in
-    by (leb (getD f at 0) (length f - (at + 1)))
-    (λ v.
-    let b : getD f at 0 ≤ length f - (at + 1) = leb-true _ _ v in
-    (got-value (sym (string-got f at a b) ∙ i) .0, omega arith))
-    (λ v. never (sym (string-unread f at a (leb-false _ _ v)) ∙ i)))
-    (λ u. never (sym (string-none f at (ltb-false _ _ u)) ∙ i))
-
 -- of the new row, among all bytes
 new-string : (old f : List ℕ) (at : ℕ) (s : Str) (t : ℕ) → string f at ≡ got s t
-    → (stringAt (old ++ f) (length old + at) ≡ s) × (past (old ++ f) (length old + at) ≤ length (old ++ f))
-new-string old f at s t i = string-is (old ++ f) (length old + at) s (length old + t) (reads-after string inside-string old f at s t i)
+    → (strIn (old ++ f) (length old + at) ≡ s) × (strEnd (old ++ f) (length old + at) ≤ length (old ++ f))
+new-string old f at s t i = let r = str-read (old ++ f) (length old + at) s (length old + t) (reads-after string inside-string old f at s t i) in (sym (r .1), r .0)
 
 -- ---- ids
 
@@ -124,7 +107,7 @@ marked-same seen place place′ n m old j k = ap (λ (i : ℕ). getD seen i 0) (
 
 module _ {named : List Str} {members : List Member} {rules : List Rule} {old : List ℕ} {c : Counts} {groups users owners ids starts holders : List ℕ} (f : List ℕ)
     (H : Holds named members rules old c groups users owners ids starts holders) where
-  user-stays : (j : ℕ) → j < c .members → stringAt (old ++ f) (getD users j 0) ≡ stringAt old (getD users j 0)
+  user-stays : (j : ℕ) → j < c .members → strIn (old ++ f) (getD users j 0) ≡ strIn old (getD users j 0)
   user-stays j k = string-front old f (getD users j 0) (H .users-laid j k)
 
   members-stay : membersIn named owners (old ++ f) users (c .members) ≡ membersIn named owners old users (c .members)
@@ -181,7 +164,7 @@ module _ {b : Earlier} {rules : List Rule} {old : List ℕ} {c : Counts} {groups
     wide : c .groups < length groups
     wide = omega (arith, H .long .0, K .room)
 
-    new : (stringAt (old ++ f) (length old + 1) ≡ K .name) × (past (old ++ f) (length old + 1) ≤ length (old ++ f))
+    new : (strIn (old ++ f) (length old + 1) ≡ K .name) × (strEnd (old ++ f) (length old + 1) ≤ length (old ++ f))
     new = new-string old f 1 (K .name) (length f) (K .stands)
 
     same-member : (j : ℕ) → j < c .members → memberIn (b .groups ++ (K .name ∷ [])) owners (old ++ f) users j ≡ memberIn (b .groups) owners old users j
@@ -237,7 +220,7 @@ module _ {b : Earlier} {rules : List Rule} {old : List ℕ} {c : Counts} {groups
     wide-owners : n < length owners
     wide-owners = omega (arith, H .long .2, K .room)
 
-    new-user : (stringAt (old ++ f) (length old + K .at) ≡ K .user) × (past (old ++ f) (length old + K .at) ≤ length (old ++ f))
+    new-user : (strIn (old ++ f) (length old + K .at) ≡ K .user) × (strEnd (old ++ f) (length old + K .at) ≤ length (old ++ f))
     new-user = new-string old f (K .at) (K .user) (length f) (K .stands)
 
     old-owner : (j : ℕ) → j < n → getD os j 0 ≡ getD owners j 0
@@ -246,11 +229,11 @@ module _ {b : Earlier} {rules : List Rule} {old : List ℕ} {c : Counts} {groups
     new-owner : getD os n 0 ≡ p
     new-owner = getD-set-same owners n p 0 wide-owners
 
-    old-user : (j : ℕ) → j < n → stringAt (old ++ f) (getD us j 0) ≡ stringAt old (getD users j 0)
+    old-user : (j : ℕ) → j < n → strIn (old ++ f) (getD us j 0) ≡ strIn old (getD users j 0)
     old-user = old-string old f users n (length old + K .at) (H .users-laid) wide-users
 
-    new-user-at : stringAt (old ++ f) (getD us n 0) ≡ K .user
-    new-user-at = ap (stringAt (old ++ f)) (new-start old f users n (length old + K .at) (H .users-laid) wide-users) ∙ new-user .0
+    new-user-at : strIn (old ++ f) (getD us n 0) ≡ K .user
+    new-user-at = ap (strIn (old ++ f)) (new-start old f users n (length old + K .at) (H .users-laid) wide-users) ∙ new-user .0
 
     grown-members : membersIn (b .groups) os (old ++ f) us (n + 1) ≡ b .members ++ (record { group = K .group; user = K .user } ∷ [])
     unfolding membersIn
@@ -323,11 +306,11 @@ module _ {b : Earlier} {rules : List Rule} {old : List ℕ} {c : Counts} {groups
     wide-holders : m < length holders
     wide-holders = omega (arith, H .long .5, K .room)
 
-    new-id : (stringAt (old ++ f) (length old + K .at) ≡ x .id) × (past (old ++ f) (length old + K .at) ≤ length (old ++ f))
+    new-id : (strIn (old ++ f) (length old + K .at) ≡ x .id) × (strEnd (old ++ f) (length old + K .at) ≤ length (old ++ f))
     new-id = new-string old f (K .at) (x .id) (K .last) (K .stands)
 
-    new-id-at : stringAt (old ++ f) (getD ds m 0) ≡ x .id
-    new-id-at = ap (stringAt (old ++ f)) (new-start old f ids m (length old + K .at) (H .ids-laid) wide-ids) ∙ new-id .0
+    new-id-at : strIn (old ++ f) (getD ds m 0) ≡ x .id
+    new-id-at = ap (strIn (old ++ f)) (new-start old f ids m (length old + K .at) (H .ids-laid) wide-ids) ∙ new-id .0
 
     hash-fits-id : hashFrom 0 (x .id) < length is
     hash-fits-id = omega (arith, hash-small (x .id) 0 (omega arith), G .seen-long .1)

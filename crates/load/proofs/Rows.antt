@@ -17,7 +17,8 @@ use Rattle.table.specs.Refusal.{Earlier, Line, reads, unreadable, framed, repea
 use Rattle.table.proofs.Numbers.{refusal-clear}
 use Rattle.table.proofs.Versions.{refused-unread}
 use Rattle.table.proofs.Frames.{kind-unknown}
-use Rattle.keep.specs.Held.{membersIn, GroupKept, MemberKept, RuleKept}
+use Rattle.keep.specs.Held.{membersIn, GroupKept, MemberKept}
+use Rattle.keep_rule.specs.Kept.{RuleKept}
 use Rattle.load.specs.declared.row.Counts.{Counts}
 use Rattle.load.specs.Held.{Holds, Held, counted}
 use Rattle.load.specs.Loaded.{Grown}

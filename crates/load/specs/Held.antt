@@ -12,7 +12,8 @@ use Rattle.rows.specs.Strings.{stringsIn, Laid}
 use Rattle.table.specs.Table.{Member, Rule}
 use Rattle.table.specs.Frame.{Entry, ruleBody}
 use Rattle.table.specs.Refusal.{Earlier}
-use Rattle.keep.specs.Held.{membersIn, Owned, Marked, memberPlace, idPlace}
+use Rattle.keep.specs.Held.{membersIn, Owned, Marked, memberPlace}
+use Rattle.keep_rule.specs.Kept.{idPlace}
 use Rattle.load.specs.declared.row.Counts.{Counts}
 
 unfoldable pub idsOf : List Rule → List Str

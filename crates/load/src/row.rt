@@ -98,7 +98,7 @@ pub fn take_row(
         );
     }
     if k == 4 {
-        return keep::take_rule(
+        return keep_rule::take_rule(
             old,
             f,
             c.kind,

@@ -13,7 +13,8 @@ use Rattle.text.specs.Test.{_and_, _or_, if_then_else_, any, twice}
 use Rattle.text.specs.String.{Str, same}
 use Rattle.text.specs.Frame.{part}
 use Rattle.text.proofs.Tests.{by, clash, same→≡, ≡→same, none-any, or-false-l, or-false-r, neither, bool-ext}
-use Rattle.rows.specs.Strings.{past, stringAt, stringsIn, Laid, place}
+use Rattle.place.specs.Place.{strEnd, strIn}
+use Rattle.rows.specs.Strings.{stringsIn, Laid, place}
 
 -- ---- rows by their numbers
 
@@ -51,32 +52,32 @@ module _ {A : Type 0} where
   rows-at g (suc n) i zero d h = let e : i + 0 ≡ i = omega arith in rw e
   rows-at g (suc n) i (suc j) d h = let e : i + suc j ≡ suc i + j = omega arith in rows-at g n (suc i) j d (omega arith) ∙ ap g (sym e)
 
-pub strings-rows : (f starts : List ℕ) (n i : ℕ) → stringsIn f starts n i ≡ rowsOf (λ j. stringAt f (getD starts j 0)) n i
+pub strings-rows : (f starts : List ℕ) (n i : ℕ) → stringsIn f starts n i ≡ rowsOf (λ j. strIn f (getD starts j 0)) n i
 unfolding stringsIn rowsOf
 strings-rows f starts zero i = refl
-strings-rows f starts (suc n) i = ap (λ (l : List Str). stringAt f (getD starts i 0) ∷ l) (strings-rows f starts n (suc i))
+strings-rows f starts (suc n) i = ap (λ (l : List Str). strIn f (getD starts i 0) ∷ l) (strings-rows f starts n (suc i))
 
 pub strings-length : (f starts : List ℕ) (n : ℕ) → length (stringsIn f starts n 0) ≡ n
 strings-length f starts n = ap length (strings-rows f starts n 0) ∙ rows-length _ n 0
 
-pub strings-at : (f starts : List ℕ) (n j : ℕ) → j < n → getD (stringsIn f starts n 0) j [] ≡ stringAt f (getD starts j 0)
+pub strings-at : (f starts : List ℕ) (n j : ℕ) → j < n → getD (stringsIn f starts n 0) j [] ≡ strIn f (getD starts j 0)
 strings-at f starts n j h =
     let a : 0 + j ≡ j = omega arith in
-    ap (λ (l : List Str). getD l j []) (strings-rows f starts n 0) ∙ rows-at (λ j. stringAt f (getD starts j 0)) n 0 j [] h
-    ∙ ap (λ (k : ℕ). stringAt f (getD starts k 0)) a
+    ap (λ (l : List Str). getD l j []) (strings-rows f starts n 0) ∙ rows-at (λ j. strIn f (getD starts j 0)) n 0 j [] h
+    ∙ ap (λ (k : ℕ). strIn f (getD starts k 0)) a
 
 -- ---- bytes after the string
 
 pub part-front : (f g : List ℕ) (a b : ℕ) → a ≤ length f → b ≤ length f → part (f ++ g) a b ≡ part f a b
 part-front f g a b p q = let h : b - a ≤ length (drop a f) = omega (arith, length-drop a f) in rw (drop-append-le a f g p, take-append-le (b - a) (drop a f) g h)
 
-module _ (f g : List ℕ) (at : ℕ) (h : past f at ≤ length f) where
-  pub past-front : past (f ++ g) at ≡ past f at
-  unfolding past
+module _ (f g : List ℕ) (at : ℕ) (h : strEnd f at ≤ length f) where
+  pub past-front : strEnd (f ++ g) at ≡ strEnd f at
+  unfolding strEnd
   past-front = rw (List·getD-append f g 0 at (omega arith))
 
-  pub string-front : stringAt (f ++ g) at ≡ stringAt f at
-  unfolding stringAt past
+  pub string-front : strIn (f ++ g) at ≡ strIn f at
+  unfolding strIn strEnd
   string-front = rw (List·getD-append f g 0 at (omega arith)) (part-front f g (at + 1) (at + 1 + getD f at 0) (omega arith) h)
 
 -- ---- one string more
@@ -88,16 +89,16 @@ module _ (f g starts : List ℕ) (n v : ℕ) (laid : Laid f starts n) (long : n 
   pub new-start : getD (set starts n v) n 0 ≡ v
   new-start = getD-set-same starts n v 0 long
 
-  pub old-string : (j : ℕ) → j < n → stringAt (f ++ g) (getD (set starts n v) j 0) ≡ stringAt f (getD starts j 0)
-  old-string j h = ap (stringAt (f ++ g)) (old-start j h) ∙ string-front f g (getD starts j 0) (laid j h)
+  pub old-string : (j : ℕ) → j < n → strIn (f ++ g) (getD (set starts n v) j 0) ≡ strIn f (getD starts j 0)
+  old-string j h = ap (strIn (f ++ g)) (old-start j h) ∙ string-front f g (getD starts j 0) (laid j h)
 
-  pub strings-grow : (s : Str) → stringAt (f ++ g) v ≡ s → stringsIn (f ++ g) (set starts n v) (n + 1) 0 ≡ stringsIn f starts n 0 ++ (s ∷ [])
+  pub strings-grow : (s : Str) → strIn (f ++ g) v ≡ s → stringsIn (f ++ g) (set starts n v) (n + 1) 0 ≡ stringsIn f starts n 0 ++ (s ∷ [])
   strings-grow s e =
       strings-rows (f ++ g) (set starts n v) (n + 1) 0
-      ∙ rows-grow (λ j. stringAt f (getD starts j 0)) (λ j. stringAt (f ++ g) (getD (set starts n v) j 0)) n s old-string (ap (stringAt (f ++ g)) new-start ∙ e)
+      ∙ rows-grow (λ j. strIn f (getD starts j 0)) (λ j. strIn (f ++ g) (getD (set starts n v) j 0)) n s old-string (ap (strIn (f ++ g)) new-start ∙ e)
       ∙ ap (λ (l : List Str). l ++ (s ∷ [])) (sym (strings-rows f starts n 0))
 
-  pub laid-grow : past (f ++ g) v ≤ length (f ++ g) → Laid (f ++ g) (set starts n v) (n + 1)
+  pub laid-grow : strEnd (f ++ g) v ≤ length (f ++ g) → Laid (f ++ g) (set starts n v) (n + 1)
   laid-grow e j h =
       by (eqb j n)
       (λ t. let i : j ≡ n = eqb-true _ _ t in rw (i, new-start) e)
@@ -114,7 +115,7 @@ module _ (f g starts : List ℕ) (n : ℕ) (laid : Laid f starts n) where
   pub strings-stay : stringsIn (f ++ g) starts n 0 ≡ stringsIn f starts n 0
   strings-stay =
       strings-rows (f ++ g) starts n 0
-      ∙ rows-same (λ j. stringAt (f ++ g) (getD starts j 0)) (λ j. stringAt f (getD starts j 0)) n 0 (λ j p q. string-front f g (getD starts j 0) (laid j (omega arith)))
+      ∙ rows-same (λ j. strIn (f ++ g) (getD starts j 0)) (λ j. strIn f (getD starts j 0)) n 0 (λ j p q. string-front f g (getD starts j 0) (laid j (omega arith)))
       ∙ sym (strings-rows f starts n 0)
 
 -- ---- places of distinct strings
@@ -141,7 +142,7 @@ place-test name (x ∷ xs) (suc o) d h =
     (λ e. rw e (place-test name xs o (or-false-r _ _ d) (omega arith) ∙ sym (eqb·suc-suc o (place name xs))))
 
 -- the name is string number o, which is no other string
-pub place-is : (name : Str) (f starts : List ℕ) (n o : ℕ) → twice same (stringsIn f starts n 0) ≡ false → o < n → same name (stringAt f (getD starts o 0)) ≡ true
+pub place-is : (name : Str) (f starts : List ℕ) (n o : ℕ) → twice same (stringsIn f starts n 0) ≡ false → o < n → same name (strIn f (getD starts o 0)) ≡ true
     → o ≡ place name (stringsIn f starts n 0)
 place-is name f starts n o d h e =
     let l : o < length (stringsIn f starts n 0) = omega (arith, strings-length f starts n) in

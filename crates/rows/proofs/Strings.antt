@@ -12,27 +12,28 @@ use lib.Seq.{drop-cons}
 use borrow.Author.Tests.{ne-eqb, eq-eqb}
 use Rattle.text.specs.Test.{_and_, _or_, if_then_else_}
 use Rattle.text.specs.String.{Str, same}
-use Rattle.rows.specs.Strings.{past, stringAt, stringsIn, place, isPair, hasPair, hashFrom}
+use Rattle.place.specs.Place.{strEnd, strIn}
+use Rattle.rows.specs.Strings.{stringsIn, place, isPair, hasPair, hashFrom}
 
 -- where a string lies
-module _ (f : List ℕ) (at : ℕ) (h : past f at ≤ length f) where
+module _ (f : List ℕ) (at : ℕ) (h : strEnd f at ≤ length f) where
   pub room : (at < length f) × (at + 1 + getD f at 0 ≤ length f)
-  unfolding past
+  unfolding strEnd
   room = (omega arith, h)
 
 -- ---- find
 
 module _ (f starts : List ℕ) (n : ℕ) (name : Str) (i : ℕ) where
-  strings-cons : i < n → stringsIn f starts (n - i) i ≡ stringAt f (getD starts i 0) ∷ stringsIn f starts (n - (i + 1)) (i + 1)
+  strings-cons : i < n → stringsIn f starts (n - i) i ≡ strIn f (getD starts i 0) ∷ stringsIn f starts (n - (i + 1)) (i + 1)
   unfolding stringsIn
   strings-cons h = let e : n - i ≡ suc (n - (i + 1)) = omega arith in rw (e, add-one)
 
-  pub find-pass : (w : ℕ) → i < n → same name (stringAt f (getD starts i 0)) ≡ false
+  pub find-pass : (w : ℕ) → i < n → same name (strIn f (getD starts i 0)) ≡ false
       → w ≡ i + place name (stringsIn f starts (n - i) i) → w ≡ i + 1 + place name (stringsIn f starts (n - (i + 1)) (i + 1))
   unfolding place if_then_else_
   find-pass w h e g = let k : place name (stringsIn f starts (n - i) i) ≡ suc (place name (stringsIn f starts (n - (i + 1)) (i + 1))) = rw (strings-cons h, e) in omega arith
 
-  pub find-hit : (w : ℕ) → i < n → same name (stringAt f (getD starts i 0)) ≡ true → w ≡ i + place name (stringsIn f starts (n - i) i) → i ≡ w
+  pub find-hit : (w : ℕ) → i < n → same name (strIn f (getD starts i 0)) ≡ true → w ≡ i + place name (stringsIn f starts (n - i) i) → i ≡ w
   unfolding place if_then_else_
   find-hit w h e g = let k : place name (stringsIn f starts (n - i) i) ≡ 0 = rw (strings-cons h, e) in omega arith
 
@@ -66,7 +67,7 @@ module _ (owner : ℕ) (name : Str) (f starts owners : List ℕ) (i : ℕ) where
   unfolding isPair _and_
   pair-other h = rw (ne-eqb _ _ h)
 
-  pub pair-owned : (r : Bool) → getD owners i 0 ≡ owner → r ≡ same name (stringAt f (getD starts i 0)) → r ≡ isPair owner name f starts owners i
+  pub pair-owned : (r : Bool) → getD owners i 0 ≡ owner → r ≡ same name (strIn f (getD starts i 0)) → r ≡ isPair owner name f starts owners i
   unfolding isPair _and_
   pair-owned r h e = rw (eq-eqb _ _ h, e)
 

@@ -1,4 +1,4 @@
--- Strings in decoded bytes, by the positions of their length bytes. Past the end a byte is 0 and a string is cut.
+-- Strings in decoded bytes, by the positions of their length bytes.
 use Prim.Native.Nat.{ℕ, zero, suc, _+_, _*_, _%_, _≤_, _<_}
 use mathlib.Core.Path.{_≡_}
 use mathlib.Core.Bool.{Bool, false}
@@ -7,23 +7,16 @@ use lib.Dec.{eqb}
 use lib.ListN.{length, getD}
 use Rattle.text.specs.Test.{_and_, _or_, if_then_else_}
 use Rattle.text.specs.String.{Str, same}
-use Rattle.text.specs.Frame.{part}
-
--- where the string at `at` ends
-unfoldable pub past : List ℕ → ℕ → ℕ
-past f at = at + 1 + getD f at 0
-
-unfoldable pub stringAt : List ℕ → ℕ → Str
-stringAt f at = part f (at + 1) (past f at)
+use Rattle.place.specs.Place.{strEnd, strIn}
 
 -- n strings, from number i on
 unfoldable pub stringsIn : List ℕ → List ℕ → ℕ → ℕ → List Str
 stringsIn f starts zero i = []
-stringsIn f starts (suc n) i = stringAt f (getD starts i 0) ∷ stringsIn f starts n (suc i)
+stringsIn f starts (suc n) i = strIn f (getD starts i 0) ∷ stringsIn f starts n (suc i)
 
 -- the first n lie within the bytes
 abbrev pub Laid : List ℕ → List ℕ → ℕ → Type 0
-Laid f starts n = (i : ℕ) → i < n → past f (getD starts i 0) ≤ length f
+Laid f starts n = (i : ℕ) → i < n → strEnd f (getD starts i 0) ≤ length f
 
 -- the number of the first string that is the name; where none is, how many there are
 unfoldable pub place : Str → List Str → ℕ
@@ -32,7 +25,7 @@ place name (s ∷ ss) = if same name s then 0 else suc (place name ss)
 
 -- number i has that owner and that name
 unfoldable pub isPair : ℕ → Str → List ℕ → List ℕ → List ℕ → ℕ → Bool
-isPair owner name f starts owners i = eqb (getD owners i 0) owner and same name (stringAt f (getD starts i 0))
+isPair owner name f starts owners i = eqb (getD owners i 0) owner and same name (strIn f (getD starts i 0))
 
 -- one of n from number i on is such
 unfoldable pub hasPair : ℕ → Str → List ℕ → List ℕ → List ℕ → ℕ → ℕ → Bool

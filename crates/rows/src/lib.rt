@@ -5,12 +5,13 @@ ghost use Prim.Native.Nat.{_≤_, _<_};
 ghost use lib.ListN.{length, getD};
 ghost use Rattle.text.specs.Test.{twice};
 ghost use Rattle.text.specs.String.{same};
-ghost use Rattle.rows.specs.Strings.{past, stringAt, stringsIn, Laid, place, isPair, hasPair, hashFrom};
+ghost use Rattle.place.specs.Place.{strEnd, strIn};
+ghost use Rattle.rows.specs.Strings.{stringsIn, Laid, place, isPair, hasPair, hashFrom};
 
 // The string at `at` is the name.
 pub fn is_at(f: &[u8], at: usize, name: &[u8]) -> bool
-    requires { ⌜ past (now f) at ≤ length (now f) ⌝ }
-    ensures { λ r. ⌜ r ≡ same (now (name .entry)) (stringAt (now (f .entry)) at) ⌝ }
+    requires { ⌜ strEnd (now f) at ≤ length (now f) ⌝ }
+    ensures { λ r. ⌜ r ≡ same (now (name .entry)) (strIn (now (f .entry)) at) ⌝ }
 {
     let n = f[at] as usize;
     let start = at + 1;
@@ -73,7 +74,7 @@ pub fn has_pair(
 
 // Number i has that owner and that name. The owner is compared first.
 fn is_pair(f: &[u8], starts: &[u16], owners: &[u8], i: usize, owner: usize, name: &[u8]) -> bool
-    requires { ⌜ (i < length (now starts)) × (i < length (now owners)) × (past (now f) (getD (now starts) i 0) ≤ length (now f)) ⌝ }
+    requires { ⌜ (i < length (now starts)) × (i < length (now owners)) × (strEnd (now f) (getD (now starts) i 0) ≤ length (now f)) ⌝ }
     ensures { λ r. ⌜ r ≡ isPair owner (now (name .entry)) (now (f .entry)) (now (starts .entry)) (now (owners .entry)) i ⌝ }
 {
     if owners[i] as usize != owner {

@@ -24,7 +24,8 @@ use Rattle.judge.specs.declared.best.Best.{Best}
 use Rattle.judge.proofs.Verdict.{decided}
 use Rattle.tree.specs.Tree.{opposing, fitting, Weights}
 use Rattle.tree.proofs.Verdict.{opposed}
-use Rattle.concern.specs.Concern.{hasOf, concernsBy, appliesBy, Applying}
+use Rattle.groups.specs.Set.{hasOf}
+use Rattle.concern.specs.Concern.{concernsBy, appliesBy, Applying}
 use Rattle.verdict_text.specs.Ready.{Ready, Groups, asked}
 use Rattle.verdict_text.specs.Calls.{decidedBy, spread}
 use Rattle.verdict_text.specs.declared.PathAnswer.the-variants as path

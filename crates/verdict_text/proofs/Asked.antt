@@ -14,12 +14,8 @@ use Rattle.text.proofs.Tests.{by}
 use Rattle.path.specs.Faults.{unsized}
 use Rattle.table.specs.Refusal.{stray}
 use Rattle.table.specs.Group.{badUser}
+use Rattle.table.proofs.Numbers.{or-is}
 use Rattle.verdict_text.specs.Calls.{badMode, badOrigin}
-
-or-is : (a b : Bool) → (a || b) ≡ (a or b)
-unfolding _or_
-or-is true b = refl
-or-is false b = refl
 
 module _ (s : Str) where
   unsized-is : (eqb (length s) 0 || ltb 64 (length s)) ≡ unsized s

@@ -11,7 +11,7 @@ use Rattle.path.specs.Path.{Path}
 use Rattle.verdict.specs.Verdict.{Request}
 use Rattle.verdict.specs.Laws.{Orderly}
 use Rattle.judge.specs.Rules.{ruleIn, rulesIn, Laid}
-use Rattle.concern.specs.Concern.{hasOf}
+use Rattle.groups.specs.Set.{hasOf}
 
 -- the rules of the table t are the n rules of the bytes; where a rule's subject is a group, `holders` has its number
 pub record Ready (t : Table) (f starts holders : List ℕ) (n : ℕ) : Type 0 where

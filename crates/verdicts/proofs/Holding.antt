@@ -7,7 +7,7 @@ use Prim.Native.Nat.{ℕ, zero, suc, _+_, _≤_, _<_}
 use native.Mathlib.Omega.{arith}
 use lib.ListN.{length, take, getD}
 use Rattle.text.specs.String.{Str}
-use Rattle.rows.specs.Strings.{stringsIn}
+use Rattle.rows.proofs.Grow.{strings-length}
 use Rattle.keep.specs.Held.{Owned}
 use Rattle.table.specs.Table.{Rule, Table}
 use Rattle.table.specs.Text.{check, tableOf}
@@ -27,16 +27,11 @@ use Rattle.verdict_text.specs.declared.PathAnswer.{PathAnswer}
 use Rattle.verdict_text.specs.declared.TreeAnswer.{TreeAnswer}
 use Rattle.verdicts.specs.Refused.{pathRefused, treeRefused}
 use Rattle.verdicts.proofs.RuleBytes.{rules-read, rules-laid, holders-read}
-use Rattle.verdicts.proofs.Accepted.{accepted-orderly}
-
-strings-length : (f starts : List ℕ) (n i : ℕ) → length (stringsIn f starts n i) ≡ n
-unfolding stringsIn
-strings-length f starts zero i = refl
-strings-length f starts (suc n) i = ap suc (strings-length f starts n (suc i))
+use Rattle.acceptance.proofs.Reordered.{accepted-orderly}
 
 module _ {text buf : List ℕ} {u : ℕ} {c : Counts} {groups users owners ids starts holders : List ℕ} (K : Kept text buf u c groups users owners ids starts holders) where
   named-long : length (tableOf text .groups) ≡ c .groups
-  named-long = ap length (K .holds .groups-are) ∙ strings-length (take u buf) groups (c .groups) 0
+  named-long = ap length (K .holds .groups-are) ∙ strings-length (take u buf) groups (c .groups)
 
   own-named : Owned owners (c .members) (length (tableOf text .groups))
   own-named j h = omega (arith, named-long, K .holds .owned j h)

@@ -1,3 +1,2 @@
 pub mod RuleBytes
-pub mod Accepted
 pub mod Holding

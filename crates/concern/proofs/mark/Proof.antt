@@ -4,6 +4,7 @@ use mathlib.Core.Path.{_≡_, refl, sym, ap, _∙_}
 use Prim.Native.Nat.{ℕ, _+_, _-_, _≤_, zero-le}
 use lib.Dec.{eqb}
 use lib.ListN.{length, getD, length-set}
+use Rattle.table.specs.declared.GroupNumber.{GroupNumber}
 use Rattle.judge.specs.Rules.{ruleIn}
 use Rattle.judge.proofs.Stores.{stored}
 use Rattle.concern.specs.Concern.{appliesBy, Applying}
@@ -34,15 +35,15 @@ cast-s c =
 cast-t16 : tie.Need-cast-t16 Inv-loop μ-loop
 cast-t16 c = omega arith
 
-holder-of-requires : tie.Need-holder-of-requires Inv-loop μ-loop
-holder-of-requires c κs = omega arith
+group-of-requires : tie.Need-group-of-requires Inv-loop μ-loop
+group-of-requires c κs = omega arith
 
 mark-at-requires : tie.Need-mark-at-requires Inv-loop μ-loop
 mark-at-requires c κs =
-    let at-holder-of = c .holder-of in
+    let at-group-of = c .group-of in
     let at-loop-test = c .before .before .loop-test in
     let at-start = c .before .before .before .before .before .before .before .before .before .before in
-    (at-start .pre .0 _ (at-loop-test .taken), λ e. rw (at-holder-of .ensures) (at-start .pre .1 _ (at-loop-test .taken) e))
+    (at-start .pre .0 _ (at-loop-test .taken), λ e. rw (ap (λ (g : GroupNumber). g .0) (at-group-of .ensures)) (at-start .pre .1 _ (at-loop-test .taken) e))
 
 slice-write-on : tie.Need-slice-write-on Inv-loop μ-loop
 slice-write-on c = omega arith
@@ -56,10 +57,10 @@ loop-less c = omega arith
 loop-again : tie.Need-loop-again Inv-loop μ-loop
 loop-again c =
     let at-mark-at = c .mark-at in
-    let at-holder-of = c .before .holder-of in
+    let at-group-of = c .before .group-of in
     let at-loop = c .before .before .before .before .loop in
     let at-start = c .before .before .before .before .before .before .before .before .before .before .before in
-    (omega arith, length-set (at-loop .on) (at-loop .i) _ ∙ at-loop .inv .1, stored (λ (j v : ℕ). eqb v 1 ≡ appliesBy (at-start .args .set) (getD (at-start .args .holders .now) j 0) (at-start .args .user .now) (at-start .args .mode) (at-start .args .origin .now) (ruleIn (at-start .args .f .now) (getD (at-start .args .starts .now) j 0))) (at-loop .on) (at-loop .i) (at-mark-at .result) (omega arith) (at-loop .inv .2) (at-mark-at .ensures ∙ ap (λ (g : ℕ). appliesBy (at-start .args .set) g (at-start .args .user .now) (at-start .args .mode) (at-start .args .origin .now) (ruleIn (at-start .args .f .now) (getD (at-start .args .starts .now) (at-loop .i) 0))) (at-holder-of .ensures)))
+    (omega arith, length-set (at-loop .on) (at-loop .i) _ ∙ at-loop .inv .1, stored (λ (j v : ℕ). eqb v 1 ≡ appliesBy (at-start .args .set) (getD (at-start .args .holders .now) j 0) (at-start .args .user .now) (at-start .args .mode) (at-start .args .origin .now) (ruleIn (at-start .args .f .now) (getD (at-start .args .starts .now) j 0))) (at-loop .on) (at-loop .i) (at-mark-at .result) (omega arith) (at-loop .inv .2) (at-mark-at .ensures ∙ ap (λ (g : ℕ). appliesBy (at-start .args .set) g (at-start .args .user .now) (at-start .args .mode) (at-start .args .origin .now) (ruleIn (at-start .args .f .now) (getD (at-start .args .starts .now) (at-loop .i) 0))) (ap (λ (g : GroupNumber). g .0) (at-group-of .ensures))))
 
 same-length : tie.Need-same-length Inv-loop μ-loop
 same-length c = search needs
@@ -80,7 +81,7 @@ mark-spec =
     shared-slice-read-s
     cast-s
     cast-t16
-    holder-of-requires
+    group-of-requires
     mark-at-requires
     slice-write-on
     add-i

@@ -2,7 +2,7 @@
 use borrow.Author.Needs.{needs}
 use native.Mathlib.Omega.{arith}
 use mathlib.Core.Path.{_≡_, refl, sym, ap, _∙_}
-use Rattle.rows.specs.Strings.{past, stringAt}
+use Rattle.place.specs.Place.{strEnd, strIn}
 use Rattle.rows.proofs.Strings.{room}
 use Rattle.rows.proofs.is_at.Statement.{statement}
 use Rattle.rows.proofs.is_at.Tie as tie
@@ -43,7 +43,7 @@ is-same-requires : tie.Need-is-same-requires
 is-same-requires c κs = search needs
 
 returns : tie.Need-returns
-unfolding stringAt past
+unfolding strIn strEnd
 returns c =
     let at-is-same = c .is-same in
     at-is-same .ensures

@@ -3,9 +3,9 @@ use borrow.Author.Needs.{needs}
 use native.Mathlib.Omega.{arith}
 use mathlib.Core.Path.{_≡_, refl, sym, ap, _∙_}
 use Rattle.rows.proofs.Strings.{hash-small}
-use Rattle.keep.proofs.Rules.{holder-small, rule-short, rule-long, rule-four, rule-graded, rule-room, rule-kept, id-room}
-use Rattle.keep.proofs.take_rule.Statement.{statement}
-use Rattle.keep.proofs.take_rule.Tie as tie
+use Rattle.keep_rule.proofs.Rules.{holder-small, rule-short, rule-long, rule-four, rule-graded, rule-room, rule-kept, id-room}
+use Rattle.keep_rule.proofs.take_rule.Statement.{statement}
+use Rattle.keep_rule.proofs.take_rule.Tie as tie
 
 read-rule-requires : tie.Need-read-rule-requires
 read-rule-requires c κs = search needs

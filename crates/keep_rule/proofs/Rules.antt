@@ -14,7 +14,8 @@ use Rattle.text.specs.String.{Str, same}
 use Rattle.text.specs.Frame.{got, part}
 use Rattle.text.proofs.Tests.{by, clash, neither, same→≡, or-false-r}
 use Rattle.path.specs.Faults.{unsized, overLimit, strayByte, keyTwice}
-use Rattle.rows.specs.Strings.{stringAt, stringsIn, place, hashFrom}
+use Rattle.place.specs.Place.{strIn}
+use Rattle.rows.specs.Strings.{stringsIn, place, hashFrom}
 use Rattle.rows.proofs.Strings.{hash-small}
 use Rattle.rows.proofs.Grow.{rowsOf, strings-rows, strings-length, place-at}
 use Rattle.table.specs.Table.{Rule}
@@ -27,8 +28,9 @@ use Rattle.table.proofs.Numbers.{or-is, long-is, short-is, stray-is, number-fou
 use Rattle.table.proofs.Frames.{rule-read}
 use Rattle.table.proofs.Rules.{rule-told, rule-untold}
 use Rattle.table.proofs.Versions.{refused-unread, refused-read}
-use Rattle.keep.specs.Held.{Marked, idPlace, RuleKept}
+use Rattle.keep.specs.Held.{Marked}
+use Rattle.keep_rule.specs.Kept.{idPlace, RuleKept}
 use Rattle.keep.proofs.Members.{unlisted-is, listed-is, place-small}
 
 -- ---- the filter: a place that is not set proves that no earlier id is the same
 
@@ -40,8 +42,8 @@ no-rows s g (suc k) i h = neither _ _ (h i (omega arith) (omega arith)) (no-rows
 id-filter : (s : Str) (f ids seen : List ℕ) (n : ℕ) → Marked seen (idPlace f ids) n → getD seen (hashFrom 0 s) 0 ≡ 0 → any (same s) (stringsIn f ids n 0) ≡ false
 id-filter s f ids seen n m z =
     ap (any (same s)) (strings-rows f ids n 0)
-    ∙ no-rows s (λ j. stringAt f (getD ids j 0)) n 0 (λ j a b.
-    by (same s (stringAt f (getD ids j 0)))
+    ∙ no-rows s (λ j. strIn f (getD ids j 0)) n 0 (λ j a b.
+    by (same s (strIn f (getD ids j 0)))
     (λ t.
     let o : getD seen (idPlace f ids j) 0 ≡ 1 = m j (omega arith) in
     let e : getD seen (idPlace f ids j) 0 ≡ 0 = ap (λ (x : Str). getD seen (hashFrom 0 x) 0) (sym (same→≡ _ _ t)) ∙ z in

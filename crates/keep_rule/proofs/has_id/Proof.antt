@@ -1,9 +1,9 @@
 -- `has_id` equals its definition.
 use borrow.Author.Needs.{needs}
 use mathlib.Core.Path.{_≡_, refl, sym, ap, _∙_}
 use Rattle.keep.proofs.Groups.{find-any}
-use Rattle.keep.proofs.has_id.Statement.{statement}
-use Rattle.keep.proofs.has_id.Tie as tie
+use Rattle.keep_rule.proofs.has_id.Statement.{statement}
+use Rattle.keep_rule.proofs.has_id.Tie as tie
 
 returns : tie.Need-returns
 returns c =

@@ -1,0 +1,101 @@
+// A rule of the table, judged against the rows before it, and kept: its places are stored where it is not refused.
+ghost use mathlib.Core.Path.{_≡_};
+ghost use mathlib.Core.Bool.{false};
+ghost use Prim.Native.Nat.{_+_, _≤_, _<_};
+ghost use lib.ListN.{length, getD};
+ghost use Rattle.text.specs.Test.{if_then_else_, any, twice};
+ghost use Rattle.text.specs.String.{same};
+ghost use Rattle.rows.specs.Strings.{stringsIn, Laid, place};
+ghost use Rattle.table.specs.Frame.{entryOf};
+ghost use Rattle.table.specs.Refusal.{Earlier, framed, refusal};
+ghost use Rattle.keep.specs.Held.{Marked};
+ghost use Rattle.keep_rule.specs.Kept.{idPlace, RuleKept};
+use table::frame::RuleFrame;
+
+// One of the first n ids is the id. `seen` is 0 only where none is.
+fn has_id(old: &[u8], ids: &[u16], n: usize, seen: u8, id: &[u8]) -> bool
+    requires { ⌜ Laid (now old) (now ids) n × (n ≤ length (now ids)) ⌝ }
+    ensures { λ r. ⌜ ((seen ≡ 0 → any (same (now (id .entry))) (stringsIn (now (old .entry)) (now (ids .entry)) n 0) ≡ false) → r ≡ any (same (now (id .entry))) (stringsIn (now (old .entry)) (now (ids .entry)) n 0)) ⌝ }
+{
+    if seen == 0 {
+        return false;
+    }
+    rows::find(old, ids, n, id) < n
+}
+
+// The number of a group's name among the groups; `count` where it is not listed, and 0 for a user.
+fn holder_of(
+    old: &[u8],
+    groups: &[u16],
+    count: usize,
+    hints: &[u8],
+    by_group: bool,
+    subject: &[u8],
+) -> usize
+    requires { ⌜ Laid (now old) (now groups) count × (count ≤ length (now groups)) × (twice same (stringsIn (now old) (now groups) count 0) ≡ false) × (1024 ≤ length (now hints)) ⌝ }
+    ensures { λ r. ⌜ r ≡ (if «by_group» then place (now (subject .entry)) (stringsIn (now (old .entry)) (now (groups .entry)) count 0) else 0) ⌝ }
+{
+    if by_group {
+        return keep::number_of(old, groups, count, hints, subject);
+    }
+    0
+}
+
+// A frame of kind 4. It is kept where the number is 255.
+pub fn take_rule(
+    old: &[u8],
+    f: &[u8],
+    last: u8,
+    groups: &[u16; 64],
+    count: usize,
+    hints: &[u8; 1024],
+    ids: &mut [u16; 256],
+    starts: &mut [u16; 256],
+    holders: &mut [u8; 256],
+    n: usize,
+    seen: &mut [u8; 8192],
+) -> u8
+    requires { ⌜ (0 < length (now f)) × (getD (now f) 0 0 ≡ 4) ⌝ }
+    requires { ⌜ (length (now old) + length (now f) ≤ 16384) × Laid (now old) (now groups) count × (count ≤ 64) × Laid (now old) (now ids) n × (n ≤ 256) × Marked (now seen) (idPlace (now old) (now ids)) n × (twice same (stringsIn (now old) (now groups) count 0) ≡ false) ⌝ }
+    ensures { λ r. ⌜ ((b : Earlier) → b .kind ≡ last → b .groups ≡ stringsIn (now (old .entry)) (now (groups .entry)) count 0 → b .ids ≡ stringsIn (now (old .entry)) (now (ids .entry)) n 0 → r ≡ refusal b (framed (entryOf (now (f .entry))))) ⌝ }
+    ensures { λ r. ⌜ (r ≡ 255 → RuleKept (stringsIn (now (old .entry)) (now (groups .entry)) count 0) (now (old .entry)) (now (f .entry)) (now (ids .entry)) (now (starts .entry)) (now (holders .entry)) (now (seen .entry)) n (now (ids .exit)) (now (starts .exit)) (now (holders .exit)) (now (seen .exit))) ⌝ }
+{
+    let r = table::frame::read_rule(f);
+    let RuleFrame::Is {
+        subject: s,
+        id: i,
+        origin: o,
+        fault,
+    } = r
+    else {
+        return 3;
+    };
+    if table::frame::is_out_of_order(last, 4) {
+        return 4;
+    }
+    let start = 5;
+    let from = s + 1;
+    let then = i + 1;
+    let subject = &f[start..s];
+    let id = &f[from..i];
+    let origin = &f[then..o];
+    let by_group = f[3] == 1;
+    let g = holder_of(old, groups, count, hints, by_group, subject);
+    let h = rows::hash(id, 0);
+    let again = has_id(old, ids, n, seen[h], id);
+    let five = (table::frame::is_unsized(64, subject.len())
+        | table::frame::is_unsized(32, id.len()))
+        | ((32 < origin.len()) | (256 <= n));
+    let six = !text::string::all_print(subject)
+        | (!text::string::all_print(id) | !text::string::all_print(origin));
+    let nine = by_group & (g == count);
+    let number = table::frame::number(fault, five, six, again, nine);
+    if number != 255 {
+        return number;
+    }
+    ids[n] = (old.len() + s) as u16;
+    starts[n] = (old.len() + 1) as u16;
+    holders[n] = g as u8;
+    seen[h] = 1;
+    255
+}
