@@ -1,5 +1,7 @@
 //! The rule table and the group count: the proved calls against the Rust ones.
 
+use std::collections::HashSet;
+
 use burgee_rust::compare::{group_count, table_check};
 use burgee_rust::generate::damage::damage;
 use burgee_rust::generate::path::{put_fault, Element, Key, Path, FAULTS};
@@ -360,6 +362,65 @@ fn texts_at_the_length_limit() {
     let lines = text.iter().filter(|b| **b == b'\n').count();
     text.extend(b"020167\n");
     assert_eq!(table_check(&text), refusal(4, lines + 1));
+}
+
+/// Large tables of short names that are much alike: good ones, and ones where a group
+/// name, a member in its group or a rule id stands twice, far apart or side by side.
+#[test]
+fn twice_in_large_tables() {
+    let mut random = Random::new(0x29);
+    let mut tally = Tally::default();
+    for round in 0..150usize {
+        let mut lines = large_table(&mut random);
+        let text = table_text(&lines);
+        assert_eq!(table_check(&text), 0);
+        for user in ["a", "ab", "bca", "none"] {
+            group_count(&text, user.as_bytes());
+        }
+        let kind = 2 + (round % 3) as u8;
+        let of_kind: Vec<usize> = (0..lines.len()).filter(|at| lines[*at].kind() == kind).collect();
+        let (first, second) = (random.below(of_kind.len()), random.below(of_kind.len()));
+        if first != second {
+            let (earlier, later) = (of_kind[first.min(second)], of_kind[first.max(second)]);
+            lines[later] = lines[earlier].clone();
+            let answer = table_check(&table_text(&lines));
+            assert_eq!(answer, refusal(8, later + 1));
+            tally.count(answer);
+        }
+    }
+    tally.assert_at_least(&[(8, 130)]);
+}
+
+fn large_table(random: &mut Random) -> Vec<Line> {
+    let groups = distinct_names(random, 64);
+    let mut lines = vec![Line::version("v1")];
+    lines.extend(groups.iter().map(|name| Line::group(name)));
+    let mut members = HashSet::new();
+    while members.len() < 400 {
+        let (group, user) = (random.pick(&groups).clone(), short_name(random));
+        if members.insert((group.clone(), user.clone())) {
+            lines.push(Line::member(&group, &user));
+        }
+    }
+    lines.extend(distinct_names(random, 250).iter().map(|id| Line::Rule(rule(id, "u", Path::default()))));
+    lines
+}
+
+fn distinct_names(random: &mut Random, count: usize) -> Vec<String> {
+    let mut names = Vec::new();
+    while names.len() < count {
+        let name = short_name(random);
+        if !names.contains(&name) {
+            names.push(name);
+        }
+    }
+    names
+}
+
+/// One to six bytes out of three.
+fn short_name(random: &mut Random) -> String {
+    let len = random.between(1, 6);
+    String::from_utf8(random.bytes_of(b"abc", len)).expect("ASCII")
 }
 
 /// Names that differ in length or case only, and names in two roles.

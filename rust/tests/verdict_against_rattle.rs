@@ -12,6 +12,7 @@ use burgee_rust::generate::table::{
     Shape, USERS,
 };
 use burgee_rust::generate::table_fault::LINE_FAULTS;
+use burgee_rust::generate::worst_tree::worst_trees;
 use burgee_rust::random::Random;
 use burgee_rust::request::PathRequest;
 use burgee_rust::tally::Tally;
@@ -434,6 +435,18 @@ fn long_paths_and_large_tables() {
     for path in ["/", "/a", "/a[k=7]", "/a[k=7]/b", "/a[k=256]"] {
         verdicts.count(compare(&text, &PathRequest { user: b"u", mode: READ, origin: b"", path: path.as_bytes() }));
     }
+}
+
+/// The trees that take long, at their own path and at others near it.
+#[test]
+fn trees_that_take_long() {
+    let mut verdicts = Verdicts::default();
+    for worst in worst_trees() {
+        for path in [&worst.path[..], b"/", b"/a", b"/a/a[k=001]", b"/b"] {
+            verdicts.count(compare(&worst.table, &PathRequest { user: b"u", mode: READ, origin: b"", path }));
+        }
+    }
+    assert!(verdicts.all + verdicts.none >= 10 && verdicts.mixed >= 10, "too few of a kind");
 }
 
 fn deep_path(depth: usize) -> String {

@@ -87,7 +87,7 @@ fn turned(number: usize, counts: &[usize]) -> (u8, u8, Path) {
     let mut path = keyed(counts);
     path.elements.last_mut().expect("an element").keys.pop();
     let mut path = last_key(path, number);
-    if number % 2 == 0 {
+    if number.is_multiple_of(2) {
         path.elements.iter_mut().for_each(|element| element.keys.reverse());
     }
     (b'u', (number % 2) as u8, path)
@@ -111,7 +111,7 @@ fn long_values(number: usize) -> (u8, u8, Path) {
 
 /// Four keys of the asked path, or none, before keys of its own.
 fn partly_asked(number: usize) -> (u8, u8, Path) {
-    let count = if number % 2 == 0 { 4 } else { 0 };
+    let count = if number.is_multiple_of(2) { 4 } else { 0 };
     let (_, action, path) = turned(number, &[count, 4, 2]);
     (b'u', action, path)
 }
