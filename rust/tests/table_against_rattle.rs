@@ -6,7 +6,8 @@ use burgee_rust::compare::{group_count, table_check};
 use burgee_rust::generate::damage::damage;
 use burgee_rust::generate::path::{put_fault, Element, Key, Path, FAULTS};
 use burgee_rust::generate::table::{
-    dense_table, hex_line, table_of_length, table_text, Line, Rule, GROUP_NAMES, USERS,
+    dense_table, hex_line, table_of_colliding_groups, table_of_colliding_members, table_of_length,
+    table_of_shuffled_members, table_text, Line, Rule, GROUP_NAMES, USERS,
 };
 use burgee_rust::generate::table_fault::LINE_FAULTS;
 use burgee_rust::random::Random;
@@ -435,4 +436,27 @@ fn names_that_are_nearly_the_same() {
     assert_eq!(group_count(&text, b"gg"), 1 << 16 | 1 << 8);
     assert_eq!(group_count(&text, b"G"), 0);
     assert!(GROUP_NAMES.contains(&"u") && USERS.contains(&"g"), "a name stands for a user and for a group");
+}
+
+/// Groups and members that the proved library's hashes cannot tell apart, and members in
+/// any order; each line once more is refused.
+#[test]
+fn names_of_one_hash() {
+    let mut random = Random::new(0x29);
+    let tables = [
+        table_of_colliding_groups(64, 256),
+        table_of_colliding_members(256),
+        table_of_shuffled_members(&mut random, 64, 256),
+    ];
+    for text in tables {
+        assert_eq!(table_check(&text), 0);
+        for user in ["user-000", "user-042", "aAaAaAaAaAaAaAaA", "`baAaAaAaAaAaAaA", "nobody"] {
+            group_count(&text, user.as_bytes());
+        }
+        let lines: Vec<&[u8]> = text.split_inclusive(|b| *b == b'\n').collect();
+        for line in lines.iter().filter(|line| line.starts_with(b"03")).step_by(7) {
+            let again = [&text, *line].concat();
+            assert_eq!(table_check(&again), refusal(8, lines.len() + 1));
+        }
+    }
 }
