@@ -23,7 +23,7 @@ use burgee_rust::request::PathRequest;
 use burgee_rust::word;
 
 /// How often each call is made in the short run.
-const ROUNDS: usize = 6_000;
+const ROUNDS: usize = 4_000;
 
 struct Target {
     name: &'static str,
