@@ -1,9 +1,8 @@
 // The command line: each command prints what one call of the proved libraries answers, one fact a line.
-mod explanation;
-mod input;
-mod paths;
-mod policies;
-mod tables;
+use console::input;
+use table_commands::explanation;
+use table_commands::paths;
+use table_commands::tables;
 
 // burgee table FILE
 fn table() {
@@ -24,7 +23,36 @@ fn policy() {
     }
     let mut text = io::large_buffer();
     let n = io::read_full(fd, &mut text);
-    policies::check(&text[..n]);
+    policy_commands::check(&text[..n]);
+}
+
+fn judge_rpc(headers: &[u8]) {
+    let fd = input::open(2);
+    if fd < 0 {
+        return;
+    }
+    let mut identity = io::buffer();
+    let i = os::arg(3, &mut identity);
+    let mut path = io::buffer();
+    let p = os::arg(4, &mut path);
+    let mut text = io::large_buffer();
+    let n = io::read_full(fd, &mut text);
+    policy_commands::rpcs::verdict(&text[..n], &identity[..i], &path[..p], headers);
+}
+
+// burgee rpc FILE IDENTITY PATH [HEADERS-FILE]
+fn rpc(words: usize) {
+    if words == 5 {
+        judge_rpc(b"");
+        return;
+    }
+    let fd = input::open(5);
+    if fd < 0 {
+        return;
+    }
+    let mut headers = io::large_buffer();
+    let n = io::read_full(fd, &mut headers);
+    judge_rpc(&headers[..n]);
 }
 
 // burgee groups FILE USER
@@ -91,11 +119,18 @@ fn path() {
     console::say::usage(b"after path comes read or write");
 }
 
+// burgee rotate STEP RECORD STORE ..
+fn rotate(words: usize) -> bool {
+    let mut step = io::buffer();
+    let s = os::arg(2, &mut step);
+    rotation_commands::steps::run(&step[..s], words)
+}
+
 // burgee help COMMAND
 fn explain_use() {
     let mut word = io::buffer();
     let w = os::arg(2, &mut word);
-    console::help::on(&word[..w]);
+    help::on(&word[..w]);
 }
 
 // The command, if it is one and has the arguments that it takes.
@@ -113,6 +148,10 @@ fn run(command: &[u8], words: usize) -> bool {
         path();
     } else if is_verdict & (words == 7) {
         verdict(command);
+    } else if text::string::is_same(command, b"rpc") & ((words == 5) | (words == 6)) {
+        rpc(words);
+    } else if text::string::is_same(command, b"rotate") {
+        return rotate(words);
     } else if text::string::is_same(command, b"help") {
         explain_use();
     } else {

@@ -1,5 +1,5 @@
-// What the command line prints: facts, refusals in words, pages of help.
-pub mod help;
+// What the command line reads and prints: files by name, facts, refusals in words.
+pub mod input;
 pub mod refusal;
 pub mod rows;
 pub mod say;

@@ -66,7 +66,7 @@ fn string_at(f: &[u8], at: usize) {
         return;
     };
     let start = at + 1;
-    crate::say::line(&f[start..end]);
+    show::line(&f[start..end]);
 }
 
 // Prints the name of a group.

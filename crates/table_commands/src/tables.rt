@@ -1,4 +1,4 @@
-// The commands on a rule table.
+// A rule table's check, a user's groups, the verdicts.
 ghost use Prim.Native.Nat.{_≤_};
 ghost use lib.ListN.{length};
 use table::Checked;
@@ -7,12 +7,12 @@ use table::RuleNumber;
 use verdict_text::PathAnswer;
 use verdict_text::TreeAnswer;
 
-// Prints how many rows of each kind an accepted table has, or why it is refused.
+// How many rows of each kind an accepted table has, or why it is refused.
 pub fn check(text: &[u8]) {
     let c = groups::check_table(text);
     match c {
         Checked::Accepted => {
-            console::say::line(b"accepted");
+            show::line(b"accepted");
             console::say::count(b"groups ", console::rows::count(text, 2));
             console::say::count(b"members ", console::rows::count(text, 3));
             console::say::count(b"rules ", console::rows::count(text, 4));
@@ -21,7 +21,7 @@ pub fn check(text: &[u8]) {
     }
 }
 
-// Prints how many groups list the user, and the first of them.
+// How many groups list the user, and the first of them.
 pub fn groups(text: &[u8], user: &[u8])
     requires { ⌜ length (now text) ≤ 65536 ⌝ }
 {
@@ -31,58 +31,45 @@ pub fn groups(text: &[u8], user: &[u8])
             let g = first.0 as usize;
             console::say::count(b"groups ", count as usize);
             console::say::count(b"first ", g);
-            console::say::text(b"name ");
+            show::word(b"name ");
             console::rows::group(text, g);
         }
-        Counted::NoGroup => console::say::line(b"groups 0"),
+        Counted::NoGroup => show::line(b"groups 0"),
         Counted::Declined { number, line } => console::refusal::table(text, number, line),
     }
 }
 
-// Prints a rule's number and its id.
-fn rule(text: &[u8], number: RuleNumber)
+fn id(text: &[u8], rule: RuleNumber)
     requires { ⌜ length (now text) ≤ 65536 ⌝ }
 {
-    let n = number.0 as usize;
-    console::say::count(b"rule ", n);
-    console::say::text(b"id ");
-    console::rows::id(text, n);
+    show::word(b"id ");
+    console::rows::id(text, rule.0 as usize);
 }
 
-// Prints the action, and the deciding rule.
+// The action, and the deciding rule's number and id.
 pub fn verdict(text: &[u8], user: &[u8], mode: u32, origin: &[u8], path: &[u8])
     requires { ⌜ length (now text) ≤ 65536 ⌝ }
 {
     let a = verdicts::path_verdict(text, user, mode, origin, path);
+    crate::answer::path(a);
     match a {
-        PathAnswer::Permit(number) => {
-            console::say::line(b"permit");
-            rule(text, number);
-        }
-        PathAnswer::Deny(number) => {
-            console::say::line(b"deny");
-            rule(text, number);
-        }
-        PathAnswer::Default => {
-            console::say::line(b"deny");
-            console::say::line(b"default");
-        }
-        PathAnswer::Refused { number, line } => console::refusal::table(text, number, line),
+        PathAnswer::Permit(rule) => id(text, rule),
+        PathAnswer::Deny(rule) => id(text, rule),
+        PathAnswer::Default => (),
+        PathAnswer::Refused { number, line } => console::refusal::quote_line(text, line),
     }
 }
 
-// Prints the tree answer, and the rule that MIXED names.
+// The tree answer, and the number and id of the rule that MIXED names.
 pub fn tree(text: &[u8], user: &[u8], mode: u32, origin: &[u8], path: &[u8])
     requires { ⌜ length (now text) ≤ 65536 ⌝ }
 {
     let a = verdicts::tree_verdict(text, user, mode, origin, path);
+    crate::answer::tree(a);
     match a {
-        TreeAnswer::All => console::say::line(b"ALL"),
-        TreeAnswer::None => console::say::line(b"NONE"),
-        TreeAnswer::Mixed(number) => {
-            console::say::line(b"MIXED");
-            rule(text, number);
-        }
-        TreeAnswer::Refused { number, line } => console::refusal::table(text, number, line),
+        TreeAnswer::All => (),
+        TreeAnswer::None => (),
+        TreeAnswer::Mixed(rule) => id(text, rule),
+        TreeAnswer::Refused { number, line } => console::refusal::quote_line(text, line),
     }
 }

@@ -1,6 +1,7 @@
 // Help: what the commands are, and for each what it prints, with an example.
 pub fn all() {
-    crate::say::text(
+    io::write_all(
+        1,
         b"burgee: tries rule tables and policies\n\
         \n\
         burgee table FILE\n\
@@ -11,6 +12,8 @@ pub fn all() {
         burgee path read TEXT\n\
         burgee path write BYTES\n\
         burgee policy FILE\n\
+        burgee rpc FILE IDENTITY PATH [HEADERS-FILE]\n\
+        burgee rotate STEP RECORD STORE ..\n\
         burgee help COMMAND\n\
         \n\
         A FILE named - is standard input. Each line of an answer is one fact.\n\
@@ -19,7 +22,8 @@ pub fn all() {
 }
 
 fn table() {
-    crate::say::text(
+    io::write_all(
+        1,
         b"burgee table FILE\n\
         \n\
         Checks a rule table: accepted, and how many groups, members and rules it has;\n\
@@ -34,7 +38,8 @@ fn table() {
 }
 
 fn groups() {
-    crate::say::text(
+    io::write_all(
+        1,
         b"burgee groups FILE USER\n\
         \n\
         How many groups of a rule table list the user, and the first of them.\n\
@@ -47,7 +52,8 @@ fn groups() {
 }
 
 fn verdict() {
-    crate::say::text(
+    io::write_all(
+        1,
         b"burgee verdict FILE USER read|write ORIGIN PATH\n\
         \n\
         What the user may do at one path: permit or deny, and the deciding rule's number and id,\n\
@@ -61,7 +67,8 @@ fn verdict() {
 }
 
 fn tree() {
-    crate::say::text(
+    io::write_all(
+        1,
         b"burgee tree FILE USER read|write ORIGIN PATH\n\
         \n\
         What the user may do at a path and beneath it: ALL, NONE or MIXED.\n\
@@ -75,7 +82,8 @@ fn tree() {
 }
 
 fn explain() {
-    crate::say::text(
+    io::write_all(
+        1,
         b"burgee explain FILE USER read|write ORIGIN PATH\n\
         \n\
         The verdict, and then every rule that matches, in ranking order: the first decides, and of each other one\n\
@@ -92,7 +100,8 @@ fn explain() {
 }
 
 fn path() {
-    crate::say::text(
+    io::write_all(
+        1,
         b"burgee path read TEXT\n\
         burgee path write BYTES\n\
         \n\
@@ -106,7 +115,8 @@ fn path() {
 }
 
 fn policy() {
-    crate::say::text(
+    io::write_all(
+        1,
         b"burgee policy FILE\n\
         \n\
         Checks an RPC policy: accepted, and how many rules each list has; or the number of the refusal and what it means.\n\
@@ -115,6 +125,58 @@ fn policy() {
         accepted\n\
         deny_rules 1\n\
         allow_rules 2\n",
+    );
+}
+
+fn rpc() {
+    io::write_all(
+        1,
+        b"burgee rpc FILE IDENTITY PATH [HEADERS-FILE]\n\
+        \n\
+        Whether a policy permits an RPC: permit or deny, and the list and the number of the deciding rule in it,\n\
+        or default where no rule matches. The identity is '' without a client certificate.\n\
+        A line of the headers' file is a name, a colon and a value.\n\
+        \n\
+        $ burgee rpc examples/files/yard.json spiffe://yard/officer/jo /gnoi.system.System/Reboot\n\
+        permit\n\
+        list allow_rules\n\
+        rule 0\n\
+        $ burgee rpc examples/files/yard.json spiffe://yard/dryer /gnoi.system.System/Reboot\n\
+        deny\n\
+        list deny_rules\n\
+        rule 0\n\
+        $ echo 'site:north' | burgee rpc examples/files/yard.json '' /gnmi.gNMI/Get -\n\
+        permit\n\
+        list allow_rules\n\
+        rule 1\n\
+        $ burgee rpc examples/files/yard.json '' /gnmi.gNMI/Set\n\
+        deny\n\
+        default\n",
+    );
+}
+
+fn rotate() {
+    io::write_all(
+        1,
+        b"burgee rotate new RECORD STORE policy|table\n\
+        burgee rotate start RECORD STORE\n\
+        burgee rotate upload RECORD STORE FILE\n\
+        burgee rotate verdict RECORD STORE USER read|write ORIGIN PATH\n\
+        burgee rotate tree RECORD STORE USER read|write ORIGIN PATH\n\
+        burgee rotate finalize RECORD STORE\n\
+        burgee rotate close RECORD STORE\n\
+        \n\
+        A rotation tried by hand. RECORD and STORE are files that new makes; each step prints what the record then says.\n\
+        The verdicts are on what is in force: the candidate, else the live text, else factory, which denies all.\n\
+        \n\
+        $ burgee rotate new target/help.record target/help.store table\n\
+        kind table\n\
+        slot 0\n\
+        live none\n\
+        rotation off\n\
+        candidate none\n\
+        $ burgee rotate finalize target/help.record target/help.store\n\
+        refused 13: no rotation is on\n",
     );
 }
 
@@ -134,6 +196,10 @@ pub fn on(command: &[u8]) {
         path();
     } else if text::string::is_same(command, b"policy") {
         policy();
+    } else if text::string::is_same(command, b"rpc") {
+        rpc();
+    } else if text::string::is_same(command, b"rotate") {
+        rotate();
     } else {
         all();
     }

@@ -1,4 +1,6 @@
-// The commands on a policy.
+// The commands on a policy: its check, and the RPC verdict.
+pub mod rpcs;
+
 use policy_text::check::Check;
 
 // What was seen of an accepted policy so far. Its strings hold no backslash, so each " begins or ends one.
@@ -85,10 +87,10 @@ pub fn check(text: &[u8]) {
     match c {
         Check::Accepted => {
             let s = scan(text);
-            console::say::line(b"accepted");
+            show::line(b"accepted");
             console::say::fact(b"deny_rules ", s.deny);
             console::say::fact(b"allow_rules ", s.allow);
         }
-        Check::Refused(number) => console::refusal::request(number),
+        Check::Refused(number) => console::refusal::at(number, 0),
     }
 }

@@ -36,28 +36,28 @@ fn silence(text: &mut [u8], rule: RuleNumber, mode: u32)
 
 fn name_step(s: Step) {
     match s {
-        Step::Elements => console::say::text(b"elements"),
-        Step::Keys => console::say::text(b"definite keys"),
-        Step::Subject => console::say::text(b"user over group"),
-        Step::Action => console::say::text(b"deny over permit"),
-        Step::Id => console::say::text(b"smaller id"),
+        Step::Elements => show::word(b"elements"),
+        Step::Keys => show::word(b"definite keys"),
+        Step::Subject => show::word(b"user over group"),
+        Step::Action => show::word(b"deny over permit"),
+        Step::Id => show::word(b"smaller id"),
     }
 }
 
 fn name_standing(s: Standing) {
     if s.permit {
-        console::say::text(b", permit, ");
+        show::word(b", permit, ");
     } else {
-        console::say::text(b", deny, ");
+        show::word(b", deny, ");
     }
-    console::say::number(s.elements as u64);
-    console::say::text(b" elements, ");
-    console::say::number(s.keys as u64);
-    console::say::text(b" definite keys, ");
+    show::decimal(s.elements as u64);
+    show::word(b" elements, ");
+    show::decimal(s.keys as u64);
+    show::word(b" definite keys, ");
     if s.group {
-        console::say::text(b"group, id ");
+        show::word(b"group, id ");
     } else {
-        console::say::text(b"user, id ");
+        show::word(b"user, id ");
     }
 }
 
@@ -74,15 +74,15 @@ fn rule(text: &[u8], place: u64, rule: RuleNumber, best: RuleNumber)
     let Place::Stands(b) = q else {
         return;
     };
-    console::say::number(place);
+    show::decimal(place);
     if place == 1 {
-        console::say::text(b" decides: rule ");
+        show::word(b" decides: rule ");
     } else {
-        console::say::text(b" lost at ");
+        show::word(b" lost at ");
         name_step(explain::lost_at(s, b));
-        console::say::text(b": rule ");
+        show::word(b": rule ");
     }
-    console::say::number(n as u64);
+    show::decimal(n as u64);
     name_standing(s);
     console::rows::id(text, n);
 }

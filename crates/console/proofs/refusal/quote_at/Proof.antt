@@ -1,9 +1,9 @@
--- `quote_line` is safe: the LF that is found lies within the text.
+-- `quote_at` is safe: the LF that is found lies within the text.
 use borrow.Author.Needs.{needs}
 use native.Mathlib.Omega.{arith}
 use Rattle.path_text.proofs.Reading.{name-high}
-use Rattle.console.proofs.refusal.quote_line.Statement.{statement}
-use Rattle.console.proofs.refusal.quote_line.Tie as tie
+use Rattle.console.proofs.refusal.quote_at.Statement.{statement}
+use Rattle.console.proofs.refusal.quote_at.Tie as tie
 
 find-requires : tie.Need-find-requires
 find-requires c κs = search needs
@@ -23,7 +23,7 @@ quote-requires c κs = search needs
 returns : tie.Need-returns
 returns c = search needs
 
-pub quote-line-spec : {M : Type 1} → statement M
-quote-line-spec =
+pub quote-at-spec : {M : Type 1} → statement M
+quote-at-spec =
     tie.close
     (tie.spec find-requires sub-quote part-quote-start part-quote-end quote-requires returns)

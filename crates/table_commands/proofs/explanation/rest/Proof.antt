@@ -4,8 +4,8 @@ use native.Mathlib.Omega.{arith}
 use mathlib.Core.Path.{_≡_, refl, _∙_}
 use Prim.Native.Nat.{_-_, _≤_}
 use lib.ListN.{length}
-use Rattle.burgee_cli.proofs.explanation.rest.Statement.{statement}
-use Rattle.burgee_cli.proofs.explanation.rest.Tie as tie
+use Rattle.table_commands.proofs.explanation.rest.Statement.{statement}
+use Rattle.table_commands.proofs.explanation.rest.Tie as tie
 
 abbrev Inv-loop : tie.InvT-loop
 Inv-loop text₀ user mode origin path best place₀ text place = (length text ≡ length text₀) × (length text₀ ≤ 65536) × (place ≤ 257)

@@ -2,8 +2,8 @@
 use borrow.Author.Needs.{needs}
 use Prim.Native.Nat.{_-_, _≤_}
 use lib.ListN.{length}
-use Rattle.burgee_cli.proofs.policies.scan.Statement.{statement}
-use Rattle.burgee_cli.proofs.policies.scan.Tie as tie
+use Rattle.policy_commands.proofs.scan.Statement.{statement}
+use Rattle.policy_commands.proofs.scan.Tie as tie
 
 abbrev Inv-loop : tie.InvT-loop
 Inv-loop text s₀ i₀ s i = i ≤ length text

@@ -17,8 +17,11 @@ pub fn read(text: &[u8]) {
     let mut out = [0u8; 9377];
     let r = path_text::reader::read_text(text, &mut out);
     match r {
-        Filled::Length(n) => console::say::hex(&out[..within(n, &out)]),
-        Filled::Refused(number) => console::refusal::request(number),
+        Filled::Length(n) => {
+            show::hex(&out[..within(n, &out)]);
+            show::word(b"\n");
+        }
+        Filled::Refused(number) => console::refusal::at(number, 0),
     }
 }
 
@@ -26,8 +29,8 @@ fn write_bytes(bytes: &[u8]) {
     let mut out = [0u8; 13520];
     let r = path_text::writer::write_text(bytes, &mut out);
     match r {
-        Filled::Length(n) => console::say::line(&out[..within(n, &out)]),
-        Filled::Refused(number) => console::refusal::request(number),
+        Filled::Length(n) => show::line(&out[..within(n, &out)]),
+        Filled::Refused(number) => console::refusal::at(number, 0),
     }
 }
 

@@ -1,0 +1,90 @@
+// The record in its file: five numbers of four bytes, the low byte first, as C lays them out here.
+ghost use mathlib.Core.Path.{_≡_};
+ghost use Prim.Native.Nat.{_<_};
+ghost use lib.ListN.{length};
+use rotation::Record;
+
+fn word(a: u8, b: u8, c: u8, d: u8) -> u32 {
+    a as u32 + b as u32 * 256 + c as u32 * 65536 + d as u32 * 16777216
+}
+
+pub fn of_bytes(b: &[u8; 20]) -> Record {
+    Record {
+        kind: word(b[0], b[1], b[2], b[3]),
+        live_slot: word(b[4], b[5], b[6], b[7]),
+        live_len: word(b[8], b[9], b[10], b[11]),
+        rotating: word(b[12], b[13], b[14], b[15]),
+        candidate_len: word(b[16], b[17], b[18], b[19]),
+    }
+}
+
+fn byte_of(n: u32, unit: u32) -> u8
+    requires { ⌜ 0 < unit ⌝ }
+{
+    (n / unit % 256) as u8
+}
+
+pub fn to_bytes(r: Record) -> [u8; 20]
+    ensures { λ b. ⌜ 20 ≡ length b ⌝ }
+{
+    [
+        byte_of(r.kind, 1),
+        byte_of(r.kind, 256),
+        byte_of(r.kind, 65536),
+        byte_of(r.kind, 16777216),
+        byte_of(r.live_slot, 1),
+        byte_of(r.live_slot, 256),
+        byte_of(r.live_slot, 65536),
+        byte_of(r.live_slot, 16777216),
+        byte_of(r.live_len, 1),
+        byte_of(r.live_len, 256),
+        byte_of(r.live_len, 65536),
+        byte_of(r.live_len, 16777216),
+        byte_of(r.rotating, 1),
+        byte_of(r.rotating, 256),
+        byte_of(r.rotating, 65536),
+        byte_of(r.rotating, 16777216),
+        byte_of(r.candidate_len, 1),
+        byte_of(r.candidate_len, 256),
+        byte_of(r.candidate_len, 65536),
+        byte_of(r.candidate_len, 16777216),
+    ]
+}
+
+// No live text, no rotation, no candidate.
+pub fn factory(kind: u32) -> Record {
+    Record {
+        kind: kind,
+        live_slot: 0,
+        live_len: 4294967295,
+        rotating: 0,
+        candidate_len: 4294967295,
+    }
+}
+
+fn print_length(n: u32) {
+    if n == 4294967295 {
+        show::line(b"none");
+    } else {
+        console::say::fact(b"", n as u64);
+    }
+}
+
+// Prints what a record says.
+pub fn print(r: Record) {
+    if r.kind == 1 {
+        show::line(b"kind policy");
+    } else {
+        show::line(b"kind table");
+    }
+    console::say::fact(b"slot ", r.live_slot as u64);
+    show::word(b"live ");
+    print_length(r.live_len);
+    if r.rotating == 0 {
+        show::line(b"rotation off");
+    } else {
+        show::line(b"rotation on");
+    }
+    show::word(b"candidate ");
+    print_length(r.candidate_len);
+}

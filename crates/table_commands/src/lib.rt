@@ -1,0 +1,5 @@
+// The commands on rule tables and paths.
+pub mod answer;
+pub mod explanation;
+pub mod paths;
+pub mod tables;
