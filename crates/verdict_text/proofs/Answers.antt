@@ -28,8 +28,12 @@ use Rattle.groups.specs.Set.{hasOf}
 use Rattle.concern.specs.Concern.{concernsBy, appliesBy, Applying}
 use Rattle.verdict_text.specs.Ready.{Ready, Groups, asked}
 use Rattle.verdict_text.specs.Calls.{decidedBy, spread}
+use Rattle.verdict_text.specs.Either.{oneOf}
+use Rattle.verdict_text.specs.declared.PathAnswer.{PathAnswer}
 use Rattle.verdict_text.specs.declared.PathAnswer.the-variants as path
+use Rattle.verdict_text.specs.declared.TreeAnswer.{TreeAnswer}
 use Rattle.verdict_text.specs.declared.TreeAnswer.the-variants as trees
+use Rattle.verdict_text.specs.declared.Verdict.the-variants as verdicts
 
 -- ---- a rule that is found has its number below the count
 
@@ -143,3 +147,14 @@ module _ (f : List ℕ) (b : Best) where
   pub none-is : (v : Bool) → b .weight ≡ 0 → v ≡ false → trees.None ≡ spread (answer v (held f b))
   unfolding spread answer word
   none-is v e h = rw (held-none e, h)
+
+-- ---- one of the two answers
+
+module _ (p : PathAnswer) (t : TreeAnswer) (whole : Bool) where
+  pub tree-one : whole ≡ true → verdicts.Tree t ≡ oneOf whole p t
+  unfolding oneOf if_then_else_
+  tree-one e = rw e
+
+  pub path-one : whole ≡ false → verdicts.Path p ≡ oneOf whole p t
+  unfolding oneOf if_then_else_
+  path-one e = rw e

@@ -1,5 +1,5 @@
 -- The path text of a request, and the answers by what refuses the request.
-use mathlib.Core.Path.{_≡_, refl, sym, ap, _∙_}
+use mathlib.Core.Path.{_≡_, refl, sym, ap, ap₂, _∙_}
 use mathlib.Core.Bool.{Bool, true, false, not}
 use mathlib.Core.List.{List, []}
 use mathlib.Core.Option.{Option, none, some, Option·map}
@@ -32,6 +32,7 @@ use Rattle.verdict.specs.Order.{Numbered}
 use Rattle.verdict.specs.Verdict.{Tree}
 use Rattle.place.specs.Place.{pathEnd, pathIn}
 use Rattle.place.proofs.Reading.{path-read}
+use Rattle.verdict_text.specs.Either.{oneOf, refusedAs}
 use Rattle.verdict_text.specs.Calls.{badMode, badOrigin, unspelled, requestRefusal, spelled, decidedBy, pathAnswer, spread, treeAnswer}
 use Rattle.verdict_text.specs.declared.PathAnswer.the-variants as answers
 use Rattle.verdict_text.specs.declared.TreeAnswer.the-variants as trees
@@ -137,11 +138,11 @@ module _ (user : Str) (mode : ℕ) (origin : Str) (text : Str) (m : ℕ) (h : m 
   -- ---- the answers
 
   module _ (d : Option Numbered) where
-    pub path-early : (m ≡ 255 → ⊥) → answers.Refused m 0 ≡ pathAnswer Accepted (requestRefusal user mode origin text) d
+    path-early : (m ≡ 255 → ⊥) → answers.Refused m 0 ≡ pathAnswer Accepted (requestRefusal user mode origin text) d
     unfolding pathAnswer if_then_else_
     path-early n = rw (early n, ne-eqb m 255 n)
 
-    pub path-unread : m ≡ 255 → readText text ≡ none → answers.Refused 22 0 ≡ pathAnswer Accepted (requestRefusal user mode origin text) d
+    path-unread : m ≡ 255 → readText text ≡ none → answers.Refused 22 0 ≡ pathAnswer Accepted (requestRefusal user mode origin text) d
     unfolding pathAnswer if_then_else_
     path-unread e r = rw (unread-22 e r)
 
@@ -150,17 +151,29 @@ module _ (user : Str) (mode : ℕ) (origin : Str) (text : Str) (m : ℕ) (h : m 
     path-judged e p r = rw (read-clear e p r)
 
   module _ (w : Tree) where
-    pub tree-early : (m ≡ 255 → ⊥) → trees.Refused m 0 ≡ treeAnswer Accepted (requestRefusal user mode origin text) w
+    tree-early : (m ≡ 255 → ⊥) → trees.Refused m 0 ≡ treeAnswer Accepted (requestRefusal user mode origin text) w
     unfolding treeAnswer if_then_else_
     tree-early n = rw (early n, ne-eqb m 255 n)
 
-    pub tree-unread : m ≡ 255 → readText text ≡ none → trees.Refused 22 0 ≡ treeAnswer Accepted (requestRefusal user mode origin text) w
+    tree-unread : m ≡ 255 → readText text ≡ none → trees.Refused 22 0 ≡ treeAnswer Accepted (requestRefusal user mode origin text) w
     unfolding treeAnswer if_then_else_
     tree-unread e r = rw (unread-22 e r)
 
     pub tree-judged : m ≡ 255 → (p : Path) → readText text ≡ some p → spread w ≡ treeAnswer Accepted (requestRefusal user mode origin text) w
     unfolding treeAnswer if_then_else_
     tree-judged e p r = rw (read-clear e p r)
+
+  -- either answer
+  module _ (d : Option Numbered) (w : Tree) (whole : Bool) where
+    pub either-early : (m ≡ 255 → ⊥)
+        → refusedAs whole m 0 ≡ oneOf whole (pathAnswer Accepted (requestRefusal user mode origin text) d) (treeAnswer Accepted (requestRefusal user mode origin text) w)
+    unfolding refusedAs
+    either-early n = ap₂ (oneOf whole) (path-early d n) (tree-early w n)
+
+    pub either-unread : m ≡ 255 → readText text ≡ none
+        → refusedAs whole 22 0 ≡ oneOf whole (pathAnswer Accepted (requestRefusal user mode origin text) d) (treeAnswer Accepted (requestRefusal user mode origin text) w)
+    unfolding refusedAs
+    either-unread e r = ap₂ (oneOf whole) (path-unread d e r) (tree-unread w e r)
 
 pub spelled-is : (s : Str) (p : Path) → readText s ≡ some p → spelled (readText s) ≡ p
 unfolding spelled

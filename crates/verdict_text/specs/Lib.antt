@@ -1,2 +1,3 @@
 pub mod Calls
 pub mod Ready
+pub mod Either

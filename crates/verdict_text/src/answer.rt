@@ -12,9 +12,11 @@ ghost use Rattle.place.specs.Place.{pathEnd, pathIn};
 ghost use Rattle.judge.specs.Best.{held, Sound, lacks};
 ghost use Rattle.table.specs.declared.Checked.the-variants.{Accepted};
 ghost use Rattle.verdict_text.specs.Calls.{requestRefusal, request, decidedBy, pathAnswer, spread, treeAnswer};
+ghost use Rattle.verdict_text.specs.Either.{oneOf, refusedAs, pathOf, treeOf};
 ghost use Rattle.verdict_text.specs.Ready.{Ready, Groups, asked};
 use crate::PathAnswer;
 use crate::TreeAnswer;
+use crate::Verdict;
 use judge::best::Best;
 use path_text::Filled;
 use table::RuleNumber;
@@ -99,7 +101,78 @@ pub fn tree_answer(
     spread_of(f, v, b)
 }
 
-// The answer of the path call on a loaded table. The path text is read to bytes, and 22 is given where it does not read.
+// A refusal of either call.
+pub fn refused(number: u8, line: usize, whole: bool) -> Verdict
+    ensures { λ r. ⌜ r ≡ refusedAs whole number line ⌝ }
+{
+    if whole {
+        let t = TreeAnswer::Refused {
+            number: number,
+            line: line,
+        };
+        return Verdict::Tree(t);
+    }
+    let p = PathAnswer::Refused {
+        number: number,
+        line: line,
+    };
+    Verdict::Path(p)
+}
+
+// The answer of either call on a loaded table. The path text is read to bytes, and 22 is given where it does not read.
+pub fn call(
+    f: &[u8],
+    starts: &[u16],
+    holders: &[u8],
+    n: usize,
+    set: u64,
+    user: &[u8],
+    mode: u32,
+    origin: &[u8],
+    text: &[u8],
+    whole: bool,
+) -> Verdict
+    requires { ⌜ ((t : Table) × Ready t (now f) (now starts) (now holders) n × Groups t (now user) set) ⌝ }
+    requires { ⌜ (n ≤ length (now starts)) × (n ≤ length (now holders)) ⌝ }
+    ensures { λ r. ⌜ ((t : Table) → Ready t (now (f .entry)) (now (starts .entry)) (now (holders .entry)) n → Groups t (now (user .entry)) set → r ≡ oneOf whole (pathAnswer Accepted (requestRefusal (now (user .entry)) mode (now (origin .entry)) (now (text .entry))) (decider t (request (now (user .entry)) mode (now (origin .entry)) (now (text .entry))))) (treeAnswer Accepted (requestRefusal (now (user .entry)) mode (now (origin .entry)) (now (text .entry))) (tree t (request (now (user .entry)) mode (now (origin .entry)) (now (text .entry)))))) ⌝ }
+{
+    let number = crate::request::number(user, mode, origin);
+    if number != 255 {
+        return refused(number, 0, whole);
+    }
+    let mut bytes = [0u8; 9377];
+    let filled = path_text::reader::read_text(text, &mut bytes);
+    let Filled::Length(len) = filled else {
+        return refused(22, 0, whole);
+    };
+    let g = &bytes[..len];
+    if whole {
+        let t = tree_answer(f, starts, holders, n, set, user, mode, origin, g);
+        return Verdict::Tree(t);
+    }
+    let p = path_answer(f, starts, holders, n, set, user, mode, origin, g);
+    Verdict::Path(p)
+}
+
+pub fn path_of(v: Verdict) -> PathAnswer
+    ensures { λ r. ⌜ r ≡ pathOf v ⌝ }
+{
+    let Verdict::Path(a) = v else {
+        return PathAnswer::Default;
+    };
+    a
+}
+
+pub fn tree_of(v: Verdict) -> TreeAnswer
+    ensures { λ r. ⌜ r ≡ treeOf v ⌝ }
+{
+    let Verdict::Tree(a) = v else {
+        return TreeAnswer::None;
+    };
+    a
+}
+
+// The answer of the path call on a loaded table.
 pub fn path_call(
     f: &[u8],
     starts: &[u16],
@@ -115,32 +188,7 @@ pub fn path_call(
     requires { ⌜ (n ≤ length (now starts)) × (n ≤ length (now holders)) ⌝ }
     ensures { λ r. ⌜ ((t : Table) → Ready t (now (f .entry)) (now (starts .entry)) (now (holders .entry)) n → Groups t (now (user .entry)) set → r ≡ pathAnswer Accepted (requestRefusal (now (user .entry)) mode (now (origin .entry)) (now (text .entry))) (decider t (request (now (user .entry)) mode (now (origin .entry)) (now (text .entry))))) ⌝ }
 {
-    let number = crate::request::number(user, mode, origin);
-    if number != 255 {
-        return PathAnswer::Refused {
-            number: number,
-            line: 0,
-        };
-    }
-    let mut bytes = [0u8; 9377];
-    let filled = path_text::reader::read_text(text, &mut bytes);
-    let Filled::Length(len) = filled else {
-        return PathAnswer::Refused {
-            number: 22,
-            line: 0,
-        };
-    };
-    path_answer(
-        f,
-        starts,
-        holders,
-        n,
-        set,
-        user,
-        mode,
-        origin,
-        &bytes[..len],
-    )
+    path_of(call(f, starts, holders, n, set, user, mode, origin, text, false))
 }
 
 // The answer of the tree call on a loaded table.
@@ -159,30 +207,5 @@ pub fn tree_call(
     requires { ⌜ (n ≤ length (now starts)) × (n ≤ length (now holders)) ⌝ }
     ensures { λ r. ⌜ ((t : Table) → Ready t (now (f .entry)) (now (starts .entry)) (now (holders .entry)) n → Groups t (now (user .entry)) set → r ≡ treeAnswer Accepted (requestRefusal (now (user .entry)) mode (now (origin .entry)) (now (text .entry))) (tree t (request (now (user .entry)) mode (now (origin .entry)) (now (text .entry))))) ⌝ }
 {
-    let number = crate::request::number(user, mode, origin);
-    if number != 255 {
-        return TreeAnswer::Refused {
-            number: number,
-            line: 0,
-        };
-    }
-    let mut bytes = [0u8; 9377];
-    let filled = path_text::reader::read_text(text, &mut bytes);
-    let Filled::Length(len) = filled else {
-        return TreeAnswer::Refused {
-            number: 22,
-            line: 0,
-        };
-    };
-    tree_answer(
-        f,
-        starts,
-        holders,
-        n,
-        set,
-        user,
-        mode,
-        origin,
-        &bytes[..len],
-    )
+    tree_of(call(f, starts, holders, n, set, user, mode, origin, text, true))
 }

@@ -19,3 +19,9 @@ pub enum TreeAnswer {
     Mixed(RuleNumber),
     Refused { number: u8, line: usize },
 }
+
+// What one of the two calls answers.
+pub enum Verdict {
+    Path(PathAnswer),
+    Tree(TreeAnswer),
+}

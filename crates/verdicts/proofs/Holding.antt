@@ -23,9 +23,9 @@ use Rattle.verdict.specs.Verdict.{decider, tree}
 use Rattle.judge.specs.Rules.{ruleIn, rulesIn, Laid}
 use Rattle.verdict_text.specs.Ready.{Ready, Groups}
 use Rattle.verdict_text.specs.Calls.{requestRefusal, request, pathAnswer, pathVerdict, treeAnswer, treeVerdict}
-use Rattle.verdict_text.specs.declared.PathAnswer.{PathAnswer}
-use Rattle.verdict_text.specs.declared.TreeAnswer.{TreeAnswer}
-use Rattle.verdicts.specs.Refused.{pathRefused, treeRefused}
+use Rattle.verdict_text.specs.Either.{oneOf, refusedAs}
+use Rattle.verdict_text.specs.declared.Verdict.{Verdict}
+use Rattle.verdicts.specs.Refused.{refusedBy}
 use Rattle.verdicts.proofs.RuleBytes.{rules-read, rules-laid, holders-read}
 use Rattle.acceptance.proofs.Reordered.{accepted-orderly}
 
@@ -71,20 +71,14 @@ module _ {text buf : List ℕ} {u : ℕ} {c : Counts} {groups users owners ids s
   rooms = (omega (arith, K .holds .long .4, K .holds .few .2), omega (arith, K .holds .long .5, K .holds .few .2))
 
   module _ (user : Str) (mode : ℕ) (origin path : Str) where
-    pub path-kept : pathAnswer checked.Accepted (requestRefusal user mode origin path) (decider (tableOf text) (request user mode origin path)) ≡ pathVerdict text user mode origin path
-    unfolding pathVerdict
-    path-kept = rw (K .accepts)
-
-    pub tree-kept : treeAnswer checked.Accepted (requestRefusal user mode origin path) (tree (tableOf text) (request user mode origin path)) ≡ treeVerdict text user mode origin path
-    unfolding treeVerdict
-    tree-kept = rw (K .accepts)
+    pub either-kept : (whole : Bool)
+        → oneOf whole (pathAnswer checked.Accepted (requestRefusal user mode origin path) (decider (tableOf text) (request user mode origin path))) (treeAnswer checked.Accepted (requestRefusal user mode origin path) (tree (tableOf text) (request user mode origin path)))
+        ≡ oneOf whole (pathVerdict text user mode origin path) (treeVerdict text user mode origin path)
+    unfolding pathVerdict treeVerdict
+    either-kept whole = rw (K .accepts)
 
 module _ (text : Str) (r : Loaded) (buf groups users owners ids starts holders : List ℕ) (o : Outcome text r buf groups users owners ids starts holders)
     (n l : ℕ) (e : r ≡ loaded.Refused n l) (user : Str) (mode : ℕ) (origin path : Str) where
-  pub path-refused : (x : PathAnswer) → x ≡ pathRefused r → x ≡ pathVerdict text user mode origin path
-  unfolding pathRefused pathVerdict pathAnswer
-  path-refused x i = rw (sym (outcome-refused text r buf groups users owners ids starts holders o n l e)) (i ∙ rw e)
-
-  pub tree-refused : (x : TreeAnswer) → x ≡ treeRefused r → x ≡ treeVerdict text user mode origin path
-  unfolding treeRefused treeVerdict treeAnswer
-  tree-refused x i = rw (sym (outcome-refused text r buf groups users owners ids starts holders o n l e)) (i ∙ rw e)
+  pub refused-is : (whole : Bool) (x : Verdict) → x ≡ refusedBy whole r → x ≡ oneOf whole (pathVerdict text user mode origin path) (treeVerdict text user mode origin path)
+  unfolding refusedBy refusedAs pathVerdict pathAnswer treeVerdict treeAnswer
+  refused-is whole x i = rw (sym (outcome-refused text r buf groups users owners ids starts holders o n l e)) (i ∙ rw e)

@@ -1,16 +1,10 @@
--- A table's own refusal, as each call answers it.
-use Prim.Native.Nat.{ℕ}
+-- A table's own refusal, as either call answers it.
+use mathlib.Core.Bool.{Bool}
 use Rattle.load.specs.declared.Loaded.{Loaded}
 use Rattle.load.specs.declared.Loaded.the-variants as loaded
-use Rattle.verdict_text.specs.declared.PathAnswer.{PathAnswer}
-use Rattle.verdict_text.specs.declared.PathAnswer.the-variants as path
-use Rattle.verdict_text.specs.declared.TreeAnswer.{TreeAnswer}
-use Rattle.verdict_text.specs.declared.TreeAnswer.the-variants as trees
+use Rattle.verdict_text.specs.Either.{refusedAs}
+use Rattle.verdict_text.specs.declared.Verdict.{Verdict}
 
-unfoldable pub pathRefused : Loaded → PathAnswer
-pathRefused (loaded.Refused n l) = path.Refused n l
-pathRefused (loaded.Table u c) = path.Default
-
-unfoldable pub treeRefused : Loaded → TreeAnswer
-treeRefused (loaded.Refused n l) = trees.Refused n l
-treeRefused (loaded.Table u c) = trees.None
+unfoldable pub refusedBy : Bool → Loaded → Verdict
+refusedBy whole (loaded.Refused n l) = refusedAs whole n l
+refusedBy whole (loaded.Table u c) = refusedAs whole 0 0

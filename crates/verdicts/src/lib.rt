@@ -1,109 +1,73 @@
 // The single-path verdict and the tree verdict on a table text and a request, with every refusal.
 ghost use mathlib.Core.Path.{_≡_};
 ghost use Rattle.verdict_text.specs.Calls.{pathVerdict, treeVerdict};
-ghost use Rattle.verdicts.specs.Refused.{pathRefused, treeRefused};
+ghost use Rattle.verdict_text.specs.Either.{oneOf};
+ghost use Rattle.verdicts.specs.Refused.{refusedBy};
 use load::Loaded;
 use verdict_text::PathAnswer;
 use verdict_text::TreeAnswer;
+use verdict_text::Verdict;
 
-fn path_refused(l: Loaded) -> PathAnswer
-    ensures { λ r. ⌜ r ≡ pathRefused l ⌝ }
+// A table's own refusal.
+fn refused(l: Loaded, whole: bool) -> Verdict
+    ensures { λ r. ⌜ r ≡ refusedBy whole l ⌝ }
 {
     let Loaded::Refused { number, line } = l else {
-        return PathAnswer::Default;
+        return verdict_text::answer::refused(0, 0, whole);
     };
-    PathAnswer::Refused {
-        number: number,
-        line: line,
-    }
+    verdict_text::answer::refused(number, line, whole)
 }
 
-fn tree_refused(l: Loaded) -> TreeAnswer
-    ensures { λ r. ⌜ r ≡ treeRefused l ⌝ }
+// The verdict for the whole tree, or for one path.
+fn verdict(table: &[u8], user: &[u8], mode: u32, origin: &[u8], path: &[u8], whole: bool) -> Verdict
+    ensures { λ r. ⌜ r ≡ oneOf whole (pathVerdict (now (table .entry)) (now (user .entry)) mode (now (origin .entry)) (now (path .entry))) (treeVerdict (now (table .entry)) (now (user .entry)) mode (now (origin .entry)) (now (path .entry))) ⌝ }
 {
-    let Loaded::Refused { number, line } = l else {
-        return TreeAnswer::None;
+    let mut buf = [0u8; 16384];
+    let mut groups = [0u16; 64];
+    let mut users = [0u16; 512];
+    let mut owners = [0u8; 512];
+    let mut ids = [0u16; 256];
+    let mut starts = [0u16; 256];
+    let mut holders = [0u8; 256];
+    let l = load::load(
+        table,
+        &mut buf,
+        &mut groups,
+        &mut users,
+        &mut owners,
+        &mut ids,
+        &mut starts,
+        &mut holders,
+    );
+    let Loaded::Table { used, counts } = l else {
+        return refused(l, whole);
     };
-    TreeAnswer::Refused {
-        number: number,
-        line: line,
-    }
+    let f = &buf[..used];
+    let set = groups::memberships(f, &users, &owners, counts.members, user);
+    verdict_text::answer::call(
+        f,
+        &starts,
+        &holders,
+        counts.rules,
+        set,
+        user,
+        mode,
+        origin,
+        path,
+        whole,
+    )
 }
 
 // The action for one path, and the deciding rule.
 pub fn path_verdict(table: &[u8], user: &[u8], mode: u32, origin: &[u8], path: &[u8]) -> PathAnswer
     ensures { λ r. ⌜ r ≡ pathVerdict (now (table .entry)) (now (user .entry)) mode (now (origin .entry)) (now (path .entry)) ⌝ }
 {
-    let mut buf = [0u8; 16384];
-    let mut groups = [0u16; 64];
-    let mut users = [0u16; 512];
-    let mut owners = [0u8; 512];
-    let mut ids = [0u16; 256];
-    let mut starts = [0u16; 256];
-    let mut holders = [0u8; 256];
-    let l = load::load(
-        table,
-        &mut buf,
-        &mut groups,
-        &mut users,
-        &mut owners,
-        &mut ids,
-        &mut starts,
-        &mut holders,
-    );
-    let Loaded::Table { used, counts } = l else {
-        return path_refused(l);
-    };
-    let f = &buf[..used];
-    let set = groups::memberships(f, &users, &owners, counts.members, user);
-    verdict_text::answer::path_call(
-        f,
-        &starts,
-        &holders,
-        counts.rules,
-        set,
-        user,
-        mode,
-        origin,
-        path,
-    )
+    verdict_text::answer::path_of(verdict(table, user, mode, origin, path, false))
 }
 
 // ALL, NONE or MIXED for the paths at or beneath, and the rule that MIXED names.
 pub fn tree_verdict(table: &[u8], user: &[u8], mode: u32, origin: &[u8], path: &[u8]) -> TreeAnswer
     ensures { λ r. ⌜ r ≡ treeVerdict (now (table .entry)) (now (user .entry)) mode (now (origin .entry)) (now (path .entry)) ⌝ }
 {
-    let mut buf = [0u8; 16384];
-    let mut groups = [0u16; 64];
-    let mut users = [0u16; 512];
-    let mut owners = [0u8; 512];
-    let mut ids = [0u16; 256];
-    let mut starts = [0u16; 256];
-    let mut holders = [0u8; 256];
-    let l = load::load(
-        table,
-        &mut buf,
-        &mut groups,
-        &mut users,
-        &mut owners,
-        &mut ids,
-        &mut starts,
-        &mut holders,
-    );
-    let Loaded::Table { used, counts } = l else {
-        return tree_refused(l);
-    };
-    let f = &buf[..used];
-    let set = groups::memberships(f, &users, &owners, counts.members, user);
-    verdict_text::answer::tree_call(
-        f,
-        &starts,
-        &holders,
-        counts.rules,
-        set,
-        user,
-        mode,
-        origin,
-        path,
-    )
+    verdict_text::answer::tree_of(verdict(table, user, mode, origin, path, true))
 }

@@ -1,0 +1,24 @@
+-- Both calls are one function: which of the two answers it gives.
+use Prim.Native.Nat.{ℕ}
+use mathlib.Core.Bool.{Bool}
+use Rattle.text.specs.Test.{if_then_else_}
+use Rattle.verdict_text.specs.declared.PathAnswer.{PathAnswer}
+use Rattle.verdict_text.specs.declared.PathAnswer.the-variants as path
+use Rattle.verdict_text.specs.declared.TreeAnswer.{TreeAnswer}
+use Rattle.verdict_text.specs.declared.TreeAnswer.the-variants as trees
+use Rattle.verdict_text.specs.declared.Verdict.{Verdict}
+use Rattle.verdict_text.specs.declared.Verdict.the-variants.{Path, Tree}
+
+unfoldable pub oneOf : Bool → PathAnswer → TreeAnswer → Verdict
+oneOf whole p t = if whole then Tree t else Path p
+
+unfoldable pub refusedAs : Bool → ℕ → ℕ → Verdict
+refusedAs whole number line = oneOf whole (path.Refused number line) (trees.Refused number line)
+
+unfoldable pub pathOf : Verdict → PathAnswer
+pathOf (Path p) = p
+pathOf (Tree t) = path.Default
+
+unfoldable pub treeOf : Verdict → TreeAnswer
+treeOf (Path p) = trees.None
+treeOf (Tree t) = t
