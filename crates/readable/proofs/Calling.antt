@@ -74,7 +74,7 @@ module _ (t : Str) (out : List ℕ) (c : Checked) (i : c ≡ check t) where
 
 -- where all lines went over, so many bytes were stored
 module _ (g : Str → Option Str) (room : ℕ) where
-  stored-length : (ls : List Str) (n at m : ℕ) → at ≤ room → ending g room n at ls ≡ ended.All m → (m ≡ at + length (stored g room at ls)) × (m ≤ room)
+  pub stored-length : (ls : List Str) (n at m : ℕ) → at ≤ room → ending g room n at ls ≡ ended.All m → (m ≡ at + length (stored g room at ls)) × (m ≤ room)
   unfolding ending onward stored storing if_then_else_
   stored-length [] n at m h e = let i : at ≡ m = cc in (omega arith, omega arith)
   stored-length (l ∷ ls) n at m h e = go (λ n′ at′ h′ e′. stored-length ls n′ at′ m h′ e′) (g l) refl e

@@ -122,7 +122,7 @@ shown-back k = forms-back Small shown packed (λ c l. shown-each c l Small) show
 
 -- ---- frames
 
-whole-some : {A : Type 0} (s : Str) (x : Parsed A) (a : A) → whole s x ≡ some a → x ≡ got a (length s)
+pub whole-some : {A : Type 0} (s : Str) (x : Parsed A) (a : A) → whole s x ≡ some a → x ≡ got a (length s)
 unfolding whole if_then_else_
 whole-some s (got b t) a e =
     by (eqb t (length s))

@@ -71,7 +71,7 @@ unfolding rest
 rest-some none t b u e = never-got refl e
 rest-some (some c) t b u e = let i : c ≡ b = cc in let j : t ≡ u = cc in (ap some i, j)
 
-small-drop : (k : ℕ) (s : Str) → Small s → Small (drop k s)
+pub small-drop : (k : ℕ) (s : Str) → Small s → Small (drop k s)
 small-drop zero s h = h
 small-drop (suc k) [] h = h
 small-drop (suc k) (x ∷ s) (and-more l h) = small-drop k s h
