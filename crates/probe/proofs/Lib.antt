@@ -1,5 +1,4 @@
 -- What the proofs of several functions use.
-pub mod Factory
-pub mod InForce
-pub mod Probes
-pub mod RpcProbe
+mod Factory
+mod Sources
+mod Probes

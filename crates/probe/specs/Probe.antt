@@ -19,28 +19,34 @@ use Rattle.rotation.specs.declared.Record.{Record}
 use Rattle.rotation.specs.declared.InForce.{InForce}
 use Rattle.rotation.specs.declared.InForce.the-variants.{Text, Factory}
 
+-- "11, then 15, then .. 16, then the text .. in force (probe), then the request": the record's refusal, or what is judged of what is in force; the probe is
+-- for records of that kind, and the store has n bytes
+module _ {A : Type 0} (refused : ℕ → A) (judged : InForce → A) where
+  unfoldable pub probed : ℕ → Record → ℕ → A
+  probed kind r n = if eqb (probeRefusal kind r n) clear then judged (inForce r) else refused (probeRefusal kind r n)
+
 -- ---- the single-path verdict, for a record of kind 2
 
 -- factory: "kind 2 denies all"; "Factory has no text to judge, but the request still is."
-unfoldable pub pathOn : InForce → Str → Str → ℕ → Str → Str → PathAnswer
-pathOn (Text slot len) store user mode origin text = pathVerdict (textIn store slot len) user mode origin text
-pathOn Factory store user mode origin text = pathAnswer Accepted (requestRefusal user mode origin text) none
+unfoldable pub pathOn : Str → Str → ℕ → Str → Str → InForce → PathAnswer
+pathOn store user mode origin text (Text slot len) = pathVerdict (textIn store slot len) user mode origin text
+pathOn store user mode origin text Factory = pathAnswer Accepted (requestRefusal user mode origin text) none
 
-unfoldable pub unlessPath : ℕ → PathAnswer → PathAnswer
-unlessPath number a = if eqb number clear then a else path.Refused number 0
+abbrev pub pathRefused : ℕ → PathAnswer
+pathRefused number = path.Refused number 0
 
 unfoldable pub probePath : Record → Str → Str → ℕ → Str → Str → PathAnswer
-probePath r store user mode origin text = unlessPath (probeRefusal 2 r (length store)) (pathOn (inForce r) store user mode origin text)
+probePath r store user mode origin text = probed pathRefused (pathOn store user mode origin text) 2 r (length store)
 
 -- ---- the tree verdict
 
 -- factory: "with tree NONE"
-unfoldable pub treeOn : InForce → Str → Str → ℕ → Str → Str → TreeAnswer
-treeOn (Text slot len) store user mode origin text = treeVerdict (textIn store slot len) user mode origin text
-treeOn Factory store user mode origin text = treeAnswer Accepted (requestRefusal user mode origin text) NONE
+unfoldable pub treeOn : Str → Str → ℕ → Str → Str → InForce → TreeAnswer
+treeOn store user mode origin text (Text slot len) = treeVerdict (textIn store slot len) user mode origin text
+treeOn store user mode origin text Factory = treeAnswer Accepted (requestRefusal user mode origin text) NONE
 
-unfoldable pub unlessTree : ℕ → TreeAnswer → TreeAnswer
-unlessTree number a = if eqb number clear then a else trees.Refused number 0
+abbrev pub treeRefused : ℕ → TreeAnswer
+treeRefused number = trees.Refused number 0
 
 unfoldable pub probeTree : Record → Str → Str → ℕ → Str → Str → TreeAnswer
-probeTree r store user mode origin text = unlessTree (probeRefusal 2 r (length store)) (treeOn (inForce r) store user mode origin text)
+probeTree r store user mode origin text = probed treeRefused (treeOn store user mode origin text) 2 r (length store)

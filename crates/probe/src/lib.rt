@@ -1,4 +1,5 @@
 // Probes: a request judged on what is in force.
+mod force;
 pub mod rpcs;
 
 ghost use mathlib.Core.Path.{_≡_};
@@ -7,7 +8,7 @@ ghost use Rattle.table.specs.declared.Checked.the-variants.{Accepted};
 ghost use Rattle.verdict.specs.Verdict.{NONE};
 ghost use Rattle.verdict_text.specs.Calls.{requestRefusal, pathAnswer, treeAnswer};
 ghost use Rattle.probe.specs.Probe.{probePath, probeTree};
-use rotation::InForce;
+use crate::force::Source;
 use rotation::Record;
 use verdict_text::PathAnswer;
 use verdict_text::TreeAnswer;
@@ -42,20 +43,21 @@ pub fn probe_path(
 ) -> PathAnswer
     ensures { λ a. ⌜ a ≡ probePath r (now (store .entry)) (now (user .entry)) mode (now (origin .entry)) (now (path .entry)) ⌝ }
 {
-    let number = rotation::step::probe_refusal(r, store.len(), 2);
-    if number != 255 {
-        return PathAnswer::Refused {
+    let s = crate::force::find_source(r, store.len(), 2);
+    match s {
+        Source::Refused(number) => PathAnswer::Refused {
             number: number,
             line: 0,
-        };
+        },
+        Source::Factory => factory_path(user, mode, origin, path),
+        Source::Part { start, end } => verdicts::path_verdict(
+            &store[start..end],
+            user,
+            mode,
+            origin,
+            path,
+        ),
     }
-    let force = rotation::state::in_force(r);
-    let InForce::Text { slot, len } = force else {
-        return factory_path(user, mode, origin, path);
-    };
-    let start = slot as usize * 32768;
-    let end = start + len as usize;
-    verdicts::path_verdict(&store[start..end], user, mode, origin, path)
 }
 
 // ALL, NONE or MIXED for the paths at or beneath.
@@ -69,18 +71,19 @@ pub fn probe_tree(
 ) -> TreeAnswer
     ensures { λ a. ⌜ a ≡ probeTree r (now (store .entry)) (now (user .entry)) mode (now (origin .entry)) (now (path .entry)) ⌝ }
 {
-    let number = rotation::step::probe_refusal(r, store.len(), 2);
-    if number != 255 {
-        return TreeAnswer::Refused {
+    let s = crate::force::find_source(r, store.len(), 2);
+    match s {
+        Source::Refused(number) => TreeAnswer::Refused {
             number: number,
             line: 0,
-        };
+        },
+        Source::Factory => factory_tree(user, mode, origin, path),
+        Source::Part { start, end } => verdicts::tree_verdict(
+            &store[start..end],
+            user,
+            mode,
+            origin,
+            path,
+        ),
     }
-    let force = rotation::state::in_force(r);
-    let InForce::Text { slot, len } = force else {
-        return factory_tree(user, mode, origin, path);
-    };
-    let start = slot as usize * 32768;
-    let end = start + len as usize;
-    verdicts::tree_verdict(&store[start..end], user, mode, origin, path)
 }

@@ -1,5 +1,5 @@
 use borrow.Author.Needs.{needs}
-use Rattle.probe.proofs.RpcProbe.{rpc-refused, rpc-goes-on}
+use Rattle.probe.proofs.Probes.{factory-refused, factory-permits}
 use Rattle.probe.proofs.rpcs.factory_rpc.Statement.{statement}
 use Rattle.probe.proofs.rpcs.factory_rpc.Tie as tie
 
@@ -10,13 +10,13 @@ returns : tie.Need-returns
 returns c =
     let at-if1 = c .if1 in
     let at-request-fault = c .before .request-fault in
-    rpc-refused _ _ (at-request-fault .ensures) _ (at-if1 .taken)
+    factory-refused _ _ (at-request-fault .ensures) (at-if1 .taken)
 
 returns-2 : tie.Need-returns-2
 returns-2 c =
     let at-if1 = c .if1 in
     let at-request-fault = c .before .request-fault in
-    rpc-goes-on _ _ (at-request-fault .ensures) _ (at-if1 .left)
+    factory-permits _ _ (at-request-fault .ensures) (at-if1 .left)
 
 pub factory-rpc-spec : {M : Type 1} → statement M
 factory-rpc-spec = tie.close (tie.spec request-fault-requires returns returns-2)

@@ -1,0 +1,30 @@
+// Where the text in force lies, once record and store are judged.
+ghost use mathlib.Core.Path.{_≡_};
+ghost use Rattle.probe.specs.Source.{sourceOf};
+use rotation::InForce;
+use rotation::Record;
+
+pub enum Source {
+    Refused(u8),
+    Factory,
+    Part { start: usize, end: usize },
+}
+
+// For a probe of records of that kind, and a store of n bytes.
+pub fn find_source(r: Record, n: usize, kind: u32) -> Source
+    ensures { λ s. ⌜ s ≡ sourceOf kind r n ⌝ }
+{
+    let number = rotation::step::probe_refusal(r, n, kind);
+    if number != 255 {
+        return Source::Refused(number);
+    }
+    let force = rotation::state::in_force(r);
+    let InForce::Text { slot, len } = force else {
+        return Source::Factory;
+    };
+    let start = slot as usize * 32768;
+    Source::Part {
+        start: start,
+        end: start + len as usize,
+    }
+}
