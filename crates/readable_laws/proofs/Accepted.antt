@@ -32,16 +32,16 @@ use Rattle.table.specs.Refusal.{Line, notHex, unreadable, reads, framed, decode
 use Rattle.table.specs.Text.{unless, judge, check}
 use Rattle.table.specs.declared.Checked.the-variants.{Accepted, Refused}
 use Rattle.table.proofs.Numbers.{refusal-clear}
 use Rattle.readable.specs.Form.{partOf, parts, formBy, rest, quoted, hexDigit, hexPair, hexText, shownString, shownTime, shownPath, shownCode, shownPlain, shown, printed, shownFrame}
 use Rattle.readable.specs.Lines.{lined, shownLine, onward, ending}
 use Rattle.readable.specs.Lines as readable
 use Rattle.readable.specs.declared.Ended.{Ended}
 use Rattle.readable.specs.declared.Ended.the-variants as ended
 use Rattle.readable.proofs.Showing.{is-plain}
 use Rattle.readable.proofs.Converting.{kind-version, kind-group, kind-member, kind-rule}
-use Rattle.readable.proofs.HexLines.{Small, none-left, and-more, frame-text}
-use Rattle.readable.proofs.Times.{small-drop}
-use Rattle.readable.proofs.Frames.{whole-some}
+use Rattle.readable_laws.proofs.HexLines.{Small, none-left, and-more, frame-text}
+use Rattle.readable_laws.proofs.Times.{small-drop}
+use Rattle.readable_laws.proofs.Frames.{whole-some}
 
 -- ---- text in printable bytes
 

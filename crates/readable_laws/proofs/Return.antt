@@ -23,8 +23,8 @@ use Rattle.path_text.proofs.Sound.{literal-took, value-took, one-took}
 use Rattle.path_text.proofs.Complete.{literal-gives, value-gives}
 use Rattle.path_text.proofs.RoundTrip.{read-write, write-read}
 use Rattle.table.specs.Frame.{unknown}
 use Rattle.readable.specs.Form.{rest, quoted, shownString, shownPath, shownCode, shownPlain, packedString, packedPath, standsAt, packedCode, packedPlain}
-use Rattle.readable.proofs.Inverse.{Back, BackLast}
+use Rattle.readable_laws.proofs.Inverse.{Back, BackLast}
 
 -- ---- strings
 

@@ -15,15 +15,15 @@ use Rattle.line.specs.Lines.{lines}
 use Rattle.table.specs.Text.{check}
 use Rattle.table.specs.declared.Checked.{Checked}
 use Rattle.table.specs.declared.Checked.the-variants as checked
 use Rattle.readable.specs.Lines.{ending, stored, shownLine, shownAs, showAnswer, showLent, madeAnswer, madeLent, packAnswer, packLent, packedEnd, packedTable}
 use Rattle.readable.specs.declared.Converted.{Converted}
 use Rattle.readable.specs.declared.Converted.the-variants.{Length, Refused, Unread, NoRoom}
 use Rattle.readable.specs.declared.Ended.{Ended}
 use Rattle.readable.specs.declared.Ended.the-variants as ended
 use Rattle.readable.proofs.Stored.{front}
 use Rattle.readable.proofs.Calling.{accepted-short, stored-length}
-use Rattle.readable.proofs.Texts.{show-then-pack, pack-then-show}
-use Rattle.readable.proofs.Accepted.{accepted-shows}
+use Rattle.readable_laws.proofs.Texts.{show-then-pack, pack-then-show}
+use Rattle.readable_laws.proofs.Accepted.{accepted-shows}
 
 -- what an answer of `show` tells
 shown-told : (c : Checked) (t : Str) (out : List ℕ) (n : ℕ) → showAnswer c t out ≡ Length n → (c ≡ checked.Accepted) × (ending shownLine (length out) 1 0 (lines t) ≡ ended.All n)

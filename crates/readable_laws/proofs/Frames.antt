@@ -16,13 +16,13 @@ use Rattle.text.specs.Frame.{Parsed, got, unread, Reader, _>>=_, ret}
 use Rattle.text.proofs.Tests.{by, clash}
 use Rattle.text.proofs.Codec.{never-got, then-got, got-move, Took, Gives}
 use Rattle.table.specs.Frame.{whole}
 use Rattle.readable.specs.Form.{Parts, partOf, parts, formBy, shownTime, shownPlain, shown, printed, shownFrame, packed, kindBy, headed, packedFrame}
 use Rattle.readable.proofs.Showing.{is-string, is-time, is-path, is-action, is-mode, is-subject, is-plain}
 use Rattle.readable.proofs.Converting.{kind-version, kind-group, kind-member, kind-rule, kind-none}
-use Rattle.readable.proofs.Inverse.{Back, BackLast, isLast, proper, parts-back, parts-inside}
-use Rattle.readable.proofs.HexLines.{Small}
-use Rattle.readable.proofs.Return.{string-packed, string-shown, code-packed, code-shown, plain-packed, plain-shown, path-packed, path-shown}
-use Rattle.readable.proofs.Times.{time-packed, time-shown}
+use Rattle.readable_laws.proofs.Inverse.{Back, BackLast, isLast, proper, parts-back, parts-inside}
+use Rattle.readable_laws.proofs.HexLines.{Small}
+use Rattle.readable_laws.proofs.Return.{string-packed, string-shown, code-packed, code-shown, plain-packed, plain-shown, path-packed, path-shown}
+use Rattle.readable_laws.proofs.Times.{time-packed, time-shown}
 
 abbrev Any : Str → Type 0
 Any s = Unit {0}

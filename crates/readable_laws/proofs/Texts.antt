@@ -18,14 +18,14 @@ use Rattle.table.specs.Refusal.{Line, notHex, unreadable, reads, decoded, lineO
 use Rattle.table.specs.Text.{unless, judge, check}
 use Rattle.table.specs.declared.Checked.{Checked}
 use Rattle.table.specs.declared.Checked.the-variants.{Accepted, Refused}
 use Rattle.readable.specs.Form.{hexDigit, hexPair, hexText, printed, shownFrame, packedFrame}
 use Rattle.readable.specs.Lines.{andThen, lined, unlined, shownLine, hexed, packedLine, onward, ending, storing, stored, packedEnd, packedTable}
 use Rattle.readable.specs.declared.Ended.{Ended}
 use Rattle.readable.specs.declared.Ended.the-variants as ended
 use Rattle.readable.proofs.Lining.{unlined-line}
-use Rattle.readable.proofs.HexLines.{Small, frame-text, digit-forth}
-use Rattle.readable.proofs.Times.{lines-text, snoc-same, hex-line}
-use Rattle.readable.proofs.Frames.{pack-show, show-pack, printed-some}
+use Rattle.readable_laws.proofs.HexLines.{Small, frame-text, digit-forth}
+use Rattle.readable_laws.proofs.Times.{lines-text, snoc-same, hex-line}
+use Rattle.readable_laws.proofs.Frames.{pack-show, show-pack, printed-some}
 
 -- ---- options
 

@@ -15,11 +15,11 @@ use Rattle.text.specs.Frame.{Parsed, got, unread}
 use Rattle.text.proofs.Tests.{by}
 use Rattle.text.proofs.Codec.{never-got, got-move, Took, Gives}
 use Rattle.line.specs.Lines.{lines, onto, frame}
 use Rattle.readable.specs.Form.{rest, alone, hexDigit, hexPair, hexText, shownTime, packedTime}
 use Rattle.readable.proofs.Digits.{hex-length}
-use Rattle.readable.proofs.HexLines.{Small, none-left, and-more, frame-text, text-frame}
-use Rattle.readable.proofs.Inverse.{Back, BackLast}
-use Rattle.readable.proofs.Return.{all-took}
+use Rattle.readable_laws.proofs.HexLines.{Small, none-left, and-more, frame-text, text-frame}
+use Rattle.readable_laws.proofs.Inverse.{Back, BackLast}
+use Rattle.readable_laws.proofs.Return.{all-took}
 
 -- ---- lines
 

@@ -1,0 +1,9 @@
+pub mod HexLines
+pub mod Inverse
+pub mod Return
+pub mod Times
+pub mod Frames
+pub mod Texts
+pub mod Accepted
+pub mod Promise
+pub mod Examples
