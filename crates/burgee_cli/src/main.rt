@@ -15,6 +15,22 @@ fn table() {
     tables::check(&text[..n]);
 }
 
+// burgee show|pack FILE
+fn convert(is_pack: bool) {
+    let fd = input::open(2);
+    if fd < 0 {
+        return;
+    }
+    // A readable text has at most 131,072 bytes.
+    let mut text = [0u8; 131073];
+    let n = io::read_full(fd, &mut text);
+    if is_pack {
+        readable_commands::pack_table(&text[..n]);
+    } else {
+        readable_commands::show_table(&text[..n]);
+    }
+}
+
 // burgee policy FILE
 fn policy() {
     let fd = input::open(2);
@@ -135,11 +151,14 @@ fn explain_use() {
 
 // The command, if it is one and has the arguments that it takes.
 fn run(command: &[u8], words: usize) -> bool {
+    let is_pack = text::string::is_same(command, b"pack");
     let is_verdict = text::string::is_same(command, b"verdict")
         | text::string::is_same(command, b"tree")
         | text::string::is_same(command, b"explain");
     if text::string::is_same(command, b"table") & (words == 3) {
         table();
+    } else if (is_pack | text::string::is_same(command, b"show")) & (words == 3) {
+        convert(is_pack);
     } else if text::string::is_same(command, b"policy") & (words == 3) {
         policy();
     } else if text::string::is_same(command, b"groups") & (words == 4) {

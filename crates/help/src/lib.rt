@@ -5,6 +5,8 @@ pub fn all() {
         b"burgee: tries rule tables and policies\n\
         \n\
         burgee table FILE\n\
+        burgee show FILE\n\
+        burgee pack FILE\n\
         burgee groups FILE USER\n\
         burgee verdict FILE USER read|write ORIGIN PATH\n\
         burgee tree FILE USER read|write ORIGIN PATH\n\
@@ -34,6 +36,24 @@ fn table() {
         groups 2\n\
         members 3\n\
         rules 6\n",
+    );
+}
+
+fn conversion() {
+    io::write_all(
+        1,
+        b"burgee show FILE\n\
+        burgee pack FILE\n\
+        \n\
+        A rule table as readable text, one thing a line, and that text back as the table: show and pack undo each other.\n\
+        \n\
+        $ burgee show examples/files/yard.table | head -n 4\n\
+        version [2026-11] time 000000006553f100\n\
+        group [admin]\n\
+        group [engineers]\n\
+        member [admin] [stevie]\n\
+        $ burgee show examples/files/yard.table | burgee pack - | cmp - examples/files/yard.table && echo the same\n\
+        the same\n",
     );
 }
 
@@ -184,6 +204,8 @@ fn rotate() {
 pub fn on(command: &[u8]) {
     if text::string::is_same(command, b"table") {
         table();
+    } else if text::string::is_same(command, b"show") | text::string::is_same(command, b"pack") {
+        conversion();
     } else if text::string::is_same(command, b"groups") {
         groups();
     } else if text::string::is_same(command, b"verdict") {

@@ -1,0 +1,36 @@
+// A rule table as readable text, and back.
+use readable::Converted;
+
+// Prints the first n bytes.
+fn print(s: &[u8], n: usize) {
+    if n <= s.len() {
+        show::word(&s[..n]);
+    }
+}
+
+// Prints what was made of a text, or why nothing was.
+fn answer(c: Converted, text: &[u8], made: &[u8]) {
+    match c {
+        Converted::Length(n) => print(made, n),
+        Converted::Refused { number, line } => console::refusal::table(text, number, line),
+        Converted::Unread { line } => {
+            show::word(b"refused at line ");
+            show::decimal(line as u64);
+            show::line(b": not a line of the readable form");
+            console::refusal::quote_line(text, line);
+        }
+        Converted::NoRoom => show::line(b"refused: too long for a table"),
+    }
+}
+
+pub fn show_table(text: &[u8]) {
+    let mut out = [0u8; 131072];
+    let c = readable::show(text, &mut out);
+    answer(c, text, &out);
+}
+
+pub fn pack_table(text: &[u8]) {
+    let mut out = [0u8; 32768];
+    let c = readable::pack(text, &mut out);
+    answer(c, text, &out);
+}
