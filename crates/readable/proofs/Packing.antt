@@ -28,7 +28,7 @@ use Rattle.path_text.proofs.Sound.{inside}
 use Rattle.readable.specs.Form.{rest, alone, packedString, packedTime, packedPath, standsAt, packedCode, packedPlain}
 use Rattle.readable.specs.Steps.{Puts, puts, stops}
 use Rattle.readable.proofs.Stored.{front}
-use Rattle.readable.proofs.Showing.{tail}
+use Rattle.readable.proofs.Rest.{tail}
 
 -- ---- strings
 
@@ -117,29 +117,10 @@ module _ (s : Str) (at : ℕ) where
       pub time-eight : next ≡ 17 → len ≡ 8
       time-eight n = let u = told in omega (arith, u .goes)
 
-      pub time-puts : next ≡ 17 → (z b : List ℕ) → b ≡ put z 0 (digits t) → (d : List ℕ) (to : ℕ) (d′ : List ℕ) → d′ ≡ put d to (take len b) → Puts 16 packedTime s at d to d′ (To (length s) (to + len))
-      time-puts n z b x d to d′ y =
-          let u = told in
-          let k : len ≡ length (digits t) = u .size in
-          let f : take len b ≡ digits t = front z (digits t) b len (record { ends = omega (arith, k); same = x }) in
-          puts {to = to} {end = to + len} (time-got n) (record { ends = omega (arith, k); same = y ∙ ap (put d to) f }) (omega (arith, time-eight n, k)) (omega arith)
-
--- ---- paths
-
-module _ (s : Str) (at : ℕ) where
-  pub path-past : length s ≤ at → packedPath s at ≡ unread
-  unfolding packedPath if_then_else_
-  path-past h = rw (le-ltb _ _ h)
-
-  pub path-unpacked : at < length s → bytesFor (drop at s) ≡ none → packedPath s at ≡ unread
-  unfolding packedPath if_then_else_ rest
-  path-unpacked h e = rw (lt-ltb _ _ h, e)
-
-  pub path-puts : (d : List ℕ) (to : ℕ) (f d′ : List ℕ) (end : ℕ) → at < length s → bytesFor (drop at s) ≡ some f → Wrote d to f d′ end → Puts 13520 packedPath s at d to d′ (To (length s) end)
-  unfolding packedPath if_then_else_ rest
-  path-puts d to f d′ end h e w =
-      let i : packedPath s at ≡ got f (length s) = rw (lt-ltb _ _ h, e) in
-      puts i w (omega (arith, bytes-bound (drop at s) f e)) (omega arith)
+      pub time-puts : next ≡ 17 → (d : List ℕ) (to : ℕ) (d′ : List ℕ) → d′ ≡ put d to (digits t) → Puts 16 packedTime s at d to d′ (To (length s) (to + len))
+      time-puts n d to d′ y =
+          let k : len ≡ length (digits t) = told .size in
+          puts {to = to} {end = to + len} (time-got n) (record { ends = omega (arith, k); same = y }) (omega (arith, time-eight n, k)) (omega arith)
 
 -- ---- codes
 

@@ -67,38 +67,6 @@ module _ (p : Parts) (c : ℕ) where
       → Puts m r s at d to d′ q → Puts (longest c) (partOf p c) s at d to d′ q
   put-as e h = rw (e .0, e .1) h
 
--- ---- what path text answers
-
-module _ (out : List ℕ) (o : Option Str) (w : Filled) (i : w ≡ answer out o) where
-  pub answered : (n : ℕ) → w ≡ Length n → (s : Str) × (o ≡ some s) × (n ≡ length s) × (n ≤ length out) × (lent out o ≡ put out 0 s)
-  unfolding answer lent if_then_else_
-  answered n e = go o refl (sym e ∙ i)
-    where
-      go : (x : Option Str) → o ≡ x → Length n ≡ answer out x → (s : Str) × (o ≡ some s) × (n ≡ length s) × (n ≤ length out) × (lent out o ≡ put out 0 s)
-      go none j h = let z : _≡_ {A = ℕ} 0 1 = cc in absurd (omega arith)
-      go (some s) j h =
-          by (leb (length s) (length out))
-          (λ u. let h′ : Length n ≡ Length (length s) = h ∙ rw u in
-          let k : n ≡ length s = cc in (s, j, k, omega (arith, leb-true (length s) (length out) u), rw (j, u)))
-          (λ u. let h′ : Length n ≡ Refused 23 = h ∙ rw u in let z : _≡_ {A = ℕ} 0 1 = cc in absurd (omega arith))
-
-  pub unanswered : ((s : Str) → o ≡ some s → length s ≤ length out) → (k : ℕ) → w ≡ Refused k → o ≡ none
-  unfolding answer if_then_else_
-  unanswered b k e = go o refl (sym e ∙ i)
-    where
-      go : (x : Option Str) → o ≡ x → Refused k ≡ answer out x → o ≡ none
-      go none j h = j
-      go (some s) j h =
-          let h′ : Refused k ≡ Length (length s) = h ∙ rw (le-leb _ _ (b s j)) in
-          let z : _≡_ {A = ℕ} 0 1 = cc in absurd (omega arith)
-
--- the result, in the buffer that it was made in
-pub taken : (z : List ℕ) (o : Option Str) (s t : Str) (n : ℕ) → n ≡ length s → lent z o ≡ put z 0 s → t ≡ lent z o → take n t ≡ s
-taken z o s t n e i j = front z s t n (record { ends = omega (arith, e); same = j ∙ i })
-
-pub tail : (f : List ℕ) (at : ℕ) → at ≤ length f → take (length f - at) (drop at f) ≡ drop at f
-tail f at h = take-all (length f - at) (drop at f) (omega (arith, length-drop at f))
-
 -- ---- strings
 
 module _ (f : Str) (at : ℕ) (r : End) (e : r ≡ endOf (string f at)) where
@@ -161,23 +129,6 @@ module _ (f : Str) (at : ℕ) where
   time-puts d to d′ end h w =
       let e : shownTime f at ≡ got (hexText (drop at f)) (length f) = rw (eq-eqb _ _ h) in
       puts e w (omega (arith, hex-length (drop at f), length-drop at f)) (omega arith)
-
--- ---- paths
-
-module _ (f : Str) (at : ℕ) where
-  pub path-past : length f ≤ at → shownPath f at ≡ unread
-  unfolding shownPath if_then_else_
-  path-past h = rw (le-ltb _ _ h)
-
-  pub path-unshown : at < length f → textFor (drop at f) ≡ none → shownPath f at ≡ unread
-  unfolding shownPath if_then_else_ rest
-  path-unshown h e = rw (lt-ltb _ _ h, e)
-
-  pub path-puts : (d : List ℕ) (to : ℕ) (s d′ : List ℕ) (end : ℕ) → at < length f → textFor (drop at f) ≡ some s → Wrote d to s d′ end → Puts 13520 shownPath f at d to d′ (To (length f) end)
-  unfolding shownPath if_then_else_ rest
-  path-puts d to s d′ end h e w =
-      let i : shownPath f at ≡ got s (length f) = rw (lt-ltb _ _ h, e) in
-      puts i w (text-bound (drop at f) s e) (omega arith)
 
 -- ---- codes
 

@@ -54,10 +54,14 @@ formBy p k =
     else if eqb k 4 then parts p (bytes "rule A M K S id S origin S P")
     else unknown
 
--- the rest of what is read, where it is something
+-- what there is was read, up to t
 unfoldable pub rest : Option Str → ℕ → Parsed Str
 rest none t = unread
 rest (some w) t = got w t
+
+-- what g makes of the rest, with which the frame or the line ends
+unfoldable pub ofRest : (Str → Option Str) → Reader Str
+ofRest g s at = if ltb at (length s) then rest (g (drop at s)) (length s) else unread
 
 -- ---- from a frame
 
@@ -85,7 +89,7 @@ shownTime f at = if eqb (length f - at) 8 then got (hexText (drop at f)) (length
 
 -- path bytes, with which the frame ends
 unfoldable pub shownPath : Reader Str
-shownPath f at = if ltb at (length f) then rest (textFor (drop at f)) (length f) else unread
+shownPath = ofRest textFor
 
 unfoldable pub shownCode : ℕ → Str → Str → Reader Str
 shownCode n a b = do
@@ -127,7 +131,7 @@ packedTime s at = if eqb (length s - at) 16 then rest (alone (lines (drop at s +
 
 -- path text, with which the line ends
 unfoldable pub packedPath : Reader Str
-packedPath s at = if ltb at (length s) then rest (bytesFor (drop at s)) (length s) else unread
+packedPath = ofRest bytesFor
 
 -- w stands at `at`
 unfoldable pub standsAt : Str → Str → ℕ → Bool

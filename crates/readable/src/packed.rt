@@ -31,15 +31,13 @@ fn time(s: &[u8], at: usize, out: &mut [u8], to: usize) -> Stored
     // the digits with an LF, a hex line
     let mut digits = [10u8; 17];
     text::fill::copy(&s[at..], &mut digits, 0);
-    let mut bytes = [0u8; 8];
-    let l = line::read_line(&digits, 0, &mut bytes, 0);
+    let l = line::read_line(&digits, 0, out, to);
     let Line::Frame { len, next } = l else {
         return Stored::Unread;
     };
     if next != 17 {
         return Stored::Unread;
     }
-    text::fill::copy(&bytes[..len], out, to);
     Stored::To {
         next: s.len(),
         end: to + len,
@@ -53,13 +51,10 @@ fn path(s: &[u8], at: usize, out: &mut [u8], to: usize) -> Stored
     if s.len() <= at {
         return Stored::Unread;
     }
-    // the longest path bytes
-    let mut bytes = [0u8; 9377];
-    let w = path_text::reader::read_text(&s[at..], &mut bytes);
+    let w = path_text::reader::read_text(&s[at..], &mut out[to..]);
     let Filled::Length(n) = w else {
         return Stored::Unread;
     };
-    text::fill::copy(&bytes[..n], out, to);
     Stored::To {
         next: s.len(),
         end: to + n,

@@ -51,13 +51,10 @@ fn path(f: &[u8], at: usize, out: &mut [u8], to: usize) -> Stored
     if f.len() <= at {
         return Stored::Unread;
     }
-    // the longest path text
-    let mut text = [0u8; 13520];
-    let w = path_text::writer::write_text(&f[at..], &mut text);
+    let w = path_text::writer::write_text(&f[at..], &mut out[to..]);
     let Filled::Length(n) = w else {
         return Stored::Unread;
     };
-    text::fill::copy(&text[..n], out, to);
     Stored::To {
         next: f.len(),
         end: to + n,

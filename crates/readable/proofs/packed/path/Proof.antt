@@ -1,24 +1,27 @@
 -- `path` stores the path with which the line ends.
 use borrow.Author.Needs.{needs}
 use native.Mathlib.Omega.{arith}
-use mathlib.Core.Path.{refl, sym, ap, _∙_}
-use lib.ListN.{length-take, drop}
-use lib.Seq.{length-take-le}
-use Rattle.text.specs.Fill.{put}
+use mathlib.Core.Path.{_≡_}
+use mathlib.Core.Option.{some}
+use Prim.Native.Nat.{_≤_}
+use lib.ListN.{length}
+use Rattle.text.specs.String.{Str}
 use Rattle.path_text.specs.Calls.{bytesFor}
 use Rattle.path_text.proofs.Longest.{bytes-bound}
+use Rattle.readable.specs.Form.{packedPath}
 use Rattle.readable.specs.Steps.{stops}
-use Rattle.readable.proofs.Packing.{path-past, path-unpacked, path-puts}
-use Rattle.readable.proofs.Showing.{answered, unanswered, taken, tail}
-use mathlib.Core.Path.{sym, ap, _∙_}
-use lib.ListN.{length-take}
+use Rattle.readable.proofs.Rest.{rest-past, rest-stops, rest-size, rest-puts}
 use Rattle.readable.proofs.packed.path.Statement.{statement}
 use Rattle.readable.proofs.packed.path.Tie as tie
 
+bounded : (t w : Str) → bytesFor t ≡ some w → length w ≤ 13520
+bounded t w e = omega (arith, bytes-bound t w e)
+
 returns : tie.Need-returns
+unfolding packedPath
 returns c =
     let at-if1 = c .if1 in
-    stops (path-past _ _ (at-if1 .taken))
+    stops (rest-past _ _ _ (at-if1 .taken))
 
 sub-read-text : tie.Need-sub-read-text
 sub-read-text c = search needs
@@ -29,8 +32,14 @@ part-read-text-start c = search needs
 part-read-text-end : tie.Need-part-read-text-end
 part-read-text-end c = search needs
 
-slice-aggregate-read-text : tie.Need-slice-aggregate-read-text
-slice-aggregate-read-text c = search needs
+sub-read-text-2 : tie.Need-sub-read-text-2
+sub-read-text-2 c = search needs
+
+part-read-text-start-2 : tie.Need-part-read-text-start-2
+part-read-text-start-2 c = search needs
+
+part-read-text-end-2 : tie.Need-part-read-text-end-2
+part-read-text-end-2 c = search needs
 
 read-text-requires : tie.Need-read-text-requires
 read-text-requires c κs = search needs
@@ -41,55 +50,37 @@ enum-known-w c = search needs
 enum-told : tie.Need-enum-told
 enum-told c = search needs
 
-returns-2 : tie.Need-returns-2
-returns-2 c =
-    let at-enum-told = c .enum-told in
-    let at-read-text = c .before .before .before .read-text in
-    let at-if1 = c .before .before .before .before .before .before .if1 in
-    let at-start = c .before .before .before .before .before .before .before .before .before in
-    stops (path-unpacked (at-start .args .s .now) (at-start .args .at) (at-if1 .left)
-    (ap bytesFor (sym (tail (at-start .args .s .now) (at-start .args .at) (omega (arith, at-if1 .left)))) ∙ unanswered _ _ _ (at-read-text .ensures .0) (λ s e. bytes-bound _ s e) _ (at-enum-told .given .1)))
-
-array-share-prefix-bytes : tie.Need-array-share-prefix-bytes
-array-share-prefix-bytes c =
-    let at-w = c .before .w in
-    let at-read-text = c .before .before .before .before .read-text in
-    let a = answered _ _ _ (at-read-text .ensures .0) _ (at-w .given .1) in omega (arith, a .3)
-
-slice-aggregate-copy : tie.Need-slice-aggregate-copy
-slice-aggregate-copy c =
-    let at-w = c .before .before .w in
-    let at-read-text = c .before .before .before .before .before .read-text in
-    let a = answered _ _ _ (at-read-text .ensures .0) _ (at-w .given .1) in sym (length-take-le _ _ (omega (arith, a .3)))
-
-copy-requires : tie.Need-copy-requires
-copy-requires c κs =
-    let at-w = c .before .before .before .w in
-    let at-read-text = c .before .before .before .before .before .before .read-text in
-    let at-start = c .before .before .before .before .before .before .before .before .before .before .before .before in
-    let a = answered _ _ _ (at-read-text .ensures .0) _ (at-w .given .1) in simp length-take (omega (arith, a .3, at-start .pre))
-
-add-t20 : tie.Need-add-t20
-add-t20 c =
-    let at-w = c .before .before .before .before .before .before .w in
-    let at-read-text = c .before .before .before .before .before .before .before .before .before .read-text in
-    let at-start = c .before .before .before .before .before .before .before .before .before .before .before .before .before .before .before in
-    let a = answered _ _ _ (at-read-text .ensures .0) _ (at-w .given .1) in omega (arith, a .3, at-start .pre)
-
 same-length : tie.Need-same-length
 same-length c = search needs
 
+returns-2 : tie.Need-returns-2
+unfolding packedPath
+returns-2 c =
+    let at-enum-told = c .enum-told in
+    let at-read-text = c .before .before .before .before .read-text in
+    let at-if1 = c .before .before .before .before .before .before .before .if1 in
+    let at-start = c .before .before .before .before .before .before .before .before .before .before in
+    stops (rest-stops bytesFor _ _ (at-if1 .left) (at-start .args .out .now) (at-start .args .to) _ (at-start .pre) bounded _ (at-read-text .ensures .0) _ (at-enum-told .given .1))
+
+add-t13 : tie.Need-add-t13
+add-t13 c =
+    let at-w = c .before .w in
+    let at-read-text = c .before .before .before .before .before .read-text in
+    let at-if1 = c .before .before .before .before .before .before .before .before .if1 in
+    let at-start = c .before .before .before .before .before .before .before .before .before .before .before in
+    omega (arith, at-start .pre, rest-size bytesFor (at-start .args .s .now) (at-start .args .at) (at-if1 .left) (at-start .args .out .now) (at-start .args .to) _ (at-start .pre) bounded _ (at-read-text .ensures .0) _ (at-w .given .1))
+
+same-length-2 : tie.Need-same-length-2
+same-length-2 c = search needs
+
 returns-3 : tie.Need-returns-3
+unfolding packedPath
 returns-3 c =
-    let at-copy = c .before .before .copy in
-    let at-w = c .before .before .before .before .before .before .w in
-    let at-read-text = c .before .before .before .before .before .before .before .before .before .read-text in
-    let at-if1 = c .before .before .before .before .before .before .before .before .before .before .before .before .if1 in
-    let at-start = c .before .before .before .before .before .before .before .before .before .before .before .before .before .before .before in
-    let a = answered _ _ _ (at-read-text .ensures .0) _ (at-w .given .1) in
-    path-puts (at-start .args .s .now) (at-start .args .at) (at-start .args .out .now) _ (a .0) _ _ (at-if1 .left)
-    (ap bytesFor (sym (tail (at-start .args .s .now) (at-start .args .at) (omega (arith, at-if1 .left)))) ∙ a .1)
-    (record { ends = omega (arith, a .2); same = at-copy .ensures ∙ ap (put (at-start .args .out .now) (at-start .args .to)) (taken _ _ (a .0) _ _ (a .2) (a .4) (at-read-text .ensures .1)) })
+    let at-w = c .before .w in
+    let at-read-text = c .before .before .before .before .before .read-text in
+    let at-if1 = c .before .before .before .before .before .before .before .before .if1 in
+    let at-start = c .before .before .before .before .before .before .before .before .before .before .before in
+    rest-puts bytesFor _ _ (at-if1 .left) _ _ _ (at-start .pre) bounded _ (at-read-text .ensures .0) _ (at-w .given .1) _ (at-read-text .ensures .1)
 
 pub path-spec : {M : Type 1} → statement M
 path-spec =
@@ -99,14 +90,14 @@ path-spec =
     sub-read-text
     part-read-text-start
     part-read-text-end
-    slice-aggregate-read-text
+    sub-read-text-2
+    part-read-text-start-2
+    part-read-text-end-2
     read-text-requires
     enum-known-w
     enum-told
-    returns-2
-    array-share-prefix-bytes
-    slice-aggregate-copy
-    copy-requires
-    add-t20
     same-length
+    returns-2
+    add-t13
+    same-length-2
     returns-3)

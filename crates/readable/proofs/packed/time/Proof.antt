@@ -1,9 +1,7 @@
 -- `time` stores the 8 bytes for which the last 16 digits stand.
 use borrow.Author.Needs.{needs}
 use native.Mathlib.Omega.{arith}
-use mathlib.Core.Path.{refl, sym, _∙_}
-use lib.ListN.{length-take}
-use lib.Seq.{length-take-le}
+use mathlib.Core.Path.{refl}
 use Rattle.readable.specs.Steps.{stops}
 use Rattle.readable.proofs.Packing.{time-unpacked, digits-are, time-bad, time-short, time-eight, time-puts}
 use Rattle.readable.proofs.packed.time.Statement.{statement}
@@ -35,9 +33,6 @@ copy-requires c κs = search needs
 slice-aggregate-read-line : tie.Need-slice-aggregate-read-line
 slice-aggregate-read-line c = search needs
 
-slice-aggregate-read-line-2 : tie.Need-slice-aggregate-read-line-2
-slice-aggregate-read-line-2 c = search needs
-
 read-line-requires : tie.Need-read-line-requires
 read-line-requires c κs = search needs
 
@@ -47,78 +42,53 @@ enum-known-l c = search needs
 enum-told : tie.Need-enum-told
 enum-told c = search needs
 
+same-length : tie.Need-same-length
+same-length c = search needs
+
 returns-2 : tie.Need-returns-2
 returns-2 c =
     let at-enum-told = c .enum-told in
-    let at-read-line = c .before .before .before .read-line in
-    let at-copy = c .before .before .before .before .before .before .before .copy in
-    let at-if1 = c .before .before .before .before .before .before .before .before .before .before .if1 in
-    let at-start = c .before .before .before .before .before .before .before .before .before .before .before .before .before in
+    let at-read-line = c .before .before .before .before .read-line in
+    let at-copy = c .before .before .before .before .before .before .before .before .copy in
+    let at-if1 = c .before .before .before .before .before .before .before .before .before .before .before .if1 in
+    let at-start = c .before .before .before .before .before .before .before .before .before .before .before .before .before .before in
     stops (time-bad (at-start .args .s .now) (at-start .args .at) _ (digits-are (at-start .args .s .now) (at-start .args .at) (at-start .pre .1) (at-if1 .left) _ _ refl (at-copy .ensures)) (at-if1 .left) _ (at-read-line .ensures .0) (at-enum-told .given .1))
+
+same-length-2 : tie.Need-same-length-2
+same-length-2 c = search needs
 
 returns-3 : tie.Need-returns-3
 returns-3 c =
     let at-if2 = c .if2 in
     let at-l = c .before .before .l in
-    let at-read-line = c .before .before .before .before .before .read-line in
-    let at-copy = c .before .before .before .before .before .before .before .before .before .copy in
-    let at-if1 = c .before .before .before .before .before .before .before .before .before .before .before .before .if1 in
-    let at-start = c .before .before .before .before .before .before .before .before .before .before .before .before .before .before .before in
-    stops (time-short (at-start .args .s .now) (at-start .args .at) _ (digits-are (at-start .args .s .now) (at-start .args .at) (at-start .pre .1) (at-if1 .left) _ _ refl (at-copy .ensures)) (at-if1 .left) _ (at-read-line .ensures .0) _ _ (at-l .given .1) (at-if2 .taken))
-
-array-share-prefix-bytes : tie.Need-array-share-prefix-bytes
-array-share-prefix-bytes c =
-    let at-if2 = c .if2 in
-    let at-l = c .before .before .l in
-    let at-read-line = c .before .before .before .before .before .read-line in
-    let at-copy = c .before .before .before .before .before .before .before .before .before .copy in
-    let at-if1 = c .before .before .before .before .before .before .before .before .before .before .before .before .if1 in
-    let at-start = c .before .before .before .before .before .before .before .before .before .before .before .before .before .before .before in
-    omega (arith, time-eight (at-start .args .s .now) (at-start .args .at) _ (digits-are (at-start .args .s .now) (at-start .args .at) (at-start .pre .1) (at-if1 .left) _ _ refl (at-copy .ensures)) (at-if1 .left) _ (at-read-line .ensures .0) _ _ (at-l .given .1) (at-if2 .left))
-
-slice-aggregate-copy-2 : tie.Need-slice-aggregate-copy-2
-slice-aggregate-copy-2 c =
-    let at-if2 = c .before .if2 in
-    let at-l = c .before .before .before .l in
     let at-read-line = c .before .before .before .before .before .before .read-line in
     let at-copy = c .before .before .before .before .before .before .before .before .before .before .copy in
     let at-if1 = c .before .before .before .before .before .before .before .before .before .before .before .before .before .if1 in
     let at-start = c .before .before .before .before .before .before .before .before .before .before .before .before .before .before .before .before in
-    sym (length-take-le _ _ (omega (arith, time-eight (at-start .args .s .now) (at-start .args .at) _ (digits-are (at-start .args .s .now) (at-start .args .at) (at-start .pre .1) (at-if1 .left) _ _ refl (at-copy .ensures)) (at-if1 .left) _ (at-read-line .ensures .0) _ _ (at-l .given .1) (at-if2 .left))))
+    stops (time-short (at-start .args .s .now) (at-start .args .at) _ (digits-are (at-start .args .s .now) (at-start .args .at) (at-start .pre .1) (at-if1 .left) _ _ refl (at-copy .ensures)) (at-if1 .left) _ (at-read-line .ensures .0) _ _ (at-l .given .1) (at-if2 .taken))
 
-copy-requires-2 : tie.Need-copy-requires-2
-copy-requires-2 c κs =
-    let at-if2 = c .before .before .if2 in
-    let at-l = c .before .before .before .before .l in
-    let at-read-line = c .before .before .before .before .before .before .before .read-line in
-    let at-copy = c .before .before .before .before .before .before .before .before .before .before .before .copy in
-    let at-if1 = c .before .before .before .before .before .before .before .before .before .before .before .before .before .before .if1 in
-    let at-start = c .before .before .before .before .before .before .before .before .before .before .before .before .before .before .before .before .before in
-    simp length-take (omega (arith, time-eight (at-start .args .s .now) (at-start .args .at) _ (digits-are (at-start .args .s .now) (at-start .args .at) (at-start .pre .1) (at-if1 .left) _ _ refl (at-copy .ensures)) (at-if1 .left) _ (at-read-line .ensures .0) _ _ (at-l .given .1) (at-if2 .left), at-start .pre .0))
-
-add-t11 : tie.Need-add-t11
-add-t11 c =
-    let at-if2 = c .before .before .before .before .before .if2 in
-    let at-l = c .before .before .before .before .before .before .before .l in
-    let at-read-line = c .before .before .before .before .before .before .before .before .before .before .read-line in
-    let at-copy = c .before .before .before .before .before .before .before .before .before .before .before .before .before .before .copy in
-    let at-if1 = c .before .before .before .before .before .before .before .before .before .before .before .before .before .before .before .before .before .if1 in
-    let at-start = c .before .before .before .before .before .before .before .before .before .before .before .before .before .before .before .before .before .before .before .before in
+add-t10 : tie.Need-add-t10
+add-t10 c =
+    let at-if2 = c .if2 in
+    let at-l = c .before .before .l in
+    let at-read-line = c .before .before .before .before .before .before .read-line in
+    let at-copy = c .before .before .before .before .before .before .before .before .before .before .copy in
+    let at-if1 = c .before .before .before .before .before .before .before .before .before .before .before .before .before .if1 in
+    let at-start = c .before .before .before .before .before .before .before .before .before .before .before .before .before .before .before .before in
     omega (arith, time-eight (at-start .args .s .now) (at-start .args .at) _ (digits-are (at-start .args .s .now) (at-start .args .at) (at-start .pre .1) (at-if1 .left) _ _ refl (at-copy .ensures)) (at-if1 .left) _ (at-read-line .ensures .0) _ _ (at-l .given .1) (at-if2 .left), at-start .pre .0)
 
-same-length : tie.Need-same-length
-same-length c = search needs
+same-length-3 : tie.Need-same-length-3
+same-length-3 c = search needs
 
 returns-4 : tie.Need-returns-4
 returns-4 c =
-    let at-copy2 = c .before .before .copy2 in
-    let at-if2 = c .before .before .before .before .before .if2 in
-    let at-l = c .before .before .before .before .before .before .before .l in
-    let at-read-line = c .before .before .before .before .before .before .before .before .before .before .read-line in
-    let at-copy = c .before .before .before .before .before .before .before .before .before .before .before .before .before .before .copy in
-    let at-if1 = c .before .before .before .before .before .before .before .before .before .before .before .before .before .before .before .before .before .if1 in
-    let at-start = c .before .before .before .before .before .before .before .before .before .before .before .before .before .before .before .before .before .before .before .before in
-    time-puts (at-start .args .s .now) (at-start .args .at) _ (digits-are (at-start .args .s .now) (at-start .args .at) (at-start .pre .1) (at-if1 .left) _ _ refl (at-copy .ensures)) (at-if1 .left) _ (at-read-line .ensures .0) _ _ (at-l .given .1) (at-if2 .left) _ _ (at-read-line .ensures .1) _ _ _ (at-copy2 .ensures)
+    let at-if2 = c .if2 in
+    let at-l = c .before .before .l in
+    let at-read-line = c .before .before .before .before .before .before .read-line in
+    let at-copy = c .before .before .before .before .before .before .before .before .before .before .copy in
+    let at-if1 = c .before .before .before .before .before .before .before .before .before .before .before .before .before .if1 in
+    let at-start = c .before .before .before .before .before .before .before .before .before .before .before .before .before .before .before .before in
+    time-puts (at-start .args .s .now) (at-start .args .at) _ (digits-are (at-start .args .s .now) (at-start .args .at) (at-start .pre .1) (at-if1 .left) _ _ refl (at-copy .ensures)) (at-if1 .left) _ (at-read-line .ensures .0) _ _ (at-l .given .1) (at-if2 .left) _ _ _ (at-read-line .ensures .1)
 
 pub time-spec : {M : Type 1} → statement M
 time-spec =
@@ -132,15 +102,13 @@ time-spec =
     slice-aggregate-copy
     copy-requires
     slice-aggregate-read-line
-    slice-aggregate-read-line-2
     read-line-requires
     enum-known-l
     enum-told
-    returns-2
-    returns-3
-    array-share-prefix-bytes
-    slice-aggregate-copy-2
-    copy-requires-2
-    add-t11
     same-length
+    returns-2
+    same-length-2
+    returns-3
+    add-t10
+    same-length-3
     returns-4)

@@ -1,7 +1,8 @@
 -- `time` stores the digits of the 8 bytes with which the frame ends.
 use borrow.Author.Needs.{needs}
 use Rattle.readable.specs.Steps.{stops}
-use Rattle.readable.proofs.Showing.{time-unshown, time-fits, time-puts, tail}
+use Rattle.readable.proofs.Showing.{time-unshown, time-fits, time-puts}
+use Rattle.readable.proofs.Rest.{tail}
 use Rattle.readable.proofs.shown.time.Statement.{statement}
 use Rattle.readable.proofs.shown.time.Tie as tie
 
