@@ -18,7 +18,7 @@ use Rattle.text.proofs.Filling.{wrote-long, wrote-more, wrote-nothing, wrote-be
 use Rattle.path_text.specs.declared.reader.Stored.{Stored}
 use Rattle.path_text.specs.declared.reader.Stored.the-variants.{To, Unread}
 use Rattle.table.specs.Frame.{unknown, whole}
-use Rattle.readable_parts.specs.Parts.{Parts, partOf, shown}
+use Rattle.readable_parts.specs.Parts.{Parts, partOf}
 use Rattle.readable_lines.specs.Form.{parts, formBy, printed, shownFrame, kindBy, headed, packedFrame}
 use Rattle.readable_parts.specs.Steps.{longest, Puts, puts}
 use Rattle.readable_lines.specs.Steps.{partsBy, roomFor, Fills, fills}
@@ -74,9 +74,6 @@ module _ (p : Parts) (form s : Str) (start : ℕ) (d : List ℕ) (to : ℕ) wher
   module _ (h : to + roomFor form ≤ length d) (i at : ℕ) (out : List ℕ) (q : ℕ) (g : Going p form s start d to i at out q) where
     pub going-long : length out ≡ length d
     going-long = wrote-long d to (g .so-far) out q (g .wrote) (omega (arith, g .few))
-
-    pub going-end : q ≤ length d
-    going-end = omega (arith, g .few, g .wrote .ends)
 
     module _ (l : i < length form) where
       here : drop i form ≡ getD form i 0 ∷ drop (i + 1) form
@@ -158,10 +155,6 @@ module _ (f : Str) where
       go (x ∷ g) h = absurd (omega arith)
 
   module _ (d d′ : List ℕ) (r : Stored) (e : Puts 14000 (formBy (partsBy false) (getD f 0 0)) f 1 d 0 d′ r) where
-    shown-by : partsBy false ≡ shown
-    unfolding partsBy if_then_else_
-    shown-by = refl
-
     pub frame-unread : r ≡ Unread → shownFrame f ≡ none
     unfolding shownFrame whole printed partsBy if_then_else_
     frame-unread g = rw (put-not e g)

@@ -2,17 +2,17 @@
 use mathlib.Core.Path.{_≡_, refl, sym, ap, ap₂, _∙_}
 use mathlib.Core.Bool.{Bool, true, false, not}
 use mathlib.Core.List.{List, [], _∷_}
-use mathlib.Core.Option.{Option, none, some}
-use Prim.Native.Nat.{ℕ, _≤_, _<_}
+use mathlib.Core.Option.{Option, some}
+use Prim.Native.Nat.{ℕ, _≤_}
 use native.Mathlib.Omega.{arith}
-use borrow.Author.Tests.{eq-eqb, ne-eqb, eqb-true, eqb-false, ltb-false, le-ltb}
+use borrow.Author.Tests.{ne-eqb, eqb-true, eqb-false, ltb-false, le-ltb}
 use lib.Dec.{eqb, ltb}
 use lib.ListN.{length}
 use Rattle.text.specs.Test.{_and_, _or_, if_then_else_}
 use Rattle.text.specs.String.{Str}
 use Rattle.text.specs.Fill.{put}
 use Rattle.text.specs.Refusal.{_when_else_, clear}
-use Rattle.text.proofs.Tests.{by, clash, or-false-l, or-false-r, neither, and-false}
+use Rattle.text.proofs.Tests.{by, clash, or-false-l, or-false-r, and-false}
 use Rattle.text.proofs.Filling.{put-length}
 use Rattle.table.specs.Text.{unless, isAccepted}
 use Rattle.table.specs.declared.Checked.{Checked}
@@ -21,7 +21,6 @@ use Rattle.rotation.specs.State.{noLength, given, off, on, shortStore, b
 use Rattle.rotation.specs.Calls.{startRefusal, offRefusal, noCandidate, finalizeRefusal, started, uploaded, finalized, closed, stepped, start, uploadAnswer, upload, storedBy, uploadStore, finalize, close}
 use Rattle.rotation.specs.Machine.{Call, Start, Upload, Finalize, Close, Machine, lacking, machineRefusal, machineNext, machineForce, Lent, heldText, machineOf, forceText, Whole, offered, machineAnswer, machineStep, answers, leaves, Follows, trace, end, machineTrace, machineEnd}
 use Rattle.rotation.specs.declared.Record.{Record}
-use Rattle.rotation.specs.declared.Stepped.{Stepped}
 use Rattle.rotation.proofs.Slots.{put-own, put-first, put-second}
 
 not-not : (b : Bool) → not (not b) ≡ b
@@ -162,10 +161,6 @@ module _ (l : Lent) (w : Whole l) where
   finalize-number = own _ ∙ rw (not-not (off r), lacking-is (l .store) (candidateSlot r) (r .«candidate_len»))
 
 -- ---- what a machine is left with
-
-none-held : (store : Str) (slot : ℕ) → heldText store slot noLength ≡ none
-unfolding heldText given if_then_else_
-none-held store slot = refl
 
 some-held : (store : Str) (slot len : ℕ) → len ≤ 32768 → heldText store slot len ≡ some (textIn store slot len)
 unfolding heldText given if_then_else_

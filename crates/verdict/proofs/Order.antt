@@ -1,9 +1,9 @@
 -- The two orders of rules, by the ranking and by id, are total, and tell two rules apart unless they have one id.
-use mathlib.Core.Path.{_≡_, refl, sym, ap, ap₂, _∙_}
+use mathlib.Core.Path.{_≡_, refl, sym, ap₂, _∙_}
 use mathlib.Core.Logic.{_⊎_, inl, inr}
 use mathlib.Core.Bool.{Bool, true, false}
-use mathlib.Core.List.{List, [], _∷_}
-use Prim.Native.Nat.{ℕ, suc, _+_, _*_, _<_, _≤_, zero-le}
+use mathlib.Core.List.{[], _∷_}
+use Prim.Native.Nat.{ℕ, _+_, _*_, _<_}
 use lib.ListN.{length}
 use lib.Dec.{eqb, ltb}
 use borrow.Author.Tests.{ltb-true, eqb-true, lt-ltb, le-ltb, eq-eqb, ne-eqb}
@@ -185,17 +185,7 @@ unless-one true false h = absurd (omega arith)
 unless-one false true h = absurd (omega arith)
 unless-one false false h = refl
 
--- two rules of which none is better have one action
-pub tied-permit : (r s : Rule) → better r s ≡ false → better s r ≡ false → r .permit ≡ s .permit
-unfolding better
-tied-permit r s e f =
-    let a = tied _ _ _ _ e f in
-    let b = tied _ _ _ _ (a .1) (a .2) in
-    let c = tied _ _ _ _ (b .1) (b .2) in
-    let d = tied _ _ _ _ (c .1) (c .2) in
-    unless-one (r .permit) (s .permit) (d .0)
-
--- and so have two of one rank
+-- two rules of one rank have one action
 pub rank-permit : (r s : Rule) → rank r ≡ rank s → r .permit ≡ s .permit
 unfolding rank rankBy
 rank-permit r s e =

@@ -1,7 +1,6 @@
-// The ranking of rules, as a number and an id.
+// The ranking of rules, as a number.
 ghost use mathlib.Core.Path.{_≡_};
 ghost use Prim.Native.Nat.{_<_};
-ghost use Rattle.text.specs.String.{more, before};
 ghost use Rattle.verdict.specs.Order.{unless, rankBy};
 
 // 1 for a user, and for a deny.
@@ -19,14 +18,4 @@ pub fn rank(elements: usize, keys: usize, group: bool, permit: bool) -> usize
     let user = unless_so(group);
     let deny = unless_so(permit);
     ((elements * 65536 + keys) * 2 + user) * 2 + deny
-}
-
-// Whether a rule of rank a and id x is better than one of rank b and id y.
-pub fn outranks(a: usize, b: usize, x: &[u8], y: &[u8]) -> bool
-    ensures { λ r. ⌜ r ≡ more a b (before (now (x .entry)) (now (y .entry))) ⌝ }
-{
-    if a != b {
-        return b < a;
-    }
-    text::string::is_before(x, y)
 }
