@@ -36,3 +36,9 @@ pub fn usage(what: &[u8]) {
     io::write_all(2, what);
     io::write_all(2, b"\nTry: burgee help\n");
 }
+
+// Why a call of the system failed on the file of that name.
+pub fn failure(name: &[u8]) {
+    io::write_all(2, b"burgee: ");
+    os::fail(name);
+}

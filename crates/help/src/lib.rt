@@ -62,12 +62,12 @@ fn groups() {
         1,
         b"burgee groups FILE USER\n\
         \n\
-        How many groups of a rule table list the user, and the first of them.\n\
+        How many groups of a rule table list the user, and the number and name of each.\n\
         \n\
         $ burgee groups examples/files/yard.table stevie\n\
         groups 2\n\
-        first 0\n\
-        name admin\n",
+        group 0 admin\n\
+        group 1 engineers\n",
     );
 }
 
@@ -183,11 +183,13 @@ fn rotate() {
         burgee rotate upload RECORD STORE FILE\n\
         burgee rotate verdict RECORD STORE USER read|write ORIGIN PATH\n\
         burgee rotate tree RECORD STORE USER read|write ORIGIN PATH\n\
+        burgee rotate rpc RECORD STORE IDENTITY PATH [HEADERS-FILE]\n\
         burgee rotate finalize RECORD STORE\n\
         burgee rotate close RECORD STORE\n\
         \n\
         A rotation tried by hand. RECORD and STORE are files that new makes; each step prints what the record then says.\n\
-        The verdicts are on what is in force: the candidate, else the live text, else factory, which denies all.\n\
+        A verdict, a tree answer or an RPC is judged on what is in force: the candidate, else the live text, else factory,\n\
+        which denies all (table) or permits all (policy).\n\
         \n\
         $ burgee rotate new target/help.record target/help.store table\n\
         kind table\n\
@@ -196,7 +198,21 @@ fn rotate() {
         rotation off\n\
         candidate none\n\
         $ burgee rotate finalize target/help.record target/help.store\n\
-        refused 13: no rotation is on\n",
+        refused 13: no rotation is on\n\
+        $ burgee rotate new target/help.record target/help.store policy | head -n 1\n\
+        kind policy\n\
+        $ burgee rotate rpc target/help.record target/help.store '' /gnmi.gNMI/Get\n\
+        permit\n\
+        factory\n\
+        $ burgee rotate start target/help.record target/help.store | tail -n 2\n\
+        rotation on\n\
+        candidate none\n\
+        $ burgee rotate upload target/help.record target/help.store examples/files/yard.json | tail -n 1\n\
+        candidate 525\n\
+        $ burgee rotate rpc target/help.record target/help.store spiffe://yard/dryer /gnoi.system.System/Reboot\n\
+        deny\n\
+        list deny_rules\n\
+        rule 0\n",
     );
 }
 

@@ -1,4 +1,6 @@
 // The RPC verdict.
+ghost use Rattle.io.specs.Counts.{Counts};
+use console::input::Read;
 use rpc::verdict::Verdict;
 
 // The action, and the list and the number of the deciding rule.
@@ -20,6 +22,19 @@ pub fn answer(v: Verdict) {
         }
         Verdict::Refused(number) => console::refusal::at(number, 0),
     }
+}
+
+// Header lines: what the file holds that argument i names, if there are that many words; or nothing.
+pub fn headers(i: usize, words: usize, buf: &mut [u8]) -> Read
+    ensures { λ r. ⌜ Counts (r .count) (now (buf .exit)) ⌝ }
+{
+    if words <= i {
+        return Read {
+            is_good: true,
+            count: 0,
+        };
+    }
+    console::input::file(i, buf)
 }
 
 pub fn verdict(policy: &[u8], identity: &[u8], path: &[u8], headers: &[u8]) {

@@ -1,28 +1,24 @@
 // The steps of a rotation, and its probes. The words of a call: rotate, the step, the record's file, the store's file, what the step takes.
+use probe::rpcs::RpcAnswer;
 use rotation::Record;
 use rotation::Stepped;
 use table::Checked;
 
-// Stores the record in its file and prints it.
+// Stores the record in its file, and prints it.
 fn keep(r: Record) {
     let bytes = crate::record::to_bytes(r);
-    console::input::save(3, &bytes);
-    crate::record::print(r);
+    if console::input::save(3, &bytes) {
+        crate::record::print(r);
+    }
 }
 
-// Keeps what a step makes of the record, or prints why it is refused; `text` is what was offered.
-fn settle(s: Stepped, text: &[u8]) -> bool {
+// Keeps what a step makes of the record, or prints why it is refused.
+fn settle(s: Stepped) {
     let a = s.answer;
     let next = s.next;
     match a {
-        Checked::Accepted => {
-            keep(next);
-            true
-        }
-        Checked::Refused { number, line } => {
-            console::refusal::table(text, number, line);
-            false
-        }
+        Checked::Accepted => keep(next),
+        Checked::Refused { number, line } => console::refusal::at(number, line),
     }
 }
 
@@ -40,7 +36,7 @@ fn kind(word: &[u8]) -> u32 {
 // burgee rotate new RECORD STORE policy|table
 fn new() {
     let mut word = io::buffer();
-    let w = os::arg(5, &mut word);
+    let w = console::input::word(5, &mut word);
     let k = kind(&word[..w]);
     if k == 0 {
         console::say::usage(b"a record is for a policy or for a table");
@@ -52,31 +48,42 @@ fn new() {
     }
 }
 
+// Stores what an upload makes of store and record, or prints why it is refused; the store first, so that no record names a text that is not there.
+fn settle_upload(s: Stepped, store: &[u8], text: &[u8]) {
+    let a = s.answer;
+    let next = s.next;
+    match a {
+        Checked::Accepted => {
+            if console::input::save(4, store) {
+                keep(next);
+            }
+        }
+        Checked::Refused { number, line } => console::refusal::table(text, number, line),
+    }
+}
+
 // burgee rotate upload RECORD STORE FILE
 fn upload(r: Record, store: &mut [u8]) {
-    let fd = console::input::open(5);
-    if fd < 0 {
-        return;
-    }
     let mut text = io::large_buffer();
-    let n = io::read_full(fd, &mut text);
-    let s = upload::upload(r, store, &text[..n]);
-    if settle(s, &text[..n]) {
-        console::input::save(4, store);
+    let got = console::input::file(5, &mut text);
+    let n = got.count;
+    if got.is_good {
+        let s = upload::upload(r, store, &text[..n]);
+        settle_upload(s, store, &text[..n]);
     }
 }
 
 // burgee rotate verdict|tree RECORD STORE USER read|write ORIGIN PATH
 fn probe(r: Record, store: &[u8], is_tree: bool) {
     let mut word = io::buffer();
-    let w = os::arg(6, &mut word);
+    let w = console::input::word(6, &mut word);
     let mode = console::input::mode(&word[..w]);
     let mut user = io::buffer();
-    let u = os::arg(5, &mut user);
+    let u = console::input::word(5, &mut user);
     let mut origin = io::buffer();
-    let o = os::arg(7, &mut origin);
+    let o = console::input::word(7, &mut origin);
     let mut path = io::large_buffer();
-    let p = os::arg(8, &mut path);
+    let p = console::input::word(8, &mut path);
     if is_tree {
         let a = probe::probe_tree(r, store, &user[..u], mode, &origin[..o], &path[..p]);
         table_commands::answer::tree(a);
@@ -86,19 +93,46 @@ fn probe(r: Record, store: &[u8], is_tree: bool) {
     }
 }
 
+fn answer_rpc(a: RpcAnswer) {
+    match a {
+        RpcAnswer::PermitAll => {
+            show::line(b"permit");
+            show::line(b"factory");
+        }
+        RpcAnswer::Judged(v) => policy_commands::rpcs::answer(v),
+    }
+}
+
+// burgee rotate rpc RECORD STORE IDENTITY PATH [HEADERS-FILE]
+fn probe_rpc(r: Record, store: &[u8], words: usize) {
+    let mut identity = io::buffer();
+    let i = console::input::word(5, &mut identity);
+    let mut path = io::buffer();
+    let p = console::input::word(6, &mut path);
+    let mut headers = io::large_buffer();
+    let got = policy_commands::rpcs::headers(7, words, &mut headers);
+    let h = got.count;
+    if got.is_good {
+        let a = probe::rpcs::probe_rpc(r, store, &identity[..i], &path[..p], &headers[..h]);
+        answer_rpc(a);
+    }
+}
+
 fn run_on(step: &[u8], words: usize, r: Record, store: &mut [u8]) -> bool {
     let n = store.len();
     let is_tree = text::string::is_same(step, b"tree");
     if text::string::is_same(step, b"start") & (words == 5) {
-        settle(rotation::step::start(r, n), b"");
+        settle(rotation::step::start(r, n));
     } else if text::string::is_same(step, b"upload") & (words == 6) {
         upload(r, store);
     } else if text::string::is_same(step, b"finalize") & (words == 5) {
-        settle(rotation::step::finalize(r, n), b"");
+        settle(rotation::step::finalize(r, n));
     } else if text::string::is_same(step, b"close") & (words == 5) {
-        settle(rotation::step::close(r, n), b"");
+        settle(rotation::step::close(r, n));
     } else if (is_tree | text::string::is_same(step, b"verdict")) & (words == 9) {
         probe(r, store, is_tree);
+    } else if text::string::is_same(step, b"rpc") & ((words == 7) | (words == 8)) {
+        probe_rpc(r, store, words);
     } else {
         return false;
     }
@@ -111,21 +145,24 @@ pub fn run(step: &[u8], words: usize) -> bool {
         new();
         return true;
     }
-    let record = console::input::open(3);
-    if record < 0 {
-        return true;
+    if words < 5 {
+        return false;
     }
     let mut bytes = [0u8; 20];
-    if io::read_full(record, &mut bytes) != 20 {
+    let record = console::input::file(3, &mut bytes);
+    if !record.is_good {
+        return true;
+    }
+    if record.count != 20 {
         console::say::usage(b"a record has 20 bytes");
         return true;
     }
-    let fd = console::input::open(4);
-    if fd < 0 {
+    let mut store = io::large_buffer();
+    let got = console::input::file(4, &mut store);
+    let n = got.count;
+    if !got.is_good {
         return true;
     }
-    let mut store = io::large_buffer();
-    let n = io::read_full(fd, &mut store);
     run_on(
         step,
         words,

@@ -1,38 +1,63 @@
 // A rule table's check, a user's groups, the verdicts.
 ghost use Prim.Native.Nat.{_≤_};
 ghost use lib.ListN.{length};
-use table::Checked;
+use facts::Rows;
 use table::Counted;
+use table::GroupNumber;
 use table::RuleNumber;
 use verdict_text::PathAnswer;
 use verdict_text::TreeAnswer;
 
 // How many rows of each kind an accepted table has, or why it is refused.
 pub fn check(text: &[u8]) {
-    let c = groups::check_table(text);
-    match c {
-        Checked::Accepted => {
+    let r = facts::count_rows(text);
+    match r {
+        Rows::Count {
+            groups,
+            members,
+            rules,
+        } => {
             show::line(b"accepted");
-            console::say::count(b"groups ", console::rows::count(text, 2));
-            console::say::count(b"members ", console::rows::count(text, 3));
-            console::say::count(b"rules ", console::rows::count(text, 4));
+            console::say::count(b"groups ", groups);
+            console::say::count(b"members ", members);
+            console::say::count(b"rules ", rules);
         }
-        Checked::Refused { number, line } => console::refusal::table(text, number, line),
+        Rows::Refused { number, line } => console::refusal::table(text, number, line),
     }
 }
 
-// How many groups list the user, and the first of them.
+// The number and the name of a group.
+fn group(text: &[u8], number: u8)
+    requires { ⌜ length (now text) ≤ 65536 ⌝ }
+{
+    show::word(b"group ");
+    show::decimal(number as u64);
+    show::space();
+    console::rows::group(text, number as usize);
+}
+
+// Each group that lists the user.
+fn list(text: &[u8], user: &[u8])
+    requires { ⌜ length (now text) ≤ 65536 ⌝ }
+{
+    let mut g: u8 = 0;
+    while g < 64 {
+        if facts::is_listed(text, user, GroupNumber(g)) {
+            group(text, g);
+        }
+        g += 1;
+    }
+}
+
+// How many groups list the user, and each of them.
 pub fn groups(text: &[u8], user: &[u8])
     requires { ⌜ length (now text) ≤ 65536 ⌝ }
 {
     let c = groups::count_groups(text, user);
     match c {
         Counted::Count { count, first } => {
-            let g = first.0 as usize;
-            console::say::count(b"groups ", count as usize);
-            console::say::count(b"first ", g);
-            show::word(b"name ");
-            console::rows::group(text, g);
+            console::say::fact(b"groups ", count as u64);
+            list(text, user);
         }
         Counted::NoGroup => show::line(b"groups 0"),
         Counted::Declined { number, line } => console::refusal::table(text, number, line),

@@ -2,8 +2,8 @@
 use borrow.Author.Needs.{needs}
 use native.Mathlib.Omega.{arith}
 use Rattle.path_text.proofs.Reading.{name-high}
-use Rattle.console.proofs.refusal.quote_at.Statement.{statement}
-use Rattle.console.proofs.refusal.quote_at.Tie as tie
+use Rattle.console.proofs.lines.quote_at.Statement.{statement}
+use Rattle.console.proofs.lines.quote_at.Tie as tie
 
 find-requires : tie.Need-find-requires
 find-requires c κs = search needs

@@ -1,9 +1,9 @@
--- `line_start` is safe and ends.
+-- `start` is safe and ends.
 use borrow.Author.Needs.{needs}
 use Prim.Native.Nat.{_≤_}
 use lib.ListN.{length}
-use Rattle.console.proofs.refusal.line_start.Statement.{statement}
-use Rattle.console.proofs.refusal.line_start.Tie as tie
+use Rattle.console.proofs.lines.start.Statement.{statement}
+use Rattle.console.proofs.lines.start.Tie as tie
 
 abbrev Inv-loop : tie.InvT-loop
 Inv-loop text n at₀ left₀ at left = at ≤ length text
@@ -32,8 +32,8 @@ loop-again c = search needs
 returns-2 : tie.Need-returns-2 Inv-loop μ-loop
 returns-2 c = search needs
 
-pub line-start-spec : {M : Type 1} → statement M
-line-start-spec =
+pub start-spec : {M : Type 1} → statement M
+start-spec =
     tie.close
     (tie.spec
     Inv-loop

@@ -2,8 +2,8 @@
 use borrow.Author.Needs.{needs}
 use native.Mathlib.Omega.{arith}
 use Rattle.path_text.proofs.Reading.{name-low, name-high}
-use Rattle.console.proofs.rows.next.Statement.{statement}
-use Rattle.console.proofs.rows.next.Tie as tie
+use Rattle.console.proofs.lines.next.Statement.{statement}
+use Rattle.console.proofs.lines.next.Tie as tie
 
 find-requires : tie.Need-find-requires
 find-requires c κs = search needs
