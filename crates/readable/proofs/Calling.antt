@@ -1,7 +1,7 @@
 -- What the two calls answer and leave.
-use mathlib.Core.Path.{_≡_, refl, sym, ap, _∙_}
-use mathlib.Core.Bool.{Bool, true, false}
-use mathlib.Core.List.{List, [], _∷_, _++_}
+use mathlib.Core.Path.{_≡_, refl, sym, _∙_}
+use mathlib.Core.Bool.{true, false}
+use mathlib.Core.List.{List, [], _∷_}
 use mathlib.Core.Option.{Option, none, some}
 use Prim.Native.Nat.{ℕ, _+_, _-_, _≤_, _<_}
 use native.Mathlib.Omega.{arith}
@@ -10,18 +10,19 @@ use lib.Dec.{leb, ltb}
 use lib.ListN.{length, take, length-append}
 use Rattle.text.specs.Test.{if_then_else_}
 use Rattle.text.specs.String.{Str}
-use Rattle.text.specs.Fill.{put, Wrote}
+use Rattle.text.specs.Fill.{put}
 use Rattle.text.proofs.Tests.{by}
 use Rattle.line.specs.Lines.{lines}
 use Rattle.table.specs.Text.{check}
 use Rattle.table.specs.declared.Checked.{Checked}
 use Rattle.table.specs.declared.Checked.the-variants as checked
-use Rattle.readable.specs.Lines.{onward, ending, storing, stored, lineBy, shownLine, packedLine, shownAs, showAnswer, showLent, madeAnswer, madeLent, packAnswer, packLent, packedEnd, packedTable}
+use Rattle.readable_lines.specs.Lines.{lineBy}
+use Rattle.readable.specs.Texts.{onward, ending, storing, stored, shownAs, showAnswer, showLent, madeAnswer, madeLent, packAnswer, packLent, packedEnd, packedTable}
 use Rattle.readable.specs.declared.Converted.{Converted}
 use Rattle.readable.specs.declared.Converted.the-variants as converted
 use Rattle.readable.specs.declared.Ended.{Ended}
 use Rattle.readable.specs.declared.Ended.the-variants as ended
-use Rattle.readable.proofs.Stored.{front}
+use Rattle.readable_parts.proofs.Stored.{front}
 
 -- ---- show
 

@@ -1,3 +1,1 @@
-pub mod Form
-pub mod Lines
-pub mod Steps
+pub mod Texts

@@ -6,16 +6,11 @@ ghost use lib.ListN.{length};
 ghost use Rattle.text.specs.Fill.{put};
 ghost use Rattle.line.specs.Lines.{lines};
 ghost use Rattle.table.specs.Text.{check};
-ghost use Rattle.readable.specs.Lines.{shownLine, packedLine, lineBy, ending, stored, showAnswer, showLent, madeAnswer, madeLent, packAnswer, packLent, packedEnd, packedTable};
-ghost use Rattle.readable.specs.Steps.{Lays};
+ghost use Rattle.readable_lines.specs.Lines.{lineBy};
+ghost use Rattle.readable.specs.Texts.{ending, stored, showAnswer, showLent, madeAnswer, madeLent, packAnswer, packLent, packedEnd, packedTable};
 use line::Line;
 use path_text::reader::Stored;
 use table::Checked;
-
-pub mod form;
-pub mod hex;
-pub mod packed;
-pub mod shown;
 
 // Of `show` and `pack`.
 pub enum Converted {
@@ -35,59 +30,6 @@ pub enum Ended {
     Full,
 }
 
-// The readable line of the table's line that starts at `from`.
-fn show_line(text: &[u8], from: usize, out: &mut [u8]) -> Stored
-    requires { ⌜ (from < length (now text)) × (length (now text) ≤ 32768) × (32769 ≤ length (now out)) ⌝ }
-    ensures { λ r. ⌜ Lays shownLine (now (text .entry)) from (now (out .entry)) (now (out .exit)) r ⌝ }
-{
-    let mut frame = [0u8; 16384];
-    let l = line::read_line(text, from, &mut frame, 0);
-    let Line::Frame { len, next } = l else {
-        return Stored::Unread;
-    };
-    let s = crate::form::show_frame(&frame[..len], out);
-    let Stored::To { next: _, end } = s else {
-        return Stored::Unread;
-    };
-    out[end] = 10;
-    Stored::To {
-        next: next,
-        end: end + 1,
-    }
-}
-
-// The table's line of the readable line that starts at `from`.
-fn pack_line(text: &[u8], from: usize, out: &mut [u8]) -> Stored
-    requires { ⌜ (from < length (now text)) × (32769 ≤ length (now out)) ⌝ }
-    ensures { λ r. ⌜ Lays packedLine (now (text .entry)) from (now (out .entry)) (now (out .exit)) r ⌝ }
-{
-    let stop = path_text::reader::find(text, from, 10, 10);
-    if text.len() <= stop {
-        return Stored::Unread;
-    }
-    let mut frame = [0u8; 16384];
-    let s = crate::form::pack_frame(&text[from..stop], &mut frame);
-    let Stored::To { next: _, end } = s else {
-        return Stored::Unread;
-    };
-    let close = crate::hex::write_hex(&frame[..end], out, 0);
-    out[close] = 10;
-    Stored::To {
-        next: stop + 1,
-        end: close + 1,
-    }
-}
-
-fn convert_line(packing: bool, text: &[u8], from: usize, out: &mut [u8]) -> Stored
-    requires { ⌜ (from < length (now text)) × (packing ≡ false → length (now text) ≤ 32768) × (32769 ≤ length (now out)) ⌝ }
-    ensures { λ r. ⌜ Lays (lineBy packing) (now (text .entry)) from (now (out .entry)) (now (out .exit)) r ⌝ }
-{
-    if packing {
-        return pack_line(text, from, out);
-    }
-    show_line(text, from, out)
-}
-
 // The lines one after another into out.
 fn convert_lines(packing: bool, text: &[u8], out: &mut [u8]) -> Ended
     requires { ⌜ (packing ≡ false → length (now text) ≤ 32768) ⌝ }
@@ -98,7 +40,7 @@ fn convert_lines(packing: bool, text: &[u8], out: &mut [u8]) -> Ended
     let mut at = 0;
     let mut number = 1;
     while from < text.len() {
-        let s = convert_line(packing, text, from, &mut piece);
+        let s = readable_lines::convert_line(packing, text, from, &mut piece);
         let Stored::To { next, end } = s else {
             return Ended::Unread { line: number };
         };

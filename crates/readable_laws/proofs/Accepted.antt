@@ -1,21 +1,21 @@
 -- Every line of an accepted table is shown.
 use mathlib.Core.Path.{_≡_, refl, sym, ap, _∙_}
-use mathlib.Core.Bool.{Bool, true, false, _&&_, _||_, not, cond}
+use mathlib.Core.Bool.{Bool, true, false, _||_, not}
 use mathlib.Core.List.{List, [], _∷_, _++_, append-nil}
-use mathlib.Core.Option.{Option, none, some, Option·map}
-use Prim.Native.Nat.{ℕ, zero, suc, _+_, _-_, _/_, _%_, _≤_, _<_}
+use mathlib.Core.Option.{Option, none, some}
+use Prim.Native.Nat.{ℕ, _+_, _-_, _/_, _%_, _≤_, _<_}
 use native.Mathlib.Omega.{arith}
-use borrow.Author.Tests.{eq-eqb, ne-eqb, eqb-true, eqb-false, lt-ltb, ltb-true, ltb-false, le-leb, leb-true, not-true, not-false}
+use borrow.Author.Tests.{eq-eqb, eqb-true, lt-ltb, ltb-true, ltb-false, le-leb, leb-true, not-true, not-false}
 use lib.Dec.{eqb, leb, ltb}
 use lib.ListN.{length, drop, getD, length-drop}
 use lib.Seq.{drop-length}
 use Rattle.text.specs.Test.{_and_, _or_, if_then_else_, all, any}
 use Rattle.text.specs.Byte.{within, isDigit, isName, isPrint, isStar}
 use Rattle.text.specs.String.{Str, bytes, same, joined}
-use Rattle.text.specs.Frame.{Parsed, got, unread, andThen, Reader, _>>=_, ret, byte, run, string}
+use Rattle.text.specs.Frame.{got, andThen, Reader, _>>=_, ret, byte, run, string}
 use Rattle.text.proofs.Tests.{by, clash, both, and-l, and-r, or-false-l, or-false-r, and-left, and-right}
 use Rattle.text.proofs.Frames.{byte-got, byte-unread}
-use Rattle.text.proofs.Codec.{never-got, then-got, got-move, Took, byte-took, string-took}
+use Rattle.text.proofs.Codec.{never-got, then-got, got-move}
 use Rattle.path.specs.Path.{Key, Elem, Path}
 use Rattle.path.specs.Bytes.{path, counted, pathBytes}
 use Rattle.path.specs.Faults.{unsized, overLimit, outsideName, outsideValue, keyStray, elemStray, strayByte, misplaced, keyTwice, goodPath}
@@ -26,20 +26,21 @@ use Rattle.path_text.proofs.Complete.{sized}
 use Rattle.path_text.proofs.RoundTrip.{good-bytes, no-stray}
 use Rattle.path_text.proofs.Sound.{escaped-plain, escaped-mark}
 use Rattle.line.specs.Lines.{lines, frame}
-use Rattle.table.specs.Table.{Member, Rule}
+use Rattle.table.specs.Table.{Rule}
 use Rattle.table.specs.Frame.{Entry, version, group, member, rule, unknown, code, versionBody, groupBody, memberBody, ruleBody, ruleEntry, body, entry, whole, entryOf}
-use Rattle.table.specs.Refusal.{Line, notHex, unreadable, reads, framed, decoded, lineOf, Earlier, unsizedShort, pastLimit, stray, strays, misplaces, repeats, refusal, first, after}
+use Rattle.table.specs.Refusal.{reads, framed, decoded, lineOf, Earlier, unsizedShort, pastLimit, stray, strays, misplaces, repeats, refusal, first, after}
 use Rattle.table.specs.Text.{unless, judge, check}
 use Rattle.table.specs.declared.Checked.the-variants.{Accepted, Refused}
 use Rattle.table.proofs.Numbers.{refusal-clear}
-use Rattle.readable.specs.Form.{partOf, parts, formBy, rest, quoted, hexDigit, hexPair, hexText, shownString, shownTime, shownPath, shownCode, shownPlain, shown, printed, shownFrame}
-use Rattle.readable.specs.Lines.{lined, shownLine, onward, ending}
-use Rattle.readable.specs.Lines as readable
-use Rattle.readable.specs.declared.Ended.{Ended}
+use Rattle.readable_parts.specs.Parts.{partOf, rest, ofRest, quoted, hexDigit, hexPair, hexText, shownString, shownTime, shownPath, shownCode, shownPlain, shown}
+use Rattle.readable_lines.specs.Form.{parts, formBy, printed, shownFrame}
+use Rattle.readable_lines.specs.Lines.{lined, shownLine}
+use Rattle.readable.specs.Texts.{onward, ending}
+use Rattle.readable_lines.specs.Lines as readable
 use Rattle.readable.specs.declared.Ended.the-variants as ended
-use Rattle.readable.proofs.Showing.{is-plain}
-use Rattle.readable.proofs.Converting.{kind-version, kind-group, kind-member, kind-rule}
-use Rattle.readable_laws.proofs.HexLines.{Small, none-left, and-more, frame-text}
+use Rattle.readable_parts.proofs.Showing.{is-plain}
+use Rattle.readable_lines.proofs.Converting.{kind-version, kind-group, kind-member, kind-rule}
+use Rattle.readable_laws.proofs.HexLines.{Small, and-more, frame-text}
 use Rattle.readable_laws.proofs.Times.{small-drop}
 use Rattle.readable_laws.proofs.Frames.{whole-some}
 
@@ -205,7 +206,7 @@ unfolding pathBytes counted
 bytes-long p = omega arith
 
 path-part : (f : Str) (at : ℕ) (p : Path) → path f at ≡ got p (length f) → goodPath p ≡ true → partOf shown 80 f at ≡ got (pathText p) (length f)
-unfolding partOf shown shownPath textFor rest if_then_else_
+unfolding partOf shown shownPath ofRest textFor rest if_then_else_
 path-part f at p e g =
     let t = path-took f at p (length f) e in
     let d : drop at f ≡ pathBytes p = t .same ∙ ap (λ (z : Str). pathBytes p ++ z) (drop-length f) ∙ append-nil (pathBytes p) in

@@ -1,9 +1,9 @@
 -- A frame and its readable line return to each other.
 use mathlib.Core.Path.{_≡_, refl, sym, ap, _∙_}
-use mathlib.Core.Bool.{Bool, true, false, _||_}
-use mathlib.Core.List.{List, [], _∷_, _++_, append-nil}
+use mathlib.Core.Bool.{true, false}
+use mathlib.Core.List.{[], _∷_, _++_, append-nil}
 use mathlib.Core.Option.{Option, none, some}
-use Prim.Native.Nat.{ℕ, _+_, _-_, _≤_, _<_}
+use Prim.Native.Nat.{ℕ, _-_, _≤_}
 use native.Mathlib.Omega.{arith}
 use borrow.Author.Tests.{eq-eqb, eqb-true, eqb-false}
 use lib.Dec.{eqb}
@@ -14,11 +14,12 @@ use Rattle.text.specs.Byte.{isPrint}
 use Rattle.text.specs.String.{Str, bytes}
 use Rattle.text.specs.Frame.{Parsed, got, unread, Reader, _>>=_, ret}
 use Rattle.text.proofs.Tests.{by, clash}
-use Rattle.text.proofs.Codec.{never-got, then-got, got-move, Took, Gives}
+use Rattle.text.proofs.Codec.{never-got, then-got, got-move, Took}
 use Rattle.table.specs.Frame.{whole}
-use Rattle.readable.specs.Form.{Parts, partOf, parts, formBy, shownTime, shownPlain, shown, printed, shownFrame, packed, kindBy, headed, packedFrame}
-use Rattle.readable.proofs.Showing.{is-string, is-time, is-path, is-action, is-mode, is-subject, is-plain}
-use Rattle.readable.proofs.Converting.{kind-version, kind-group, kind-member, kind-rule, kind-none}
+use Rattle.readable_parts.specs.Parts.{Parts, partOf, shownTime, shownPlain, shown, packed}
+use Rattle.readable_lines.specs.Form.{parts, formBy, printed, shownFrame, kindBy, headed, packedFrame}
+use Rattle.readable_parts.proofs.Showing.{is-string, is-time, is-path, is-action, is-mode, is-subject, is-plain}
+use Rattle.readable_lines.proofs.Converting.{kind-version, kind-group, kind-member, kind-rule, kind-none}
 use Rattle.readable_laws.proofs.Inverse.{Back, BackLast, isLast, proper, parts-back, parts-inside}
 use Rattle.readable_laws.proofs.HexLines.{Small}
 use Rattle.readable_laws.proofs.Return.{string-packed, string-shown, code-packed, code-shown, plain-packed, plain-shown, path-packed, path-shown}

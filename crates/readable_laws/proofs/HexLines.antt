@@ -1,19 +1,19 @@
 -- A hex line is the one text of its frame.
-use mathlib.Core.Path.{_≡_, refl, sym, ap, _∙_}
-use mathlib.Core.Bool.{Bool, true, false, _&&_, _||_, cond}
-use mathlib.Core.List.{List, [], _∷_, _++_, append-assoc}
+use mathlib.Core.Path.{_≡_, refl, ap}
+use mathlib.Core.Bool.{true, false}
+use mathlib.Core.List.{[], _∷_, _++_}
 use mathlib.Core.Option.{Option, none, some}
-use Prim.Native.Nat.{ℕ, zero, suc, _+_, _*_, _-_, _/_, _%_, _≤_, _<_}
+use Prim.Native.Nat.{ℕ, _+_, _*_, _-_, _/_, _%_, _≤_, _<_}
 use native.Mathlib.Omega.{arith}
-use borrow.Author.Tests.{eqb-true, lt-ltb, le-ltb, ltb-true, ltb-false, le-leb, lt-leb, leb-true, leb-false}
+use borrow.Author.Tests.{eqb-true, lt-ltb, le-ltb, ltb-true, ltb-false, le-leb, lt-leb, leb-true}
 use lib.Dec.{eqb, leb, ltb}
 use lib.ListN.{length}
 use Rattle.text.specs.Test.{_and_, if_then_else_}
 use Rattle.text.specs.Byte.{within, isDigit, isHex, hexValue}
 use Rattle.text.specs.String.{Str, joined}
-use Rattle.text.proofs.Tests.{by, clash, and-l, and-r, and-left, and-right}
+use Rattle.text.proofs.Tests.{by, and-l, and-r, and-left, and-right}
 use Rattle.line.specs.Lines.{pair, pairs, nonempty, frame}
-use Rattle.readable.specs.Form.{hexDigit, hexPair, hexText}
+use Rattle.readable_parts.specs.Parts.{hexDigit, hexPair, hexText}
 
 -- ---- digits
 

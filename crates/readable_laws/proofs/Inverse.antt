@@ -1,19 +1,18 @@
 -- Each part that goes over comes back the same, and so do the parts of a form.
-use mathlib.Core.Path.{_≡_, refl, sym, ap, _∙_}
+use mathlib.Core.Path.{_≡_, refl, sym, _∙_}
 use mathlib.Core.Bool.{Bool, true, false, _||_, not}
-use mathlib.Core.List.{List, [], _∷_, _++_, append-assoc, append-nil}
-use mathlib.Core.Option.{Option, none, some}
-use Prim.Native.Nat.{ℕ, zero, suc, _+_, _-_, _≤_, _<_}
-use native.Mathlib.Omega.{arith}
+use mathlib.Core.List.{[], _∷_, _++_, append-nil}
+use Prim.Native.Nat.{ℕ, _≤_}
 use borrow.Author.Tests.{not-true}
 use lib.Dec.{eqb}
-use lib.ListN.{length, take, drop, getD}
-use Rattle.text.specs.Test.{_and_, if_then_else_}
+use lib.ListN.{length, drop}
+use Rattle.text.specs.Test.{_and_}
 use Rattle.text.specs.String.{Str}
-use Rattle.text.specs.Frame.{Parsed, got, unread, andThen, Reader, _>>=_, ret}
+use Rattle.text.specs.Frame.{got, andThen, Reader, _>>=_, ret}
 use Rattle.text.proofs.Tests.{by, and-l, and-r}
-use Rattle.text.proofs.Codec.{never-got, then-got, got-move, Took, took-both, took-none, Gives, then-gives}
-use Rattle.readable.specs.Form.{Parts, partOf, parts}
+use Rattle.text.proofs.Codec.{then-got, got-move, Took, took-both, took-none, Gives, then-gives}
+use Rattle.readable_parts.specs.Parts.{Parts, partOf}
+use Rattle.readable_lines.specs.Form.{parts}
 
 -- what r reads of a source that passes P is read back by r′
 abbrev pub Back : (Str → Type 0) → Reader Str → Reader Str → Type 0

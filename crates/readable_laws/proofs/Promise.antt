@@ -1,6 +1,5 @@
 -- `show` and `pack`, as they are called, are each other's inverse on accepted tables.
-use mathlib.Core.Path.{_≡_, refl, sym, ap, _∙_}
-use mathlib.Core.Bool.{true}
+use mathlib.Core.Path.{_≡_, refl, ap, _∙_}
 use mathlib.Core.List.{List}
 use Prim.Native.Nat.{ℕ, _+_, _≤_}
 use native.Mathlib.Omega.{arith}
@@ -15,12 +14,12 @@ use Rattle.line.specs.Lines.{lines}
 use Rattle.table.specs.Text.{check}
 use Rattle.table.specs.declared.Checked.{Checked}
 use Rattle.table.specs.declared.Checked.the-variants as checked
-use Rattle.readable.specs.Lines.{ending, stored, shownLine, shownAs, showAnswer, showLent, madeAnswer, madeLent, packAnswer, packLent, packedEnd, packedTable}
-use Rattle.readable.specs.declared.Converted.{Converted}
+use Rattle.readable_lines.specs.Lines.{shownLine}
+use Rattle.readable.specs.Texts.{ending, stored, shownAs, showAnswer, showLent, madeAnswer, madeLent, packAnswer, packLent, packedEnd, packedTable}
 use Rattle.readable.specs.declared.Converted.the-variants.{Length, Refused, Unread, NoRoom}
 use Rattle.readable.specs.declared.Ended.{Ended}
 use Rattle.readable.specs.declared.Ended.the-variants as ended
-use Rattle.readable.proofs.Stored.{front}
+use Rattle.readable_parts.proofs.Stored.{front}
 use Rattle.readable.proofs.Calling.{accepted-short, stored-length}
 use Rattle.readable_laws.proofs.Texts.{show-then-pack, pack-then-show}
 use Rattle.readable_laws.proofs.Accepted.{accepted-shows}

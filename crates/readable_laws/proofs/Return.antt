@@ -1,18 +1,18 @@
 -- Each part that goes over comes back: strings, words, bytes that stand for themselves, the time, paths.
 use mathlib.Core.Path.{_≡_, refl, sym, ap, _∙_}
-use mathlib.Core.Bool.{Bool, true, false, _||_, not}
-use mathlib.Core.List.{List, [], _∷_, _++_, append-assoc, append-nil}
+use mathlib.Core.Bool.{true, false}
+use mathlib.Core.List.{[], _∷_, _++_, append-assoc, append-nil}
 use mathlib.Core.Option.{Option, none, some}
-use Prim.Native.Nat.{ℕ, zero, suc, _+_, _*_, _-_, _≤_, _<_}
+use Prim.Native.Nat.{ℕ, zero, suc, _+_, _-_, _≤_, _<_}
 use native.Mathlib.Omega.{arith}
-use borrow.Author.Tests.{eq-eqb, ne-eqb, eqb-true, eqb-false, lt-ltb, ltb-true, le-leb, leb-true}
+use borrow.Author.Tests.{eq-eqb, ne-eqb, eqb-true, lt-ltb, ltb-true, le-leb, leb-true}
 use lib.Dec.{eqb, leb, ltb}
 use lib.ListN.{length, take, drop, getD, length-append, length-drop, take-append-drop}
 use lib.Seq.{take-at, drop-at, drop-drop, drop-length}
 use Rattle.text.specs.Test.{_and_, if_then_else_}
 use Rattle.text.specs.String.{Str, same, joined}
-use Rattle.text.specs.Frame.{Parsed, got, unread, andThen, Reader, _>>=_, ret, byte, part, string, stringBytes}
-use Rattle.text.proofs.Tests.{by, clash, and-l, and-r, same→≡, ≡→same}
+use Rattle.text.specs.Frame.{got, unread, _>>=_, ret, byte, part, string, stringBytes}
+use Rattle.text.proofs.Tests.{by, and-l, and-r, same→≡, ≡→same}
 use Rattle.text.proofs.Codec.{never-got, then-got, got-move, Took, took-both, took-none, byte-took, string-took, Gives, then-gives, first-byte, byte-gives, string-gives}
 use Rattle.path_text.specs.Text.{escaped}
 use Rattle.path_text.specs.TextReader.{literal, item, value, readText}
@@ -23,7 +23,7 @@ use Rattle.path_text.proofs.Sound.{literal-took, value-took, one-took}
 use Rattle.path_text.proofs.Complete.{literal-gives, value-gives}
 use Rattle.path_text.proofs.RoundTrip.{read-write, write-read}
 use Rattle.table.specs.Frame.{unknown}
-use Rattle.readable.specs.Form.{rest, quoted, shownString, shownPath, shownCode, shownPlain, packedString, packedPath, standsAt, packedCode, packedPlain}
+use Rattle.readable_parts.specs.Parts.{rest, ofRest, quoted, shownString, shownPath, shownCode, shownPlain, packedString, packedPath, standsAt, packedCode, packedPlain}
 use Rattle.readable_laws.proofs.Inverse.{Back, BackLast}
 
 -- ---- strings
@@ -207,14 +207,14 @@ some-long f e (x ∷ b) w i = omega arith
 
 module _ (P : Str → Type 0) where
   pub path-packed : BackLast P packedPath shownPath
-  unfolding packedPath shownPath if_then_else_
+  unfolding packedPath shownPath ofRest if_then_else_
   path-packed s at b t z l e =
       by (ltb at (length s))
       (λ u. rest-back bytesFor textFor read-write s at (bytesFor (drop at s)) b t refl (rw u at e) (λ c i. some-long textFor no-text c (drop at s) i))
       (λ u. never-got refl (rw u at e))
 
   pub path-shown : BackLast P shownPath packedPath
-  unfolding packedPath shownPath if_then_else_
+  unfolding packedPath shownPath ofRest if_then_else_
   path-shown s at b t z l e =
       by (ltb at (length s))
       (λ u. rest-back textFor bytesFor write-read s at (textFor (drop at s)) b t refl (rw u at e) (λ c i. some-long bytesFor no-bytes c (drop at s) i))

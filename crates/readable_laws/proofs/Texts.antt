@@ -1,29 +1,29 @@
 -- `show` and `pack` are each other's inverse: line by line, and for whole texts.
 use mathlib.Core.Path.{_≡_, refl, sym, ap, _∙_}
-use mathlib.Core.Bool.{Bool, true, false}
-use mathlib.Core.List.{List, [], _∷_, _++_, append-assoc, append-nil}
+use mathlib.Core.Bool.{true, false}
+use mathlib.Core.List.{List, [], _∷_, _++_, append-assoc}
 use mathlib.Core.Option.{Option, none, some}
-use Prim.Native.Nat.{ℕ, zero, suc, _+_, _*_, _-_, _/_, _%_, _≤_, _<_}
+use Prim.Native.Nat.{ℕ, suc, _+_, _-_, _/_, _%_, _≤_, _<_}
 use native.Mathlib.Omega.{arith}
-use borrow.Author.Tests.{eq-eqb, ne-eqb, eqb-true, ltb-true, ltb-false, leb-true, le-leb}
+use borrow.Author.Tests.{ne-eqb, eqb-true, ltb-true, ltb-false, leb-true, le-leb}
 use lib.Dec.{eqb, leb, ltb}
 use lib.ListN.{length, take, drop, getD, length-append, take-append-drop}
 use lib.Seq.{drop-cons, drop-length}
-use Rattle.text.specs.Test.{_and_, if_then_else_, all}
+use Rattle.text.specs.Test.{if_then_else_, all}
 use Rattle.text.specs.Byte.{isPrint}
 use Rattle.text.specs.String.{Str, joined}
-use Rattle.text.proofs.Tests.{by, clash, and-l, and-r, and-left}
+use Rattle.text.proofs.Tests.{by, and-l, and-r, and-left}
 use Rattle.line.specs.Lines.{lines, onto, frame}
-use Rattle.table.specs.Refusal.{Line, notHex, unreadable, reads, decoded, lineOf, Earlier, refusal, first, after}
+use Rattle.table.specs.Refusal.{decoded, lineOf, Earlier, refusal, first, after}
 use Rattle.table.specs.Text.{unless, judge, check}
-use Rattle.table.specs.declared.Checked.{Checked}
 use Rattle.table.specs.declared.Checked.the-variants.{Accepted, Refused}
-use Rattle.readable.specs.Form.{hexDigit, hexPair, hexText, printed, shownFrame, packedFrame}
-use Rattle.readable.specs.Lines.{andThen, lined, unlined, shownLine, hexed, packedLine, onward, ending, storing, stored, packedEnd, packedTable}
-use Rattle.readable.specs.declared.Ended.{Ended}
+use Rattle.readable_parts.specs.Parts.{hexDigit, hexPair, hexText}
+use Rattle.readable_lines.specs.Form.{shownFrame, packedFrame}
+use Rattle.readable_lines.specs.Lines.{andThen, lined, unlined, shownLine, hexed, packedLine}
+use Rattle.readable.specs.Texts.{onward, ending, storing, stored, packedEnd, packedTable}
 use Rattle.readable.specs.declared.Ended.the-variants as ended
-use Rattle.readable.proofs.Lining.{unlined-line}
-use Rattle.readable_laws.proofs.HexLines.{Small, frame-text, digit-forth}
+use Rattle.readable_lines.proofs.Lining.{unlined-line}
+use Rattle.readable_laws.proofs.HexLines.{frame-text}
 use Rattle.readable_laws.proofs.Times.{lines-text, snoc-same, hex-line}
 use Rattle.readable_laws.proofs.Frames.{pack-show, show-pack, printed-some}
 

@@ -1,24 +1,24 @@
 -- The time comes back: 8 bytes and 16 digits.
 use mathlib.Core.Path.{_≡_, refl, sym, ap, _∙_}
-use mathlib.Core.Bool.{Bool, true, false, cond}
-use mathlib.Core.List.{List, [], _∷_, _++_, append-assoc, append-nil}
+use mathlib.Core.Bool.{Bool, true, false}
+use mathlib.Core.List.{List, [], _∷_, _++_, append-nil}
 use mathlib.Core.Option.{Option, none, some}
-use Prim.Native.Nat.{ℕ, zero, suc, _+_, _*_, _-_, _/_, _%_, _≤_, _<_}
+use Prim.Native.Nat.{ℕ, zero, suc, _+_, _-_, _/_, _%_}
 use native.Mathlib.Omega.{arith}
-use borrow.Author.Tests.{eq-eqb, ne-eqb, eqb-true, ltb-true, ltb-false}
+use borrow.Author.Tests.{eq-eqb, ne-eqb, eqb-true}
 use lib.Dec.{eqb, ltb}
 use lib.ListN.{length, take, drop, length-append, length-drop}
 use lib.Seq.{take-at, drop-length}
 use Rattle.text.specs.Test.{if_then_else_}
 use Rattle.text.specs.String.{Str, joined}
-use Rattle.text.specs.Frame.{Parsed, got, unread}
+use Rattle.text.specs.Frame.{got}
 use Rattle.text.proofs.Tests.{by}
 use Rattle.text.proofs.Codec.{never-got, got-move, Took, Gives}
 use Rattle.line.specs.Lines.{lines, onto, frame}
-use Rattle.readable.specs.Form.{rest, alone, hexDigit, hexPair, hexText, shownTime, packedTime}
-use Rattle.readable.proofs.Digits.{hex-length}
-use Rattle.readable_laws.proofs.HexLines.{Small, none-left, and-more, frame-text, text-frame}
-use Rattle.readable_laws.proofs.Inverse.{Back, BackLast}
+use Rattle.readable_parts.specs.Parts.{rest, alone, hexDigit, hexPair, hexText, shownTime, packedTime}
+use Rattle.readable_parts.proofs.Digits.{hex-length}
+use Rattle.readable_laws.proofs.HexLines.{Small, and-more, frame-text, text-frame}
+use Rattle.readable_laws.proofs.Inverse.{BackLast}
 use Rattle.readable_laws.proofs.Return.{all-took}
 
 -- ---- lines

@@ -2,12 +2,12 @@
 use borrow.Author.Needs.{needs}
 use native.Mathlib.Omega.{arith}
 use mathlib.Core.Path.{_≡_, sym}
-use Prim.Native.Nat.{_-_, _≤_}
+use Prim.Native.Nat.{_-_}
 use lib.ListN.{length, length-take}
 use lib.Seq.{length-take-le}
-use Rattle.readable.specs.Lines.{lineBy}
-use Rattle.readable.proofs.Stored.{laid-to, laid-not}
-use Rattle.readable.proofs.Lining.{Laying, laying-start, laying-long, laying-stop, laying-full, laying-turn, laying-done}
+use Rattle.readable_lines.specs.Lines.{lineBy}
+use Rattle.readable_lines.proofs.Stored.{laid-to, laid-not}
+use Rattle.readable.proofs.Laying.{Laying, laying-start, laying-long, laying-stop, laying-full, laying-turn, laying-done}
 use Rattle.readable.proofs.convert_lines.Statement.{statement}
 use Rattle.readable.proofs.convert_lines.Tie as tie
 

@@ -1,0 +1,80 @@
+-- Whole texts: each line goes over to one line; and what the two calls answer and leave in the lent buffer.
+use Prim.Native.Nat.{ℕ, _+_, _-_}
+use mathlib.Core.List.{List, [], _∷_, _++_}
+use mathlib.Core.Option.{Option, none, some}
+use lib.Dec.{leb}
+use lib.ListN.{length}
+use Rattle.text.specs.Test.{if_then_else_}
+use Rattle.text.specs.String.{Str}
+use Rattle.text.specs.Fill.{put}
+use Rattle.line.specs.Lines.{lines}
+use Rattle.table.specs.Text.{check}
+use Rattle.table.specs.declared.Checked.{Checked}
+use Rattle.table.specs.declared.Checked.the-variants as checked
+use Rattle.readable_lines.specs.Lines.{shownLine, packedLine}
+use Rattle.readable.specs.declared.Converted.{Converted}
+use Rattle.readable.specs.declared.Converted.the-variants.{Length, Refused, Unread, NoRoom}
+use Rattle.readable.specs.declared.Ended.{Ended}
+use Rattle.readable.specs.declared.Ended.the-variants as ended
+
+-- ---- line after line by g, into a buffer with so much room; n is the number of the next line, and `at` where it is to be stored
+
+unfoldable pub onward : ℕ → ℕ → ℕ → Option Str → (ℕ → Ended) → Ended
+onward room n at none k = ended.Unread n
+onward room n at (some w) k = if leb (length w) (room - at) then k (at + length w) else ended.Full
+
+-- all lines went over, to so many bytes; or the number of the first that does not; or there is no room for it
+unfoldable pub ending : (Str → Option Str) → ℕ → ℕ → ℕ → List Str → Ended
+ending g room n at [] = ended.All at
+ending g room n at (l ∷ ls) = onward room n at (g l) (λ to. ending g room (n + 1) to ls)
+
+unfoldable pub storing : ℕ → ℕ → Option Str → (ℕ → Str) → Str
+storing room at none k = []
+storing room at (some w) k = if leb (length w) (room - at) then w ++ k (at + length w) else []
+
+-- what was stored before that
+unfoldable pub stored : (Str → Option Str) → ℕ → ℕ → List Str → Str
+stored g room at [] = []
+stored g room at (l ∷ ls) = storing room at (g l) (λ to. stored g room to ls)
+
+-- ---- the calls
+
+unfoldable pub shownAs : Ended → Converted
+shownAs (ended.All n) = Length n
+shownAs (ended.Unread l) = Unread l
+shownAs ended.Full = NoRoom
+
+-- the table's refusal; or its readable text, line by line, as far as there is room
+unfoldable pub showAnswer : Checked → Str → List ℕ → Converted
+showAnswer (checked.Refused n l) text out = Refused n l
+showAnswer checked.Accepted text out = shownAs (ending shownLine (length out) 1 0 (lines text))
+
+unfoldable pub showLent : Checked → Str → List ℕ → List ℕ
+showLent (checked.Refused n l) text out = out
+showLent checked.Accepted text out = put out 0 (stored shownLine (length out) 0 (lines text))
+
+-- the refusal of the table that was made; or that table, where there is room
+unfoldable pub madeAnswer : Checked → Str → List ℕ → Converted
+madeAnswer (checked.Refused n l) table out = Refused n l
+madeAnswer checked.Accepted table out = if leb (length table) (length out) then Length (length table) else NoRoom
+
+unfoldable pub madeLent : Checked → Str → List ℕ → List ℕ
+madeLent (checked.Refused n l) table out = out
+madeLent checked.Accepted table out = if leb (length table) (length out) then put out 0 table else out
+
+-- the number of the first line that is not of the readable form; 1 for "table text over 32,768 bytes (line 0)"
+unfoldable pub packAnswer : Ended → Str → List ℕ → Converted
+packAnswer (ended.All n) table out = madeAnswer (check table) table out
+packAnswer (ended.Unread l) table out = Unread l
+packAnswer ended.Full table out = Refused 1 0
+
+unfoldable pub packLent : Ended → Str → List ℕ → List ℕ
+packLent (ended.All n) table out = madeLent (check table) table out
+packLent (ended.Unread l) table out = out
+packLent ended.Full table out = out
+
+unfoldable pub packedEnd : Str → Ended
+packedEnd text = ending packedLine 32768 1 0 (lines text)
+
+unfoldable pub packedTable : Str → Str
+packedTable text = stored packedLine 32768 0 (lines text)

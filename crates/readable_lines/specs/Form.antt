@@ -1,0 +1,56 @@
+-- The readable form of a frame, and the frame of a readable line: one description of each kind of line, read in both directions.
+use Prim.Native.Nat.{ℕ}
+use mathlib.Core.List.{[], _∷_, _++_}
+use mathlib.Core.Option.{Option, none, some}
+use lib.Dec.{eqb}
+use lib.ListN.{getD}
+use Rattle.text.specs.Test.{if_then_else_, all}
+use Rattle.text.specs.Byte.{isPrint}
+use Rattle.text.specs.String.{Str, bytes}
+use Rattle.text.specs.Frame.{Reader, _>>=_, ret}
+use Rattle.table.specs.Frame.{unknown, whole}
+use Rattle.readable_parts.specs.Parts.{Parts, partOf, shown, packed}
+
+-- one part after another
+unfoldable pub parts : Parts → Str → Reader Str
+parts p [] = ret []
+parts p (c ∷ cs) = do
+  w ← partOf p c
+  v ← parts p cs
+  ret (w ++ v)
+
+-- the parts of each kind of frame, in order, after its kind byte
+unfoldable pub formBy : Parts → ℕ → Reader Str
+formBy p k =
+    if eqb k 1 then parts p (bytes "version S time T")
+    else if eqb k 2 then parts p (bytes "group S")
+    else if eqb k 3 then parts p (bytes "member S S")
+    else if eqb k 4 then parts p (bytes "rule A M K S id S origin S P")
+    else unknown
+
+-- ---- from a frame
+
+-- only text in the bytes of our strings, so in one line
+unfoldable pub printed : Option Str → Option Str
+printed none = none
+printed (some w) = if all isPrint w then some w else none
+
+-- the readable form of a frame, without its LF
+unfoldable pub shownFrame : Str → Option Str
+shownFrame f = printed (whole f (formBy shown (getD f 0 0) f 1))
+
+-- ---- and back
+
+-- the kind of a line, by its first letter
+unfoldable pub kindBy : ℕ → ℕ
+kindBy b = if eqb b 118 then 1 else if eqb b 103 then 2 else if eqb b 109 then 3 else if eqb b 114 then 4 else 0
+
+-- after the kind byte
+unfoldable pub headed : ℕ → Option Str → Option Str
+headed k none = none
+headed k (some f) = some (k ∷ f)
+
+-- the frame of a readable line, given without its LF
+unfoldable pub packedFrame : Str → Option Str
+packedFrame s =
+    if all isPrint s then headed (kindBy (getD s 0 0)) (whole s (formBy packed (kindBy (getD s 0 0)) s 0)) else none

@@ -1,0 +1,40 @@
+-- A line of the table, and its readable line.
+use Prim.Native.Nat.{_-_}
+use mathlib.Core.Bool.{Bool}
+use mathlib.Core.List.{[], _∷_, _++_}
+use mathlib.Core.Option.{Option, none, some}
+use lib.Dec.{eqb}
+use lib.ListN.{length, take, getD}
+use Rattle.text.specs.Test.{if_then_else_}
+use Rattle.text.specs.String.{Str}
+use Rattle.line.specs.Lines.{frame}
+use Rattle.readable_parts.specs.Parts.{hexText}
+use Rattle.readable_lines.specs.Form.{shownFrame, packedFrame}
+
+unfoldable pub andThen : Option Str → (Str → Option Str) → Option Str
+andThen none k = none
+andThen (some a) k = k a
+
+-- with its LF
+unfoldable pub lined : Option Str → Option Str
+lined none = none
+lined (some w) = some (w ++ (10 ∷ []))
+
+-- without its LF
+unfoldable pub unlined : Str → Option Str
+unlined l = if eqb (getD l (length l - 1) 0) 10 then some (take (length l - 1) l) else none
+
+-- a line of the table to its readable line
+unfoldable pub shownLine : Str → Option Str
+shownLine l = lined (andThen (frame l) shownFrame)
+
+unfoldable pub hexed : Option Str → Option Str
+hexed none = none
+hexed (some f) = some (hexText f)
+
+-- and back
+unfoldable pub packedLine : Str → Option Str
+packedLine l = lined (hexed (andThen (unlined l) packedFrame))
+
+unfoldable pub lineBy : Bool → (Str → Option Str)
+lineBy packing = if packing then packedLine else shownLine

@@ -1,0 +1,34 @@
+-- The answers of the programs that go over line by line, said of what is read there.
+use Prim.Native.Nat.{ℕ, _+_, _≤_, _<_}
+use mathlib.Core.Path.{_≡_}
+use mathlib.Core.Bool.{Bool}
+use mathlib.Core.List.{List, [], _∷_}
+use mathlib.Core.Option.{Option, none, some}
+use lib.ListN.{length, drop}
+use Rattle.text.specs.Test.{if_then_else_}
+use Rattle.text.specs.String.{Str}
+use Rattle.text.specs.Fill.{Wrote}
+use Rattle.line.specs.Lines.{lines}
+use Rattle.path_text.specs.declared.reader.Stored.{Stored}
+use Rattle.path_text.specs.declared.reader.Stored.the-variants as stored
+use Rattle.readable_parts.specs.Parts.{Parts, shown, packed}
+use Rattle.readable_parts.specs.Steps.{longest}
+
+unfoldable pub partsBy : Bool → Parts
+partsBy packing = if packing then packed else shown
+
+-- the longest that such parts can be
+unfoldable pub roomFor : Str → ℕ
+roomFor [] = 0
+roomFor (c ∷ cs) = longest c + roomFor cs
+
+-- what there is, at most 14,001 bytes, fills the start of d, and nothing else does; where there is nothing, nothing is said of d
+pub data Fills : Option Str → List ℕ → List ℕ → Stored → Type 0 where
+  fills : {w : Str} {d d′ : List ℕ} {next end : ℕ} → Wrote d 0 w d′ end → end ≤ 14001 → Fills (some w) d d′ (stored.To next end)
+  nothing : {d d′ : List ℕ} → Fills none d d′ stored.Unread
+
+-- the line of the text that starts at `from` goes over to the start of d; the next one starts at `next`
+pub data Lays (g : Str → Option Str) (text : Str) (from : ℕ) : List ℕ → List ℕ → Stored → Type 0 where
+  lays : {l w : Str} {d d′ : List ℕ} {next end : ℕ} → lines (drop from text) ≡ l ∷ lines (drop next text) → g l ≡ some w → Wrote d 0 w d′ end
+      → end ≤ length d → from < next → next ≤ length text → Lays g text from d d′ (stored.To next end)
+  fails : {l : Str} {ls : List Str} {d d′ : List ℕ} → lines (drop from text) ≡ l ∷ ls → g l ≡ none → Lays g text from d d′ stored.Unread

@@ -1,0 +1,65 @@
+// A line of the table to its readable line, and back.
+ghost use mathlib.Core.Path.{_≡_};
+ghost use mathlib.Core.Bool.{false};
+ghost use Prim.Native.Nat.{_≤_, _<_};
+ghost use lib.ListN.{length};
+ghost use Rattle.readable_lines.specs.Lines.{shownLine, packedLine, lineBy};
+ghost use Rattle.readable_lines.specs.Steps.{Lays};
+use line::Line;
+use path_text::reader::Stored;
+
+pub mod form;
+
+// The readable line of the table's line that starts at `from`.
+fn show_line(text: &[u8], from: usize, out: &mut [u8]) -> Stored
+    requires { ⌜ (from < length (now text)) × (length (now text) ≤ 32768) × (32769 ≤ length (now out)) ⌝ }
+    ensures { λ r. ⌜ Lays shownLine (now (text .entry)) from (now (out .entry)) (now (out .exit)) r ⌝ }
+{
+    let mut frame = [0u8; 16384];
+    let l = line::read_line(text, from, &mut frame, 0);
+    let Line::Frame { len, next } = l else {
+        return Stored::Unread;
+    };
+    let s = crate::form::show_frame(&frame[..len], out);
+    let Stored::To { next: _, end } = s else {
+        return Stored::Unread;
+    };
+    out[end] = 10;
+    Stored::To {
+        next: next,
+        end: end + 1,
+    }
+}
+
+// The table's line of the readable line that starts at `from`.
+fn pack_line(text: &[u8], from: usize, out: &mut [u8]) -> Stored
+    requires { ⌜ (from < length (now text)) × (32769 ≤ length (now out)) ⌝ }
+    ensures { λ r. ⌜ Lays packedLine (now (text .entry)) from (now (out .entry)) (now (out .exit)) r ⌝ }
+{
+    let stop = path_text::reader::find(text, from, 10, 10);
+    if text.len() <= stop {
+        return Stored::Unread;
+    }
+    let mut frame = [0u8; 16384];
+    let s = crate::form::pack_frame(&text[from..stop], &mut frame);
+    let Stored::To { next: _, end } = s else {
+        return Stored::Unread;
+    };
+    let close = readable_parts::hex::write_hex(&frame[..end], out, 0);
+    out[close] = 10;
+    Stored::To {
+        next: stop + 1,
+        end: close + 1,
+    }
+}
+
+// Either of the two.
+pub fn convert_line(packing: bool, text: &[u8], from: usize, out: &mut [u8]) -> Stored
+    requires { ⌜ (from < length (now text)) × (packing ≡ false → length (now text) ≤ 32768) × (32769 ≤ length (now out)) ⌝ }
+    ensures { λ r. ⌜ Lays (lineBy packing) (now (text .entry)) from (now (out .entry)) (now (out .exit)) r ⌝ }
+{
+    if packing {
+        return pack_line(text, from, out);
+    }
+    show_line(text, from, out)
+}

@@ -1,0 +1,5 @@
+pub mod Stored
+pub mod Rest
+pub mod Digits
+pub mod Showing
+pub mod Packing

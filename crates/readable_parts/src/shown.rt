@@ -1,0 +1,116 @@
+// The parts of a frame, as text.
+ghost use Prim.Native.Nat.{_+_, _≤_};
+ghost use lib.ListN.{length};
+ghost use Rattle.readable_parts.specs.Parts.{shown, partOf, shownString, shownTime, shownPath, shownCode};
+ghost use Rattle.readable_parts.specs.Steps.{Puts, longest};
+use path_text::Filled;
+use path_text::reader::Stored;
+use text::frame::End;
+
+fn string(f: &[u8], at: usize, out: &mut [u8], to: usize) -> Stored
+    requires { ⌜ to + 130 ≤ length (now out) ⌝ }
+    ensures { λ r. ⌜ Puts 130 shownString (now (f .entry)) at (now (out .entry)) to (now (out .exit)) r ⌝ }
+{
+    let e = text::frame::string_end(f, at);
+    let End::At(end) = e else {
+        return Stored::Unread;
+    };
+    let start = at + 1;
+    let s = &f[start..end];
+    if 64 < s.len() {
+        return Stored::Unread;
+    }
+    out[to] = 91;
+    let close = path_text::writer::write_value(s, out, to + 1);
+    out[close] = 93;
+    Stored::To {
+        next: end,
+        end: close + 1,
+    }
+}
+
+fn time(f: &[u8], at: usize, out: &mut [u8], to: usize) -> Stored
+    requires { ⌜ (to + 16 ≤ length (now out)) × (at ≤ length (now f)) ⌝ }
+    ensures { λ r. ⌜ Puts 16 shownTime (now (f .entry)) at (now (out .entry)) to (now (out .exit)) r ⌝ }
+{
+    if f.len() - at != 8 {
+        return Stored::Unread;
+    }
+    let end = crate::hex::write_hex(&f[at..], out, to);
+    Stored::To {
+        next: f.len(),
+        end: end,
+    }
+}
+
+fn path(f: &[u8], at: usize, out: &mut [u8], to: usize) -> Stored
+    requires { ⌜ to + 13520 ≤ length (now out) ⌝ }
+    ensures { λ r. ⌜ Puts 13520 shownPath (now (f .entry)) at (now (out .entry)) to (now (out .exit)) r ⌝ }
+{
+    if f.len() <= at {
+        return Stored::Unread;
+    }
+    let w = path_text::writer::write_text(&f[at..], &mut out[to..]);
+    let Filled::Length(n) = w else {
+        return Stored::Unread;
+    };
+    Stored::To {
+        next: f.len(),
+        end: to + n,
+    }
+}
+
+// The code byte n as the word a, the next one as b.
+fn code(f: &[u8], at: usize, n: u8, a: &[u8], b: &[u8], out: &mut [u8], to: usize) -> Stored
+    requires { ⌜ (to + 6 ≤ length (now out)) × (length (now a) ≤ 6) × (length (now b) ≤ 6) × (n ≤ 1) ⌝ }
+    ensures { λ r. ⌜ Puts 6 (shownCode n (now (a .entry)) (now (b .entry))) (now (f .entry)) at (now (out .entry)) to (now (out .exit)) r ⌝ }
+{
+    if f.len() <= at {
+        return Stored::Unread;
+    }
+    let c = f[at];
+    if c == n {
+        text::fill::copy(a, out, to);
+        return Stored::To {
+            next: at + 1,
+            end: to + a.len(),
+        };
+    }
+    if c == n + 1 {
+        text::fill::copy(b, out, to);
+        return Stored::To {
+            next: at + 1,
+            end: to + b.len(),
+        };
+    }
+    Stored::Unread
+}
+
+pub fn part(c: u8, f: &[u8], at: usize, out: &mut [u8], to: usize) -> Stored
+    requires { ⌜ (to + longest c ≤ length (now out)) × (at ≤ length (now f)) ⌝ }
+    ensures { λ r. ⌜ Puts (longest c) (partOf shown c) (now (f .entry)) at (now (out .entry)) to (now (out .exit)) r ⌝ }
+{
+    if c == b'S' {
+        return string(f, at, out, to);
+    }
+    if c == b'T' {
+        return time(f, at, out, to);
+    }
+    if c == b'P' {
+        return path(f, at, out, to);
+    }
+    if c == b'A' {
+        return code(f, at, 0, b"deny", b"permit", out, to);
+    }
+    if c == b'M' {
+        return code(f, at, 1, b"read", b"write", out, to);
+    }
+    if c == b'K' {
+        return code(f, at, 0, b"user", b"group", out, to);
+    }
+    out[to] = c;
+    Stored::To {
+        next: at,
+        end: to + 1,
+    }
+}
