@@ -1,13 +1,14 @@
 -- `join_line` stores what its definition says.
 use borrow.Author.Needs.{needs}
 use native.Mathlib.Omega.{arith}
-use mathlib.Core.Path.{sym, _∙_}
+use mathlib.Core.Path.{refl, sym, _∙_}
 use borrow.Author.Tests.{not-true, not-false}
-use denote.Ref.{now}
 use lib.ListN.{length-set}
-use Rattle.rpc.proofs.Lines.{line-there, line-passed, line-added, line-kept, tail-long}
-use Rattle.rpc.proofs.headers.join_line.Statement.{statement}
-use Rattle.rpc.proofs.headers.join_line.Tie as tie
+use denote.Ref.{now}
+use Rattle.rpc.proofs.Lines.{line-there, tail-long}
+use Rattle.rpc.proofs.Values.{line-passed, line-kept, line-added}
+use Rattle.rpc.proofs.index.join_line.Statement.{statement}
+use Rattle.rpc.proofs.index.join_line.Tie as tie
 
 byte-from-requires : tie.Need-byte-from-requires
 byte-from-requires c κs = search needs
@@ -35,14 +36,14 @@ returns c =
 add-from : tie.Need-add-from
 add-from c = search needs
 
-add-at : tie.Need-add-at
-add-at c = search needs
-
-slice-write-out : tie.Need-slice-write-out
-slice-write-out c =
+sub-start : tie.Need-sub-start
+sub-start c =
     let at-byte-from = c .before .before .before .byte-from in
     let at-start = c .before .before .before .before .before .before .before in
-    omega (arith, line-there _ _ (at-byte-from .ensures) (at-start .pre .0), at-start .pre .1)
+    omega (arith, line-there _ _ (at-byte-from .ensures) (at-start .pre .0))
+
+sub-start-2 : tie.Need-sub-start-2
+sub-start-2 c = search needs
 
 sub-copy : tie.Need-sub-copy
 sub-copy c =
@@ -63,23 +64,27 @@ copy-requires : tie.Need-copy-requires
 copy-requires c κs =
     let at-byte-from = c .before .before .before .before .before .byte-from in
     let at-start = c .before .before .before .before .before .before .before .before .before in
-    simp length-set (omega (arith, tail-long _ _ (at-byte-from .ensures) (at-start .pre .0), at-start .pre .1))
+    omega (arith, line-there _ _ (at-byte-from .ensures) (at-start .pre .0), tail-long _ _ (at-byte-from .ensures) (at-start .pre .0), at-start .pre .1, at-start .pre .2)
 
-sub-result : tie.Need-sub-result
-sub-result c =
+sub-comma : tie.Need-sub-comma
+sub-comma c =
     let at-byte-from = c .before .before .before .before .before .before .before .before .byte-from in
     let at-start = c .before .before .before .before .before .before .before .before .before .before .before .before in
-    omega (arith, line-there _ _ (at-byte-from .ensures) (at-start .pre .0))
+    omega (arith, line-there _ _ (at-byte-from .ensures) (at-start .pre .0), at-start .pre .1)
 
-add-result : tie.Need-add-result
-add-result c = search needs
+slice-write-out : tie.Need-slice-write-out
+slice-write-out c =
+    let at-copy = c .before .before .copy in
+    let at-byte-from = c .before .before .before .before .before .before .before .before .byte-from in
+    let at-start = c .before .before .before .before .before .before .before .before .before .before .before .before in
+    omega (arith, line-there _ _ (at-byte-from .ensures) (at-start .pre .0), line-kept _ _ (at-byte-from .ensures) (at-start .pre .0) (now (at-start .args .key)) (now (at-start .args .out)) (at-start .args .at) _ _ _ refl refl refl (at-start .pre .1) (at-start .pre .2) _ (at-copy .ensures), at-start .pre .1, at-start .pre .2)
 
 same-length : tie.Need-same-length
 same-length c =
     let at-copy = c .before .before .copy in
     let at-byte-from = c .before .before .before .before .before .before .before .before .byte-from in
     let at-start = c .before .before .before .before .before .before .before .before .before .before .before .before in
-    line-kept _ _ (at-byte-from .ensures) (at-start .pre .0) (now (at-start .args .out)) _ (at-start .args .len) (at-start .pre .1) (at-copy .ensures)
+    simp length-set (line-kept _ _ (at-byte-from .ensures) (at-start .pre .0) (now (at-start .args .key)) (now (at-start .args .out)) (at-start .args .at) _ _ _ refl refl refl (at-start .pre .1) (at-start .pre .2) _ (at-copy .ensures))
 
 returns-2 : tie.Need-returns-2
 returns-2 c =
@@ -88,7 +93,7 @@ returns-2 c =
     let at-is-same = c .before .before .before .before .before .before .is-same in
     let at-byte-from = c .before .before .before .before .before .before .before .before .byte-from in
     let at-start = c .before .before .before .before .before .before .before .before .before .before .before .before in
-    line-added _ _ (at-byte-from .ensures) (at-start .pre .0) _ _ _ _ (sym (at-is-same .ensures) ∙ not-false _ (at-if1 .left)) (at-start .pre .1) (at-copy .ensures)
+    line-added _ _ (at-byte-from .ensures) (at-start .pre .0) _ _ _ _ _ _ refl refl refl (at-start .pre .1) (at-start .pre .2) _ (at-copy .ensures) (sym (at-is-same .ensures) ∙ not-false _ (at-if1 .left))
 
 pub join-line-spec : {M : Type 1} → statement M
 join-line-spec =
@@ -101,13 +106,13 @@ join-line-spec =
     is-same-requires
     returns
     add-from
-    add-at
-    slice-write-out
+    sub-start
+    sub-start-2
     sub-copy
     part-copy-start
     part-copy-end
     copy-requires
-    sub-result
-    add-result
+    sub-comma
+    slice-write-out
     same-length
     returns-2)
