@@ -371,7 +371,7 @@ module _ (f : Str) (m : Small f) where
       (λ u₄. never-got refl (rw (u₁, u₂, u₃, u₄) at h)))))
 
   -- after the kind byte
-  kind-told : (e : Entry) → entryOf f ≡ some e → body (getD f 0 0) f 1 ≡ got e (length f)
+  pub kind-told : (e : Entry) → entryOf f ≡ some e → body (getD f 0 0) f 1 ≡ got e (length f)
   unfolding entryOf entry _>>=_
   kind-told e h =
       let w = whole-some f _ e h in
@@ -385,12 +385,12 @@ module _ (f : Str) (m : Small f) where
 
 -- ---- each line
 
-entry-told : (b : Earlier) (o : Option Entry) → refusal b (framed o) ≡ 255 → (e : Entry) × (o ≡ some e) × (refusal b (reads e) ≡ 255)
+pub entry-told : (b : Earlier) (o : Option Entry) → refusal b (framed o) ≡ 255 → (e : Entry) × (o ≡ some e) × (refusal b (reads e) ≡ 255)
 unfolding framed refusal
 entry-told b none h = let z : _≡_ {A = ℕ} 3 255 = h in absurd (omega arith)
 entry-told b (some e) h = (e, refl, h)
 
-frame-told : (b : Earlier) (o : Option Str) → refusal b (decoded o) ≡ 255 → (f : Str) × (o ≡ some f) × (refusal b (framed (entryOf f)) ≡ 255)
+pub frame-told : (b : Earlier) (o : Option Str) → refusal b (decoded o) ≡ 255 → (f : Str) × (o ≡ some f) × (refusal b (framed (entryOf f)) ≡ 255)
 unfolding decoded refusal
 frame-told b none h = let z : _≡_ {A = ℕ} 2 255 = h in absurd (omega arith)
 frame-told b (some f) h = (f, refl, h)
@@ -399,7 +399,7 @@ shown-line : (l f s : Str) → frame l ≡ some f → shownFrame f ≡ some s �
 unfolding shownLine readable.andThen lined
 shown-line l f s e i = rw (e, i)
 
-line-shows : (b : Earlier) (l : Str) → refusal b (lineOf l) ≡ 255 → (r : Str) × (shownLine l ≡ some r)
+pub line-shows : (b : Earlier) (l : Str) → refusal b (lineOf l) ≡ 255 → (r : Str) × (shownLine l ≡ some r)
 unfolding lineOf
 line-shows b l h =
     let a = frame-told b (frame l) h in

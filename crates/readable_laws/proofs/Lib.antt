@@ -5,5 +5,6 @@ pub mod Times
 pub mod Frames
 pub mod Texts
 pub mod Accepted
+pub mod Longest
 pub mod Promise
 pub mod Examples

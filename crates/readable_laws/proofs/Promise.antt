@@ -23,6 +23,7 @@ use Rattle.readable_parts.proofs.Stored.{front}
 use Rattle.readable.proofs.Calling.{accepted-short, stored-length}
 use Rattle.readable_laws.proofs.Texts.{show-then-pack, pack-then-show}
 use Rattle.readable_laws.proofs.Accepted.{accepted-shows}
+use Rattle.readable_laws.proofs.Longest.{accepted-fits}
 
 -- what an answer of `show` tells
 shown-told : (c : Checked) (t : Str) (out : List ℕ) (n : ℕ) → showAnswer c t out ≡ Length n → (c ≡ checked.Accepted) × (ending shownLine (length out) 1 0 (lines t) ≡ ended.All n)
@@ -81,12 +82,12 @@ text-returns s out out′ n e h t i =
     let q : stored shownLine (length out′) 0 (lines t) ≡ s = ap (λ (z : Str). stored shownLine (length out′) 0 (lines z)) y ∙ r .1 in
     (rw (c, p), rw (c, q))
 
--- an accepted table is shown, unless there is no room for it
-pub accepted-answer : (t : Str) (out : List ℕ) → check t ≡ checked.Accepted → (showAnswer (check t) t out ≡ NoRoom → ⊥) → (n : ℕ) × (showAnswer (check t) t out ≡ Length n)
+-- an accepted table is shown wherever there is room for 43,532 bytes
+pub accepted-answer : (t : Str) (out : List ℕ) → check t ≡ checked.Accepted → 43532 ≤ length out → (n : ℕ) × (showAnswer (check t) t out ≡ Length n)
 unfolding showAnswer
 accepted-answer t out c h = go (ending shownLine (length out) 1 0 (lines t)) refl
   where
     go : (x : Ended) → ending shownLine (length out) 1 0 (lines t) ≡ x → (n : ℕ) × (showAnswer (check t) t out ≡ Length n)
     go (ended.All n) e = (n, (unfold shownAs in rw (c, e)))
     go (ended.Unread l) e = absurd (accepted-shows t c (length out) l e)
-    go ended.Full e = absurd (h (unfold shownAs in rw (c, e)))
+    go ended.Full e = absurd (accepted-fits t c (length out) h e)

@@ -29,12 +29,12 @@ use Rattle.readable_laws.proofs.Frames.{pack-show, show-pack, printed-s
 
 -- ---- options
 
-lined-some : (o : Option Str) (r : Str) → lined o ≡ some r → (s : Str) × (o ≡ some s) × (r ≡ s ++ (10 ∷ []))
+pub lined-some : (o : Option Str) (r : Str) → lined o ≡ some r → (s : Str) × (o ≡ some s) × (r ≡ s ++ (10 ∷ []))
 unfolding lined
 lined-some none r e = let z : _≡_ {A = ℕ} 0 1 = cc in absurd (omega arith)
 lined-some (some s) r e = let i : r ≡ s ++ (10 ∷ []) = cc in (s, refl, i)
 
-then-some : (o : Option Str) (k : Str → Option Str) (r : Str) → andThen o k ≡ some r → (a : Str) × (o ≡ some a) × (k a ≡ some r)
+pub then-some : (o : Option Str) (k : Str → Option Str) (r : Str) → andThen o k ≡ some r → (a : Str) × (o ≡ some a) × (k a ≡ some r)
 unfolding andThen
 then-some none k r e = let z : _≡_ {A = ℕ} 0 1 = cc in absurd (omega arith)
 then-some (some a) k r e = (a, refl, e)
@@ -78,10 +78,10 @@ shown-first l r more e =
     let p = printed-some _ (a .0) (b .2) in
     rw (a .2, append-assoc (a .0) (10 ∷ []) more) (print-line (a .0) more (p .1))
 
-abbrev joint : List Str → Str
+abbrev pub joint : List Str → Str
 joint ls = joined (λ l. l) ls
 
-joint-cons : (l : Str) (ls : List Str) → joint (l ∷ ls) ≡ l ++ joint ls
+pub joint-cons : (l : Str) (ls : List Str) → joint (l ∷ ls) ≡ l ++ joint ls
 unfolding joined
 joint-cons l ls = refl
 
