@@ -5,5 +5,6 @@ pub mod RoundTrip
 pub mod Longest
 pub mod Storing
 pub mod Reading
+pub mod Judging
 pub mod Writing
 pub mod Answers
