@@ -1,8 +1,8 @@
--- The answers of the two calls, and what they leave in the lent buffer.
+-- The answers of the calls, and what they leave in the lent buffer.
 use mathlib.Core.Path.{_≡_, refl, sym, ap, _∙_}
 use mathlib.Core.Bool.{Bool, true, false}
 use mathlib.Core.List.{List, [], _∷_}
-use mathlib.Core.Option.{Option, none, some, Option·map}
+use mathlib.Core.Option.{Option, none, some}
 use Prim.Native.Nat.{ℕ, _+_, _-_, _/_, _≤_, _<_}
 use native.Mathlib.Omega.{arith}
 use borrow.Author.Tests.{le-leb, lt-leb, eq-eqb, ne-eqb}
@@ -11,22 +11,18 @@ use lib.ListN.{length, take, set}
 use lib.Seq.{take-at}
 use Rattle.text.specs.Test.{_and_, if_then_else_}
 use Rattle.text.specs.String.{Str, bytes, same, joined}
-use Rattle.text.specs.Frame.{Parsed, got, unread}
+use Rattle.text.specs.Frame.{got, unread}
 use Rattle.text.specs.Fill.{put, Wrote}
-use Rattle.text.proofs.Tests.{clash, and-r}
 use Rattle.text.proofs.Filling.{wrote-byte}
 use Rattle.path.specs.Path.{Path}
-use Rattle.path.specs.Bytes.{path, counted, elemBytes, pathBytes}
-use Rattle.path.specs.Spells.{whole, readBytes}
-use Rattle.path.specs.Walk.{isPath, isPathIn}
-use Rattle.path_text.specs.Text.{pathText}
+use Rattle.path.specs.Bytes.{counted, elemBytes, pathBytes}
+use Rattle.path.specs.Spells.{whole}
 use Rattle.path_text.specs.TextReader.{elements, readText}
-use Rattle.path_text.specs.Calls.{bytesFor, textFor, answer, lent}
-use Rattle.path_text.specs.Steps.{isRead, written, goodElements, Room, Stores, Transcribed, filled-up, not-filled}
+use Rattle.path_text.specs.Calls.{bytesFor, answer, lent}
+use Rattle.path_text.specs.Steps.{goodElements, Room, Stores, Transcribed, filled-up, not-filled}
 use Rattle.path_text.specs.declared.Filled.the-variants.{Length, Refused}
 use Rattle.path_text.specs.declared.reader.Stored.{Stored}
 use Rattle.path_text.specs.declared.reader.Stored.the-variants.{To, Unread}
-use Rattle.path_text.proofs.Longest.{text-length, text-twice}
 use Rattle.path_text.proofs.Storing.{stored-to, stored-not, room-end}
 use Rattle.path_text.proofs.Judging.{elements-bad, elements-good}
 
@@ -65,36 +61,6 @@ module _ (out : List ℕ) (o : Option Str) where
     filled h out′ i =
         let l : leb (length s) (length out) ≡ true = le-leb (length s) (length out) (omega (arith, is-length)) in
         (rw (e, l) (ap Length is-length), rw (e, l) (i ∙ ap (put out 0) made-is))
-
--- ---- writing
-
-text-told : (f : Str) (x : Parsed Path) → isPathIn f x ≡ true → (Option·map pathText (whole f x) ≡ some (written pathText x)) × (isRead x ≡ true) × (length (written pathText x) ≤ 13520)
-unfolding isPathIn whole if_then_else_
-text-told f (got p t) h = (rw h, refl, text-length p (and-r _ _ h))
-text-told f unread h = clash h refl
-
-text-none : (f : Str) (x : Parsed Path) → isPathIn f x ≡ false → Option·map pathText (whole f x) ≡ none
-unfolding isPathIn whole if_then_else_
-text-none f (got p t) h = rw h
-text-none f unread h = refl
-
--- b is what is_path answers
-module _ (f : Str) (b : Bool) (i : b ≡ isPath f) where
-  pub text-bad : b ≡ false → textFor f ≡ none
-  unfolding textFor readBytes isPath
-  text-bad e = text-none f (path f 0) (sym i ∙ e)
-
-  pub text-good : b ≡ true → textFor f ≡ some (written pathText (path f 0))
-  unfolding textFor readBytes isPath
-  text-good e = text-told f (path f 0) (sym i ∙ e) .0
-
-  pub text-fits : b ≡ true → (isRead (path f 0) ≡ true) × (length (written pathText (path f 0)) ≤ 13520)
-  unfolding isPath
-  text-fits e = let t = text-told f (path f 0) (sym i ∙ e) in (t .1, t .2)
-
-  -- there is surely room for the text where there is for twice the bytes
-  pub text-room : (d : List ℕ) → b ≡ true → length f ≤ length d / 2 → length (written pathText (path f 0)) ≤ length d
-  text-room d e h = omega (arith, text-twice f (written pathText (path f 0)) (text-good e))
 
 -- ---- reading
 

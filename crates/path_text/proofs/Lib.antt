@@ -6,5 +6,4 @@ pub mod Longest
 pub mod Storing
 pub mod Reading
 pub mod Judging
-pub mod Writing
 pub mod Answers

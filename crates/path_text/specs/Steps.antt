@@ -1,7 +1,7 @@
--- The answers of the programs that read and write path text step by step, said of what is read there.
+-- The answers of the programs that read path text step by step, said of what is read there.
 use Prim.Native.Nat.{ℕ, suc, _+_, _≤_}
 use mathlib.Core.Path.{_≡_}
-use mathlib.Core.Bool.{Bool, true, false, not}
+use mathlib.Core.Bool.{Bool, not}
 use mathlib.Core.List.{List, [], _∷_}
 use mathlib.Core.Option.{Option, none, some}
 use lib.Dec.{eqb}
@@ -84,16 +84,3 @@ pub data Stores {A : Type 0} (most more : ℕ) (w : A → Str) (r : Reader A) (s
 pub data Transcribed : Option Str → List ℕ → List ℕ → Stored → Type 0 where
   filled-up : {f : Str} {d d′ : List ℕ} {next end : ℕ} → end ≡ length f → end ≤ length d → d′ ≡ put d 0 f → Transcribed (some f) d d′ (stored.To next end)
   not-filled : {d d′ : List ℕ} → Transcribed none d d′ stored.Unread
-
--- it reads; what w writes for it; where it ends
-abbrev pub isRead : {A : Type 0} → Parsed A → Bool
-isRead (got a t) = true
-isRead unread = false
-
-abbrev pub written : {A : Type 0} → (A → Str) → Parsed A → Str
-written w (got a t) = w a
-written w unread = []
-
-abbrev pub endAt : {A : Type 0} → Parsed A → ℕ
-endAt (got a t) = t
-endAt unread = 0

@@ -27,7 +27,7 @@ pub fn read(text: &[u8]) {
 
 fn write_bytes(bytes: &[u8]) {
     let mut out = [0u8; 13520];
-    let r = path_text::writer::write_text(bytes, &mut out);
+    let r = path_write::write_text(bytes, &mut out);
     match r {
         Filled::Length(n) => show::line(&out[..within(n, &out)]),
         Filled::Refused(number) => console::refusal::at(number, 0),

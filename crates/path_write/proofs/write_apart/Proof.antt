@@ -1,14 +1,15 @@
 -- `write_apart` answers and leaves what the definitions say: the text is made apart, and copied where it fits.
 use borrow.Author.Needs.{needs}
 use native.Mathlib.Omega.{arith}
-use mathlib.Core.Path.{refl, sym, _∙_}
+use mathlib.Core.Path.{refl, sym}
 use mathlib.Core.Bool.{true}
 use lib.ListN.{length-take, length-replicate}
 use lib.Seq.{length-take-le}
 use Prim.Native.Nat.{ℕ}
-use Rattle.path_text.proofs.Answers.{unfit, filled, text-good, text-fits}
-use Rattle.path_text.proofs.writer.write_apart.Statement.{statement}
-use Rattle.path_text.proofs.writer.write_apart.Tie as tie
+use Rattle.path_text.proofs.Answers.{unfit, filled}
+use Rattle.path_write.proofs.Texts.{text-good, text-fits}
+use Rattle.path_write.proofs.write_apart.Statement.{statement}
+use Rattle.path_write.proofs.write_apart.Tie as tie
 
 slice-aggregate-write-path : tie.Need-slice-aggregate-write-path
 slice-aggregate-write-path c = search needs

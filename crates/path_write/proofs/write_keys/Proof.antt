@@ -7,11 +7,11 @@ use Rattle.text.specs.Frame.{times}
 use Rattle.text.proofs.Frames.{string-ends, times-turn, times-unread, times-done}
 use Rattle.path.specs.Bytes.{key}
 use Rattle.path.proofs.Walks.{key-got, key-nameless, key-valueless}
 use Rattle.path_text.specs.Text.{keyText}
-use Rattle.path_text.specs.Steps.{written, endAt}
-use Rattle.path_text.proofs.Writing.{Writing, writing-start, writing-never, writing-done, writing-room, writing-turn}
-use Rattle.path_text.proofs.writer.write_keys.Statement.{statement}
-use Rattle.path_text.proofs.writer.write_keys.Tie as tie
+use Rattle.path_write.specs.Steps.{written, endAt}
+use Rattle.path_write.proofs.Writing.{Writing, writing-start, writing-never, writing-done, writing-room, writing-turn}
+use Rattle.path_write.proofs.write_keys.Statement.{statement}
+use Rattle.path_write.proofs.write_keys.Tie as tie
 
 abbrev Inv-loop : tie.InvT-loop
 Inv-loop f from count out₀ to p₀ q₀ left₀ out p q left = Writing keyText out₀ to (written (joined keyText) (times count key f from)) (endAt (times count key f from)) (times left key f p) out q

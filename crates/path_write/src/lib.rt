@@ -8,10 +8,10 @@ ghost use Rattle.text.specs.Frame.{times};
 ghost use Rattle.text.specs.Fill.{Wrote};
 ghost use Rattle.path.specs.Bytes.{key, element, path};
 ghost use Rattle.path.specs.Walk.{isPath};
 ghost use Rattle.path_text.specs.Text.{escaped, keyText, elemText, pathText};
 ghost use Rattle.path_text.specs.Calls.{answer, lent, textFor};
-ghost use Rattle.path_text.specs.Steps.{isRead, written, endAt};
-use crate::Filled;
+ghost use Rattle.path_write.specs.Steps.{isRead, written, endAt};
+use path_text::Filled;
 use text::frame::End;
 
 // Where reading goes on in the bytes, and storing in the text.

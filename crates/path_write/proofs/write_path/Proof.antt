@@ -1,9 +1,9 @@
 -- `write_path` stores a / for the root, and otherwise the elements.
 use borrow.Author.Needs.{needs}
 use native.Mathlib.Omega.{arith}
-use Rattle.path_text.proofs.Writing.{path-counted, root-room, root-wrote, more-room, more-wrote}
-use Rattle.path_text.proofs.writer.write_path.Statement.{statement}
-use Rattle.path_text.proofs.writer.write_path.Tie as tie
+use Rattle.path_write.proofs.Writing.{path-counted, root-room, root-wrote, more-room, more-wrote}
+use Rattle.path_write.proofs.write_path.Statement.{statement}
+use Rattle.path_write.proofs.write_path.Tie as tie
 
 returns : tie.Need-returns
 returns c =

@@ -2,9 +2,9 @@
 use borrow.Author.Needs.{needs}
 use native.Mathlib.Omega.{arith}
 use Rattle.text.proofs.Filling.{fill-byte, wrote}
-use Rattle.path_text.proofs.Writing.{key-start, key-room, key-equals, value-fits, key-close, key-end}
-use Rattle.path_text.proofs.writer.write_key.Statement.{statement}
-use Rattle.path_text.proofs.writer.write_key.Tie as tie
+use Rattle.path_write.proofs.Writing.{key-start, key-room, key-equals, value-fits, key-close, key-end}
+use Rattle.path_write.proofs.write_key.Statement.{statement}
+use Rattle.path_write.proofs.write_key.Tie as tie
 
 slice-write-out : tie.Need-slice-write-out
 slice-write-out c =

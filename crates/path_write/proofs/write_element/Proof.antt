@@ -8,9 +8,9 @@ use Rattle.text.specs.Frame.{times}
 use Rattle.text.proofs.Frames.{string-ends}
 use Rattle.text.proofs.Filling.{fill-byte, wrote}
 use Rattle.path.specs.Bytes.{key, element}
-use Rattle.path_text.proofs.Writing.{element-is, element-named, element-counted, elem-read, elem-ends, elem-start, elem-room, keys-room, elem-wrote}
-use Rattle.path_text.proofs.writer.write_element.Statement.{statement}
-use Rattle.path_text.proofs.writer.write_element.Tie as tie
+use Rattle.path_write.proofs.Writing.{element-is, element-named, element-counted, elem-read, elem-ends, elem-start, elem-room, keys-room, elem-wrote}
+use Rattle.path_write.proofs.write_element.Statement.{statement}
+use Rattle.path_write.proofs.write_element.Tie as tie
 
 string-end-requires : tie.Need-string-end-requires
 string-end-requires c κs = search needs

@@ -3,11 +3,11 @@ use borrow.Author.Needs.{needs}
 use Rattle.text.specs.String.{joined}
 use Rattle.text.specs.Frame.{times}
 use Rattle.path.specs.Bytes.{element}
 use Rattle.path_text.specs.Text.{elemText}
-use Rattle.path_text.specs.Steps.{written, endAt}
-use Rattle.path_text.proofs.Writing.{Writing, writing-start, elems-room, elems-turn, elems-done}
-use Rattle.path_text.proofs.writer.write_elements.Statement.{statement}
-use Rattle.path_text.proofs.writer.write_elements.Tie as tie
+use Rattle.path_write.specs.Steps.{written, endAt}
+use Rattle.path_write.proofs.Writing.{Writing, writing-start, elems-room, elems-turn, elems-done}
+use Rattle.path_write.proofs.write_elements.Statement.{statement}
+use Rattle.path_write.proofs.write_elements.Tie as tie
 
 abbrev Inv-loop : tie.InvT-loop
 Inv-loop f from count out₀ to p₀ q₀ left₀ out p q left = Writing elemText out₀ to (written (joined elemText) (times count element f from)) (endAt (times count element f from)) (times left element f p) out q

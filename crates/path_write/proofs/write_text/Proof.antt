@@ -2,9 +2,10 @@
 use borrow.Author.Needs.{needs}
 use borrow.Author.Tests.{not-true, not-false}
 use mathlib.Core.Path.{sym, _∙_}
-use Rattle.path_text.proofs.Answers.{refused, stored-there, text-bad, text-good, text-fits, text-room}
-use Rattle.path_text.proofs.writer.write_text.Statement.{statement}
-use Rattle.path_text.proofs.writer.write_text.Tie as tie
+use Rattle.path_text.proofs.Answers.{refused, stored-there}
+use Rattle.path_write.proofs.Texts.{text-bad, text-good, text-fits, text-room}
+use Rattle.path_write.proofs.write_text.Statement.{statement}
+use Rattle.path_write.proofs.write_text.Tie as tie
 
 is-path-requires : tie.Need-is-path-requires
 is-path-requires c κs = search needs

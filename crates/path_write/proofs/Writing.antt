@@ -1,13 +1,12 @@
 -- One step of each program that writes path text.
 use mathlib.Core.Path.{_≡_, refl, sym, ap, _∙_, subst}
-use mathlib.Core.Bool.{Bool, true, false}
+use mathlib.Core.Bool.{true, false}
 use mathlib.Core.List.{List, [], _∷_, _++_, append-nil}
-use Prim.Native.Nat.{ℕ, zero, suc, _+_, _-_, _≤_, _<_}
+use Prim.Native.Nat.{ℕ, _+_, _-_, _≤_, _<_}
 use native.Mathlib.Numerals.{add-one}
 use native.Mathlib.Omega.{arith}
 use lib.ListN.{length, drop, getD, set, drop-of-length-le}
 use lib.Seq.{drop-cons}
-use Rattle.text.specs.Test.{if_then_else_}
 use Rattle.text.specs.String.{Str, joined}
 use Rattle.text.specs.Frame.{Parsed, got, unread, andThen, _>>=_, ret, part, string, times, endOf}
 use Rattle.text.specs.Fill.{put, Wrote}
@@ -15,12 +14,12 @@ use Rattle.text.specs.declared.frame.End.{End}
 use Rattle.text.specs.declared.frame.End.the-variants.{At, Unread}
 use Rattle.text.proofs.Tests.{clash}
 use Rattle.text.proofs.Frames.{byte-got, byte-unread, string-ends, string-misses, times-turn, times-unread, times-done, times-length}
-use Rattle.text.proofs.Filling.{Pending, fill-start, fill-room, fill-put, fill-set, fill-byte, fill-done, wrote}
+use Rattle.text.proofs.Filling.{Pending, fill-start, fill-room, fill-put, fill-set, wrote}
 use Rattle.path.specs.Path.{Key, Elem, Path}
 use Rattle.path.specs.Bytes.{key, element, path}
 use Rattle.path_text.specs.Text.{isMark, escaped, keyText, elemText, pathText}
-use Rattle.path_text.specs.Steps.{isRead, written, endAt}
+use Rattle.path_write.specs.Steps.{isRead, written, endAt}
 use Rattle.path_text.proofs.Sound.{escaped-plain, escaped-mark}
 
 -- ---- a byte of a value
 

@@ -5,10 +5,10 @@ use Prim.Native.Nat.{_-_, _≤_}
 use lib.ListN.{length, drop}
 use Rattle.text.specs.String.{joined}
 use Rattle.text.proofs.Filling.{Pending, fill-start}
 use Rattle.path_text.specs.Text.{escaped}
-use Rattle.path_text.proofs.Writing.{value-room, value-turn, value-done}
-use Rattle.path_text.proofs.writer.write_value.Statement.{statement}
-use Rattle.path_text.proofs.writer.write_value.Tie as tie
+use Rattle.path_write.proofs.Writing.{value-room, value-turn, value-done}
+use Rattle.path_write.proofs.write_value.Statement.{statement}
+use Rattle.path_write.proofs.write_value.Tie as tie
 
 abbrev Inv-loop : tie.InvT-loop
 Inv-loop v out₀ at p₀ i₀ out p i = (i ≤ length v) × Pending out₀ at (joined escaped v) out p (joined escaped (drop i v))

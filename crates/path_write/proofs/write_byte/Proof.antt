@@ -2,9 +2,9 @@
 use borrow.Author.Needs.{needs}
 use native.Mathlib.Omega.{arith}
 use lib.ListN.{length-set}
-use Rattle.path_text.proofs.Writing.{mark-room, plain-room, mark-wrote, plain-wrote}
-use Rattle.path_text.proofs.writer.write_byte.Statement.{statement}
-use Rattle.path_text.proofs.writer.write_byte.Tie as tie
+use Rattle.path_write.proofs.Writing.{mark-room, plain-room, mark-wrote, plain-wrote}
+use Rattle.path_write.proofs.write_byte.Statement.{statement}
+use Rattle.path_write.proofs.write_byte.Tie as tie
 
 slice-write-out : tie.Need-slice-write-out
 slice-write-out c =
