@@ -69,25 +69,17 @@ fn groups() {
     }
 }
 
-fn judge(command: &[u8], user: &[u8], mode: u32, origin: &[u8], path: &[u8]) {
-    let mut text = io::large_buffer();
-    let got = input::file(2, &mut text);
-    let n = got.count;
-    if !got.is_good {
-        return;
-    }
-    if text::string::is_same(command, b"tree") {
-        tables::tree(&text[..n], user, mode, origin, path);
-        return;
-    }
-    tables::verdict(&text[..n], user, mode, origin, path);
-    if text::string::is_same(command, b"explain") {
-        explanation::rest(&mut text[..n], user, mode, origin, path);
+// Commands are numbered as in `main`.
+fn judge(command: usize, text: &mut [u8], user: &[u8], mode: u32, origin: &[u8], path: &[u8]) {
+    match command {
+        7 => tables::verdict(text, user, mode, origin, path),
+        8 => tables::tree(text, user, mode, origin, path),
+        _ => explanation::all(text, user, mode, origin, path),
     }
 }
 
 // burgee verdict|tree|explain FILE USER read|write ORIGIN PATH
-fn verdict(command: &[u8]) {
+fn verdict(command: usize) {
     let mut user = io::buffer();
     let u = input::word(3, &mut user);
     let mut mode = io::buffer();
@@ -96,13 +88,19 @@ fn verdict(command: &[u8]) {
     let o = input::word(5, &mut origin);
     let mut path = io::large_buffer();
     let p = input::word(6, &mut path);
-    judge(
-        command,
-        &user[..u],
-        input::mode(&mode[..m]),
-        &origin[..o],
-        &path[..p],
-    );
+    let mut text = io::large_buffer();
+    let got = input::file(2, &mut text);
+    let n = got.count;
+    if got.is_good {
+        judge(
+            command,
+            &mut text[..n],
+            &user[..u],
+            input::mode(&mode[..m]),
+            &origin[..o],
+            &path[..p],
+        );
+    }
 }
 
 // burgee path read TEXT
@@ -126,54 +124,63 @@ fn path() {
 }
 
 // burgee rotate STEP RECORD STORE ..
-fn rotate(words: usize) -> bool {
+fn rotate(words: usize) {
     let mut step = io::buffer();
     let s = input::word(2, &mut step);
-    rotation_commands::steps::run(&step[..s], words)
+    if !rotation_commands::steps::run(&step[..s], words) {
+        console::say::misuse(b"rotate");
+    }
 }
 
-// burgee help COMMAND
+// burgee help [COMMAND]
 fn explain_use() {
     let mut word = io::buffer();
     let w = input::word(2, &mut word);
-    help::on(&word[..w]);
+    if !help::on(&word[..w]) {
+        console::say::usage(b"no such command");
+    }
 }
 
-// The command, if it is one and has the arguments that it takes.
-fn run(command: &[u8], words: usize) -> bool {
-    let is_pack = text::string::is_same(command, b"pack");
-    let is_verdict = text::string::is_same(command, b"verdict")
-        | text::string::is_same(command, b"tree")
-        | text::string::is_same(command, b"explain");
-    if text::string::is_same(command, b"table") & (words == 3) {
-        table();
-    } else if (is_pack | text::string::is_same(command, b"show")) & (words == 3) {
-        convert(is_pack);
-    } else if text::string::is_same(command, b"policy") & (words == 3) {
-        policy();
-    } else if text::string::is_same(command, b"groups") & (words == 4) {
-        groups();
-    } else if text::string::is_same(command, b"path") & (words == 4) {
-        path();
-    } else if is_verdict & (words == 7) {
-        verdict(command);
-    } else if text::string::is_same(command, b"rpc") & ((words == 5) | (words == 6)) {
-        rpc(words);
-    } else if text::string::is_same(command, b"rotate") {
-        return rotate(words);
-    } else if text::string::is_same(command, b"help") {
-        explain_use();
-    } else {
-        return false;
+// Whether a command takes that many words; how many a rotation takes, its step says.
+fn takes(command: usize, words: usize) -> bool {
+    match command {
+        1 | 2 | 3 | 4 => words == 3,
+        5 | 6 => words == 4,
+        7 | 8 | 9 => words == 7,
+        10 => (words == 5) | (words == 6),
+        11 => true,
+        _ => words < 4,
     }
-    true
+}
+
+fn run(command: usize, words: usize) {
+    match command {
+        1 => table(),
+        2 => convert(false),
+        3 => convert(true),
+        4 => policy(),
+        5 => groups(),
+        6 => path(),
+        7 | 8 | 9 => verdict(command),
+        10 => rpc(words),
+        11 => rotate(words),
+        _ => explain_use(),
+    }
 }
 
 fn main() {
     let mut word = io::buffer();
     let w = input::word(1, &mut word);
     let n = os::arg_count();
-    if !run(&word[..w], n) {
-        console::say::usage(b"no such command, or not the arguments that it takes");
+    let command = console::lines::place(
+        b"table\nshow\npack\npolicy\ngroups\npath\nverdict\ntree\nexplain\nrpc\nrotate\nhelp\n",
+        &word[..w],
+    );
+    if command == 0 {
+        console::say::usage(b"no such command");
+    } else if takes(command, n) {
+        run(command, n);
+    } else {
+        console::say::misuse(&word[..w]);
     }
 }

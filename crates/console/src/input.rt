@@ -12,6 +12,13 @@ pub fn word(i: usize, buf: &mut [u8]) -> usize
     n
 }
 
+// n, which is no more than buf holds.
+pub fn within(n: usize, buf: &[u8]) -> usize
+    ensures { λ r. ⌜ Counts r (now (buf .entry)) ⌝ }
+{
+    if n <= buf.len() { n } else { buf.len() }
+}
+
 // A descriptor of the file of that name, 0 for `-`; or -1, after a complaint.
 fn open(name: &[u8]) -> i32 {
     if text::string::is_same(name, b"-") {

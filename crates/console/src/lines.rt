@@ -65,3 +65,25 @@ pub fn entry(text: &[u8], key: &[u8]) {
         at = next(text, at);
     }
 }
+
+// Whether the line at `at` is `word`.
+fn is_line(text: &[u8], at: usize, word: &[u8]) -> bool
+    requires { ⌜ at ≤ length (now text) ⌝ }
+{
+    let end = path_text::reader::find(text, at, 10, 10);
+    text::string::is_same(&text[at..end], word)
+}
+
+// The number of the first line that is `word`, counted from 1; 0 where none is.
+pub fn place(text: &[u8], word: &[u8]) -> usize {
+    let mut n = 0;
+    let mut at = 0;
+    while at < text.len() {
+        n += 1;
+        if is_line(text, at, word) {
+            return n;
+        }
+        at = next(text, at);
+    }
+    0
+}

@@ -16,7 +16,7 @@ pub fn all() {
         burgee policy FILE\n\
         burgee rpc FILE IDENTITY PATH [HEADERS-FILE]\n\
         burgee rotate STEP RECORD STORE ..\n\
-        burgee help COMMAND\n\
+        burgee help [COMMAND]\n\
         \n\
         A FILE named - is standard input. Each line of an answer is one fact.\n\
         The exit status is 0 for an answer, 1 for a refusal, 2 for a call that is not understood.\n",
@@ -216,29 +216,27 @@ fn rotate() {
     );
 }
 
-// One command's help, or all of it where there is no such command.
-pub fn on(command: &[u8]) {
-    if text::string::is_same(command, b"table") {
-        table();
-    } else if text::string::is_same(command, b"show") | text::string::is_same(command, b"pack") {
-        conversion();
-    } else if text::string::is_same(command, b"groups") {
-        groups();
-    } else if text::string::is_same(command, b"verdict") {
-        verdict();
-    } else if text::string::is_same(command, b"tree") {
-        tree();
-    } else if text::string::is_same(command, b"explain") {
-        explain();
-    } else if text::string::is_same(command, b"path") {
-        path();
-    } else if text::string::is_same(command, b"policy") {
-        policy();
-    } else if text::string::is_same(command, b"rpc") {
-        rpc();
-    } else if text::string::is_same(command, b"rotate") {
-        rotate();
-    } else {
-        all();
+// One command's help, or all of it; false where there is no such command.
+pub fn on(command: &[u8]) -> bool {
+    let page = console::lines::place(
+        b"table\nshow\npack\ngroups\nverdict\ntree\nexplain\npath\npolicy\nrpc\nrotate\nhelp\n\n",
+        command,
+    );
+    match page {
+        0 => {
+            return false;
+        }
+        1 => table(),
+        2 | 3 => conversion(),
+        4 => groups(),
+        5 => verdict(),
+        6 => tree(),
+        7 => explain(),
+        8 => path(),
+        9 => policy(),
+        10 => rpc(),
+        11 => rotate(),
+        _ => all(),
     }
+    true
 }

@@ -6,20 +6,9 @@ use rpc::verdict::Verdict;
 // The action, and the list and the number of the deciding rule.
 pub fn answer(v: Verdict) {
     match v {
-        Verdict::Permitted(number) => {
-            show::line(b"permit");
-            show::line(b"list allow_rules");
-            console::say::count(b"rule ", number);
-        }
-        Verdict::Denied(number) => {
-            show::line(b"deny");
-            show::line(b"list deny_rules");
-            console::say::count(b"rule ", number);
-        }
-        Verdict::Default => {
-            show::line(b"deny");
-            show::line(b"default");
-        }
+        Verdict::Permitted(rule) => console::say::decided(b"permit\nlist allow_rules", rule as u64),
+        Verdict::Denied(rule) => console::say::decided(b"deny\nlist deny_rules", rule as u64),
+        Verdict::Default => show::line(b"deny\ndefault"),
         Verdict::Refused(number) => console::refusal::at(number, 0),
     }
 }

@@ -73,32 +73,46 @@ fn upload(r: Record, store: &mut [u8]) {
     }
 }
 
+fn judge(
+    r: Record,
+    store: &[u8],
+    is_tree: bool,
+    user: &[u8],
+    mode: u32,
+    origin: &[u8],
+    path: &[u8],
+) {
+    if is_tree {
+        table_commands::answer::tree(probe::probe_tree(r, store, user, mode, origin, path));
+    } else {
+        table_commands::answer::path(probe::probe_path(r, store, user, mode, origin, path));
+    }
+}
+
 // burgee rotate verdict|tree RECORD STORE USER read|write ORIGIN PATH
 fn probe(r: Record, store: &[u8], is_tree: bool) {
-    let mut word = io::buffer();
-    let w = console::input::word(6, &mut word);
-    let mode = console::input::mode(&word[..w]);
     let mut user = io::buffer();
     let u = console::input::word(5, &mut user);
+    let mut mode = io::buffer();
+    let m = console::input::word(6, &mut mode);
     let mut origin = io::buffer();
     let o = console::input::word(7, &mut origin);
     let mut path = io::large_buffer();
     let p = console::input::word(8, &mut path);
-    if is_tree {
-        let a = probe::probe_tree(r, store, &user[..u], mode, &origin[..o], &path[..p]);
-        table_commands::answer::tree(a);
-    } else {
-        let a = probe::probe_path(r, store, &user[..u], mode, &origin[..o], &path[..p]);
-        table_commands::answer::path(a);
-    }
+    judge(
+        r,
+        store,
+        is_tree,
+        &user[..u],
+        console::input::mode(&mode[..m]),
+        &origin[..o],
+        &path[..p],
+    );
 }
 
 fn answer_rpc(a: RpcAnswer) {
     match a {
-        RpcAnswer::PermitAll => {
-            show::line(b"permit");
-            show::line(b"factory");
-        }
+        RpcAnswer::PermitAll => show::line(b"permit\nfactory"),
         RpcAnswer::Judged(v) => policy_commands::rpcs::answer(v),
     }
 }
@@ -113,60 +127,71 @@ fn probe_rpc(r: Record, store: &[u8], words: usize) {
     let got = policy_commands::rpcs::headers(7, words, &mut headers);
     let h = got.count;
     if got.is_good {
-        let a = probe::rpcs::probe_rpc(r, store, &identity[..i], &path[..p], &headers[..h]);
-        answer_rpc(a);
+        answer_rpc(probe::rpcs::probe_rpc(r, store, &identity[..i], &path[..p], &headers[..h]));
     }
 }
 
-fn run_on(step: &[u8], words: usize, r: Record, store: &mut [u8]) -> bool {
-    let n = store.len();
-    let is_tree = text::string::is_same(step, b"tree");
-    if text::string::is_same(step, b"start") & (words == 5) {
-        settle(rotation::step::start(r, n));
-    } else if text::string::is_same(step, b"upload") & (words == 6) {
-        upload(r, store);
-    } else if text::string::is_same(step, b"finalize") & (words == 5) {
-        settle(rotation::step::finalize(r, n));
-    } else if text::string::is_same(step, b"close") & (words == 5) {
-        settle(rotation::step::close(r, n));
-    } else if (is_tree | text::string::is_same(step, b"verdict")) & (words == 9) {
-        probe(r, store, is_tree);
-    } else if text::string::is_same(step, b"rpc") & ((words == 7) | (words == 8)) {
-        probe_rpc(r, store, words);
-    } else {
-        return false;
+// Whether a step takes that many words. Steps are numbered as in `run`.
+fn takes(step: usize, words: usize) -> bool {
+    match step {
+        1 | 2 | 3 => words == 5,
+        4 | 5 => words == 6,
+        6 | 7 => words == 9,
+        8 => (words == 7) | (words == 8),
+        _ => false,
     }
-    true
 }
 
-// The step, if it is one and has the words that it takes.
-pub fn run(step: &[u8], words: usize) -> bool {
-    if text::string::is_same(step, b"new") & (words == 6) {
-        new();
-        return true;
+// A step on a record and its store.
+fn run_on(step: usize, words: usize, r: Record, store: &mut [u8]) {
+    match step {
+        1 => settle(rotation::step::start(r, store.len())),
+        2 => settle(rotation::step::finalize(r, store.len())),
+        3 => settle(rotation::step::close(r, store.len())),
+        4 => upload(r, store),
+        6 => probe(r, store, false),
+        7 => probe(r, store, true),
+        _ => probe_rpc(r, store, words),
     }
-    if words < 5 {
-        return false;
-    }
+}
+
+// Reads the record and the store, and takes the step.
+fn open(step: usize, words: usize) {
     let mut bytes = [0u8; 20];
     let record = console::input::file(3, &mut bytes);
     if !record.is_good {
-        return true;
+        return;
     }
     if record.count != 20 {
         console::say::usage(b"a record has 20 bytes");
-        return true;
+        return;
     }
     let mut store = io::large_buffer();
     let got = console::input::file(4, &mut store);
     let n = got.count;
-    if !got.is_good {
-        return true;
+    if got.is_good {
+        run_on(
+            step,
+            words,
+            crate::record::of_bytes(&bytes),
+            &mut store[..n],
+        );
     }
-    run_on(
-        step,
-        words,
-        crate::record::of_bytes(&bytes),
-        &mut store[..n],
-    )
+}
+
+// The step, if it is one and has the words that it takes.
+pub fn run(word: &[u8], words: usize) -> bool {
+    let step = console::lines::place(
+        b"start\nfinalize\nclose\nupload\nnew\nverdict\ntree\nrpc\n",
+        word,
+    );
+    if !takes(step, words) {
+        return false;
+    }
+    if step == 5 {
+        new();
+    } else {
+        open(step, words);
+    }
+    true
 }

@@ -2,8 +2,8 @@
 use native.Mathlib.Omega.{arith}
 use mathlib.Core.Path.{sym}
 use lib.Seq.{length-take-le}
-use Rattle.table_commands.proofs.paths.within.Statement.{statement}
-use Rattle.table_commands.proofs.paths.within.Tie as tie
+use Rattle.console.proofs.input.within.Statement.{statement}
+use Rattle.console.proofs.input.within.Tie as tie
 
 returns : tie.Need-returns
 returns c = (omega arith, sym (length-take-le _ _ (omega arith)))
