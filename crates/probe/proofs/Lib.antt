@@ -1,4 +1,4 @@
 -- What the proofs of several functions use.
-mod Factory
+mod Empty
 mod Sources
 mod Probes

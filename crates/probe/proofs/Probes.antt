@@ -1,19 +1,24 @@
 -- Each probe's answer by the source: s is what was found, and turned out to be t.
-use mathlib.Core.Path.{_≡_, ap}
-use Prim.Native.Nat.{ℕ, _+_, _*_, _-_}
+use mathlib.Core.Path.{_≡_, ap, _∙_}
+use mathlib.Core.Bool.{Bool}
+use Prim.Native.Nat.{ℕ, _+_, _*_}
 use borrow.Author.Tests.{eq-eqb, ne-eqb}
 use lib.Dec.{eqb}
-use lib.ListN.{length, take, drop}
+use lib.ListN.{length}
 use Rattle.text.specs.Test.{if_then_else_}
 use Rattle.text.specs.String.{Str}
+use Rattle.text.specs.Frame.{part}
 use Rattle.text.specs.Refusal.{clear}
+use Rattle.text.proofs.Tests.{by}
 use Rattle.verdict_text.specs.Calls.{pathVerdict, treeVerdict}
-use Rattle.verdict_text.specs.declared.PathAnswer.{PathAnswer}
-use Rattle.verdict_text.specs.declared.TreeAnswer.{TreeAnswer}
+use Rattle.verdict_text.specs.Either.{oneOf, refusedAs}
+use Rattle.verdict_text.specs.declared.Verdict.{Verdict}
 use Rattle.rpc.specs.Call.{rpcVerdict}
+use Rattle.rotation.specs.Calls.{probeRefusal}
 use Rattle.rotation.specs.declared.Record.{Record}
+use Rattle.rotation.specs.declared.InForce.{InForce}
 use Rattle.rotation.specs.declared.InForce.the-variants as force
-use Rattle.probe.specs.Probe.{pathRefused, pathOn, probePath, treeRefused, treeOn, probeTree}
+use Rattle.probe.specs.Probe.{probed, pathOn, probePath, treeOn, probeTree}
 use Rattle.probe.specs.Rpc.{rpcRefused, factoryRpc, rpcOn, probeRpc}
 use Rattle.probe.specs.Source.{sourceOf}
 use Rattle.probe.specs.declared.force.Source.{Source}
@@ -21,37 +26,35 @@ use Rattle.probe.specs.declared.rpcs.RpcAnswer.{RpcAnswer}
 use Rattle.probe.specs.declared.rpcs.RpcAnswer.the-variants.{PermitAll, Judged}
 use Rattle.probe.proofs.Sources.{from, answers, part-is}
 
--- the part of the store that a judge is lent
-abbrev pub lentOn : Str → ℕ → ℕ → Str
-lentOn store start end = take (end - start) (drop start store)
+module _ (store user : Str) (mode : ℕ) (origin text : Str) (whole : Bool) where
+  -- what either probe judges of what is in force
+  abbrev either : InForce → Verdict
+  either f = oneOf whole (pathOn store user mode origin text f) (treeOn store user mode origin text f)
 
-module _ (store user : Str) (mode : ℕ) (origin text : Str) where
-  abbrev pub pathPart : ℕ → ℕ → PathAnswer
-  pathPart start end = pathVerdict (lentOn store start end) user mode origin text
+  abbrev pub eitherPart : ℕ → ℕ → Verdict
+  eitherPart start end = oneOf whole (pathVerdict (part store start end) user mode origin text) (treeVerdict (part store start end) user mode origin text)
 
-  path-part : (slot len : ℕ) → pathPart (slot * 32768) (slot * 32768 + len) ≡ pathOn store user mode origin text (force.Text slot len)
-  unfolding pathOn
-  path-part slot len = ap (λ (x : Str). pathVerdict x user mode origin text) (part-is store slot len)
+  either-part : (slot len : ℕ) → eitherPart (slot * 32768) (slot * 32768 + len) ≡ either (force.Text slot len)
+  unfolding pathOn treeOn
+  either-part slot len = ap (λ (x : Str). oneOf whole (pathVerdict x user mode origin text) (treeVerdict x user mode origin text)) (part-is store slot len)
 
-  abbrev pub treePart : ℕ → ℕ → TreeAnswer
-  treePart start end = treeVerdict (lentOn store start end) user mode origin text
+  abbrev pub eitherRefused : ℕ → Verdict
+  eitherRefused number = refusedAs whole number 0
 
-  tree-part : (slot len : ℕ) → treePart (slot * 32768) (slot * 32768 + len) ≡ treeOn store user mode origin text (force.Text slot len)
-  unfolding treeOn
-  tree-part slot len = ap (λ (x : Str). treeVerdict x user mode origin text) (part-is store slot len)
+  abbrev pub eitherFactory : Verdict
+  eitherFactory = either force.Factory
 
-  module _ (r : Record) (s : Source) (e : s ≡ sourceOf 2 r (length store)) (t : Source) (h : s ≡ t) where
-    pub path-from : (a : PathAnswer) → a ≡ from pathRefused pathPart (pathOn store user mode origin text force.Factory) t → a ≡ probePath r store user mode origin text
-    unfolding probePath
-    path-from a k = answers pathRefused (pathOn store user mode origin text) pathPart path-part 2 r (length store) s e t h a k
+  both : (r : Record) → probed eitherRefused either 2 r (length store) ≡ oneOf whole (probePath r store user mode origin text) (probeTree r store user mode origin text)
+  unfolding probePath probeTree probed refusedAs if_then_else_
+  both r = by (eqb (probeRefusal 2 r (length store)) clear) (λ t. rw t) (λ t. rw t)
 
-    pub tree-from : (a : TreeAnswer) → a ≡ from treeRefused treePart (treeOn store user mode origin text force.Factory) t → a ≡ probeTree r store user mode origin text
-    unfolding probeTree
-    tree-from a k = answers treeRefused (treeOn store user mode origin text) treePart tree-part 2 r (length store) s e t h a k
+  pub either-from : (r : Record) (s : Source) → s ≡ sourceOf 2 r (length store) → (t : Source) → s ≡ t → (a : Verdict) → a ≡ from eitherRefused eitherPart eitherFactory t
+      → a ≡ oneOf whole (probePath r store user mode origin text) (probeTree r store user mode origin text)
+  either-from r s e t h a k = answers eitherRefused either eitherPart either-part 2 r (length store) s e t h a k ∙ both r
 
 module _ (store identity path headers : Str) where
   abbrev pub rpcPart : ℕ → ℕ → RpcAnswer
-  rpcPart start end = Judged (rpcVerdict (lentOn store start end) identity path headers)
+  rpcPart start end = Judged (rpcVerdict (part store start end) identity path headers)
 
   rpc-part : (slot len : ℕ) → rpcPart (slot * 32768) (slot * 32768 + len) ≡ rpcOn store identity path headers (force.Text slot len)
   unfolding rpcOn

@@ -1,14 +1,14 @@
 -- An answer by where the text in force lies is the probe's answer.
 use mathlib.Core.Path.{_≡_, refl, sym, ap, _∙_}
-use mathlib.Core.Bool.{Bool, true, false}
+use mathlib.Core.Bool.{false}
 use Prim.Native.Nat.{ℕ, _+_, _*_, _-_, _≤_}
 use native.Mathlib.Omega.{arith}
 use borrow.Author.Tests.{eq-eqb, ne-eqb, eqb-true, ltb-false}
 use lib.Dec.{eqb}
-use lib.ListN.{length, take, drop}
+use lib.ListN.{take, drop}
 use Rattle.text.specs.Test.{if_then_else_}
 use Rattle.text.specs.String.{Str}
-use Rattle.text.specs.Refusal.{_when_else_, clear}
+use Rattle.text.specs.Refusal.{clear}
 use Rattle.text.proofs.Tests.{by}
 use Rattle.rotation.specs.State.{given, shortStore, badRecord, recordRefusal, slotStart, textIn, inForce}
 use Rattle.rotation.specs.Calls.{probeRefusal}

@@ -4,32 +4,65 @@ pub mod rpcs;
 
 ghost use mathlib.Core.Path.{_≡_};
 ghost use mathlib.Core.Option.{none};
+ghost use Prim.Native.Nat.{_≤_};
+ghost use lib.ListN.{length};
+ghost use Rattle.text.specs.Frame.{part};
 ghost use Rattle.table.specs.declared.Checked.the-variants.{Accepted};
 ghost use Rattle.verdict.specs.Verdict.{NONE};
-ghost use Rattle.verdict_text.specs.Calls.{requestRefusal, pathAnswer, treeAnswer};
+ghost use Rattle.verdict_text.specs.Calls.{requestRefusal, pathAnswer, pathVerdict, treeAnswer, treeVerdict};
+ghost use Rattle.verdict_text.specs.Either.{oneOf};
 ghost use Rattle.probe.specs.Probe.{probePath, probeTree};
 use crate::force::Source;
 use rotation::Record;
 use verdict_text::PathAnswer;
 use verdict_text::TreeAnswer;
+use verdict_text::Verdict;
 
 // Kind 2 without a text: as a table without rules, which denies all.
-fn factory_path(user: &[u8], mode: u32, origin: &[u8], path: &[u8]) -> PathAnswer
-    ensures { λ r. ⌜ r ≡ pathAnswer Accepted (requestRefusal (now (user .entry)) mode (now (origin .entry)) (now (path .entry))) none ⌝ }
+fn factory(user: &[u8], mode: u32, origin: &[u8], path: &[u8], whole: bool) -> Verdict
+    ensures { λ r. ⌜ r ≡ oneOf whole (pathAnswer Accepted (requestRefusal (now (user .entry)) mode (now (origin .entry)) (now (path .entry))) none) (treeAnswer Accepted (requestRefusal (now (user .entry)) mode (now (origin .entry)) (now (path .entry))) NONE) ⌝ }
 {
     let f = [0u8; 1];
     let starts = [0u16; 1];
     let holders = [0u8; 1];
-    verdict_text::answer::path_call(&f, &starts, &holders, 0, 0, user, mode, origin, path)
+    verdict_text::answer::call(&f, &starts, &holders, 0, 0, user, mode, origin, path, whole)
 }
 
-fn factory_tree(user: &[u8], mode: u32, origin: &[u8], path: &[u8]) -> TreeAnswer
-    ensures { λ r. ⌜ r ≡ treeAnswer Accepted (requestRefusal (now (user .entry)) mode (now (origin .entry)) (now (path .entry))) NONE ⌝ }
+// By the table that stands in the store from `start` to `end`, whatever the answer.
+fn judge(
+    store: &[u8],
+    start: usize,
+    end: usize,
+    user: &[u8],
+    mode: u32,
+    origin: &[u8],
+    path: &[u8],
+    whole: bool,
+) -> Verdict
+    requires { ⌜ (start ≤ end) × (end ≤ length (now store)) ⌝ }
+    ensures { λ r. ⌜ r ≡ oneOf whole (pathVerdict (part (now (store .entry)) start end) (now (user .entry)) mode (now (origin .entry)) (now (path .entry))) (treeVerdict (part (now (store .entry)) start end) (now (user .entry)) mode (now (origin .entry)) (now (path .entry))) ⌝ }
 {
-    let f = [0u8; 1];
-    let starts = [0u16; 1];
-    let holders = [0u8; 1];
-    verdict_text::answer::tree_call(&f, &starts, &holders, 0, 0, user, mode, origin, path)
+    verdicts::verdict(&store[start..end], user, mode, origin, path, whole)
+}
+
+// Either probe.
+fn probe(
+    r: Record,
+    store: &[u8],
+    user: &[u8],
+    mode: u32,
+    origin: &[u8],
+    path: &[u8],
+    whole: bool,
+) -> Verdict
+    ensures { λ a. ⌜ a ≡ oneOf whole (probePath r (now (store .entry)) (now (user .entry)) mode (now (origin .entry)) (now (path .entry))) (probeTree r (now (store .entry)) (now (user .entry)) mode (now (origin .entry)) (now (path .entry))) ⌝ }
+{
+    let s = crate::force::find_source(r, store.len(), 2);
+    match s {
+        Source::Refused(number) => verdict_text::answer::refused(number, 0, whole),
+        Source::Factory => factory(user, mode, origin, path, whole),
+        Source::Part { start, end } => judge(store, start, end, user, mode, origin, path, whole),
+    }
 }
 
 // The action for one path.
@@ -43,21 +76,7 @@ pub fn probe_path(
 ) -> PathAnswer
     ensures { λ a. ⌜ a ≡ probePath r (now (store .entry)) (now (user .entry)) mode (now (origin .entry)) (now (path .entry)) ⌝ }
 {
-    let s = crate::force::find_source(r, store.len(), 2);
-    match s {
-        Source::Refused(number) => PathAnswer::Refused {
-            number: number,
-            line: 0,
-        },
-        Source::Factory => factory_path(user, mode, origin, path),
-        Source::Part { start, end } => verdicts::path_verdict(
-            &store[start..end],
-            user,
-            mode,
-            origin,
-            path,
-        ),
-    }
+    verdict_text::answer::path_of(probe(r, store, user, mode, origin, path, false))
 }
 
 // ALL, NONE or MIXED for the paths at or beneath.
@@ -71,19 +90,5 @@ pub fn probe_tree(
 ) -> TreeAnswer
     ensures { λ a. ⌜ a ≡ probeTree r (now (store .entry)) (now (user .entry)) mode (now (origin .entry)) (now (path .entry)) ⌝ }
 {
-    let s = crate::force::find_source(r, store.len(), 2);
-    match s {
-        Source::Refused(number) => TreeAnswer::Refused {
-            number: number,
-            line: 0,
-        },
-        Source::Factory => factory_tree(user, mode, origin, path),
-        Source::Part { start, end } => verdicts::tree_verdict(
-            &store[start..end],
-            user,
-            mode,
-            origin,
-            path,
-        ),
-    }
+    verdict_text::answer::tree_of(probe(r, store, user, mode, origin, path, true))
 }

@@ -35,6 +35,15 @@ fn table_after(t: Span, b: u8, at: usize, next: usize) -> Span
     }
 }
 
+// The answer of `path`, or of `tree`.
+fn ask(table: &[u8], command: u8, mode: u32, user: &[u8], origin: &[u8], path: &[u8]) {
+    if command == b'p' {
+        answer::show_path(verdicts::path_verdict(table, user, mode, origin, path));
+    } else {
+        answer::show_tree(verdicts::tree_verdict(table, user, mode, origin, path));
+    }
+}
+
 // `path MODE USER,ORIGIN,PATH`, or the same with `tree`.
 fn run_request(table: &[u8], line: &[u8], command: u8) {
     let from = split::after(line, split::up_to(line, 0, b' '));
@@ -42,15 +51,16 @@ fn run_request(table: &[u8], line: &[u8], command: u8) {
     let comma = split::up_to(line, name, b',');
     let second = split::after(line, comma);
     let end = split::up_to(line, second, b',');
-    let path = &line[split::after(line, end)..];
-    let user = &line[name..comma];
-    let origin = &line[second..end];
+    let last = split::after(line, end);
     let mode = split::digit(&line[from..]);
-    if command == b'p' {
-        answer::show_path(verdicts::path_verdict(table, user, mode, origin, path));
-    } else {
-        answer::show_tree(verdicts::tree_verdict(table, user, mode, origin, path));
-    }
+    ask(
+        table,
+        command,
+        mode,
+        &line[name..comma],
+        &line[second..end],
+        &line[last..],
+    );
 }
 
 fn run_call(table: &[u8], line: &[u8], command: u8) {

@@ -86,13 +86,8 @@ module _ (r : Record) (n : ℕ) (text : Str) where
   unfolding uploadAnswer
   upload-short e = offered-short (r .kind) text (accepted-long _ _ e .1)
 
-  pub upload-room : (slot : ℕ) → slot ≡ candidateSlot r → uploadAnswer offeredCheck r n text ≡ Accepted → slot * 32768 + length text ≤ n
-  upload-room slot e a =
-      let low = candidate-low r in
-      let long = upload-long a in
-      let short = upload-short a in
-      let s : slot ≤ 1 = rw e low in
-      omega arith
+  pub upload-room : (slot : ℕ) → slot ≡ candidateSlot r → uploadAnswer offeredCheck r n text ≡ Accepted → slotStart slot + 32768 ≤ n
+  upload-room slot e a = let low : slot ≤ 1 = rw e (candidate-low r) in omega (arith, upload-long a)
 
 -- what is left after a refusal, and after an accepted upload
 module _ (r : Record) (store text : Str) (c : Checked) (answered : c ≡ uploadAnswer offeredCheck r (length store) text) where
@@ -113,7 +108,7 @@ module _ (r : Record) (store text : Str) (c : Checked) (answered : c ≡ uploadA
   unfolding storedBy
   put-stores c e = rw e
 
-  pub upload-accepted : (s : Stepped) (next : Record) (slot : ℕ) (after : Str) → c ≡ Accepted → slot ≡ candidateSlot r → next ≡ uploaded r (length text) → s ≡ stepped c r next → after ≡ put store (slot * 32768) text
+  pub upload-accepted : (s : Stepped) (next : Record) (slot : ℕ) (after : Str) → c ≡ Accepted → slot ≡ candidateSlot r → next ≡ uploaded r (length text) → s ≡ stepped c r next → after ≡ put store (slotStart slot) text
       → (s ≡ upload offeredCheck r (length store) text) × (after ≡ uploadStore offeredCheck r store text)
   unfolding upload uploadStore
   upload-accepted s next slot after e f g h i =

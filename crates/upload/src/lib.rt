@@ -1,6 +1,9 @@
 // An upload, as a step by value: the whole text is checked before a byte of it is stored.
 ghost use mathlib.Core.Path.{_≡_};
+ghost use Prim.Native.Nat.{_+_, _≤_};
 ghost use lib.ListN.{length};
+ghost use Rattle.text.specs.Fill.{put};
+ghost use Rattle.rotation.specs.State.{slotStart};
 ghost use Rattle.rotation.specs.Calls.{uploadAnswer, upload, uploadStore};
 ghost use Rattle.upload.specs.Offered.{ofPolicy, offeredCheck};
 use policy_text::check::Check;
@@ -44,7 +47,15 @@ fn answer(r: Record, n: usize, text: &[u8]) -> Checked
     check_offered(r.kind, text)
 }
 
-// The text goes to the start of the slot that is not live.
+// The text goes to the start of a slot.
+fn store_at(slot: u32, text: &[u8], store: &mut [u8])
+    requires { ⌜ (slotStart slot + 32768 ≤ length (now store)) × (length (now text) ≤ 32768) ⌝ }
+    ensures { λ u. ⌜ now (store .exit) ≡ put (now (store .entry)) (slotStart slot) (now (text .entry)) ⌝ }
+{
+    text::fill::copy(text, store, slot as usize * 32768);
+}
+
+// The whole text is checked, then stored to the slot that is not live.
 pub fn upload(r: Record, store: &mut [u8], text: &[u8]) -> Stepped
     ensures { λ s. ⌜ (s ≡ upload offeredCheck r (length (now (store .entry))) (now (text .entry))) × (now (store .exit) ≡ uploadStore offeredCheck r (now (store .entry)) (now (text .entry))) ⌝ }
 {
@@ -53,8 +64,7 @@ pub fn upload(r: Record, store: &mut [u8], text: &[u8]) -> Stepped
     let Checked::Accepted = c else {
         return rotation::step::settle(c, r, r);
     };
-    let slot = rotation::state::candidate_slot(r) as usize;
-    text::fill::copy(text, store, slot * 32768);
+    store_at(rotation::state::candidate_slot(r), text, store);
     let len = text.len();
     let next = rotation::step::with_candidate(r, len as u32);
     rotation::step::settle(c, r, next)

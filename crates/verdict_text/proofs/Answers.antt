@@ -10,12 +10,12 @@ use lib.Dec.{eqb}
 use lib.ListN.{length, getD, getElem?}
 use Rattle.text.specs.Test.{_and_, if_then_else_}
 use Rattle.text.specs.String.{Str, same}
-use Rattle.text.proofs.Tests.{by, clash}
+use Rattle.text.proofs.Tests.{by}
 use Rattle.path.specs.Path.{Path}
 use Rattle.path.specs.Faults.{keyTwice}
 use Rattle.table.specs.Table.{Rule, Table}
 use Rattle.table.specs.Group.{lists}
-use Rattle.verdict.specs.Order.{better, earlier, Numbered, choose}
+use Rattle.verdict.specs.Order.{better, earlier, choose}
 use Rattle.verdict.specs.Verdict.{Request, concerns, applies, decider, action, permits, opposes, word, answer, tree}
 use Rattle.verdict.proofs.Choose.{numbered}
 use Rattle.judge.specs.Rules.{ruleIn, rulesIn, Marked}
@@ -24,7 +24,6 @@ use Rattle.judge.specs.declared.best.Best.{Best}
 use Rattle.judge.proofs.Verdict.{decided}
 use Rattle.tree.specs.Tree.{opposing, fitting, Weights}
 use Rattle.tree.proofs.Verdict.{opposed}
-use Rattle.groups.specs.Set.{hasOf}
 use Rattle.concern.specs.Concern.{concernsBy, appliesBy, Applying}
 use Rattle.verdict_text.specs.Ready.{Ready, Groups, asked}
 use Rattle.verdict_text.specs.Calls.{decidedBy, spread}

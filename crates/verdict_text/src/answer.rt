@@ -1,12 +1,10 @@
 // The verdicts on a loaded table. f are its decoded bytes, g the bytes of the path asked for.
 ghost use mathlib.Core.Path.{_≡_};
 ghost use mathlib.Core.Bool.{false};
-ghost use mathlib.Core.Option.{Option};
 ghost use Prim.Native.Nat.{_≤_, _<_};
 ghost use lib.ListN.{length};
 ghost use Rattle.path.specs.Faults.{keyTwice};
 ghost use Rattle.table.specs.Table.{Table};
-ghost use Rattle.verdict.specs.Order.{Numbered};
 ghost use Rattle.verdict.specs.Verdict.{decider, answer, tree};
 ghost use Rattle.place.specs.Place.{pathEnd, pathIn};
 ghost use Rattle.judge.specs.Best.{held, Sound, lacks};
@@ -170,42 +168,4 @@ pub fn tree_of(v: Verdict) -> TreeAnswer
         return TreeAnswer::None;
     };
     a
-}
-
-// The answer of the path call on a loaded table.
-pub fn path_call(
-    f: &[u8],
-    starts: &[u16],
-    holders: &[u8],
-    n: usize,
-    set: u64,
-    user: &[u8],
-    mode: u32,
-    origin: &[u8],
-    text: &[u8],
-) -> PathAnswer
-    requires { ⌜ ((t : Table) × Ready t (now f) (now starts) (now holders) n × Groups t (now user) set) ⌝ }
-    requires { ⌜ (n ≤ length (now starts)) × (n ≤ length (now holders)) ⌝ }
-    ensures { λ r. ⌜ ((t : Table) → Ready t (now (f .entry)) (now (starts .entry)) (now (holders .entry)) n → Groups t (now (user .entry)) set → r ≡ pathAnswer Accepted (requestRefusal (now (user .entry)) mode (now (origin .entry)) (now (text .entry))) (decider t (request (now (user .entry)) mode (now (origin .entry)) (now (text .entry))))) ⌝ }
-{
-    path_of(call(f, starts, holders, n, set, user, mode, origin, text, false))
-}
-
-// The answer of the tree call on a loaded table.
-pub fn tree_call(
-    f: &[u8],
-    starts: &[u16],
-    holders: &[u8],
-    n: usize,
-    set: u64,
-    user: &[u8],
-    mode: u32,
-    origin: &[u8],
-    text: &[u8],
-) -> TreeAnswer
-    requires { ⌜ ((t : Table) × Ready t (now f) (now starts) (now holders) n × Groups t (now user) set) ⌝ }
-    requires { ⌜ (n ≤ length (now starts)) × (n ≤ length (now holders)) ⌝ }
-    ensures { λ r. ⌜ ((t : Table) → Ready t (now (f .entry)) (now (starts .entry)) (now (holders .entry)) n → Groups t (now (user .entry)) set → r ≡ treeAnswer Accepted (requestRefusal (now (user .entry)) mode (now (origin .entry)) (now (text .entry))) (tree t (request (now (user .entry)) mode (now (origin .entry)) (now (text .entry))))) ⌝ }
-{
-    tree_of(call(f, starts, holders, n, set, user, mode, origin, text, true))
 }

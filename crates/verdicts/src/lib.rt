@@ -19,7 +19,14 @@ fn refused(l: Loaded, whole: bool) -> Verdict
 }
 
 // The verdict for the whole tree, or for one path.
-fn verdict(table: &[u8], user: &[u8], mode: u32, origin: &[u8], path: &[u8], whole: bool) -> Verdict
+pub fn verdict(
+    table: &[u8],
+    user: &[u8],
+    mode: u32,
+    origin: &[u8],
+    path: &[u8],
+    whole: bool,
+) -> Verdict
     ensures { λ r. ⌜ r ≡ oneOf whole (pathVerdict (now (table .entry)) (now (user .entry)) mode (now (origin .entry)) (now (path .entry))) (treeVerdict (now (table .entry)) (now (user .entry)) mode (now (origin .entry)) (now (path .entry))) ⌝ }
 {
     let mut buf = [0u8; 16384];

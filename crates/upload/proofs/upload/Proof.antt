@@ -27,18 +27,13 @@ returns c =
 candidate-slot-requires : tie.Need-candidate-slot-requires
 candidate-slot-requires c κs = search needs
 
-cast-slot : tie.Need-cast-slot
-cast-slot c = search needs
-
-mul-copy : tie.Need-mul-copy
-mul-copy c = search needs
-
-copy-requires : tie.Need-copy-requires
-copy-requires c κs =
+store-at-requires : tie.Need-store-at-requires
+store-at-requires c κs =
     let at-candidate-slot = c .before .candidate-slot in
     let at-enum-told = c .before .before .enum-told in
     let at-answer = c .before .before .before .before .answer in
-    upload-room _ _ _ _ (at-candidate-slot .ensures) (sym (at-answer .ensures) ∙ at-enum-told .given .1)
+    let accepted = sym (at-answer .ensures) ∙ at-enum-told .given .1 in
+    (upload-room _ _ _ _ (at-candidate-slot .ensures) accepted, upload-short _ _ _ accepted)
 
 cast-with-candidate : tie.Need-cast-with-candidate
 cast-with-candidate c =
@@ -59,11 +54,11 @@ returns-2 : tie.Need-returns-2
 returns-2 c =
     let at-settle2 = c .settle2 in
     let at-with-candidate = c .before .with-candidate in
-    let at-copy = c .before .before .before .before .copy in
+    let at-store-at = c .before .before .before .before .store-at in
     let at-candidate-slot = c .before .before .before .before .before .before .candidate-slot in
     let at-enum-told = c .before .before .before .before .before .before .before .enum-told in
     let at-answer = c .before .before .before .before .before .before .before .before .before .answer in
-    upload-accepted _ _ _ _ (at-answer .ensures) _ _ _ _ (at-enum-told .given .1) (at-candidate-slot .ensures) (at-with-candidate .ensures) (at-settle2 .ensures) (at-copy .ensures)
+    upload-accepted _ _ _ _ (at-answer .ensures) _ _ _ _ (at-enum-told .given .1) (at-candidate-slot .ensures) (at-with-candidate .ensures) (at-settle2 .ensures) (at-store-at .ensures)
 
 pub upload-spec : {M : Type 1} → statement M
 upload-spec =
@@ -75,9 +70,7 @@ upload-spec =
     settle-requires
     returns
     candidate-slot-requires
-    cast-slot
-    mul-copy
-    copy-requires
+    store-at-requires
     cast-with-candidate
     with-candidate-requires
     settle-requires-2

@@ -1,6 +1,6 @@
--- A table without rules answers as factory does.
+-- A table without rules, as which factory answers.
 use mathlib.Core.Path.{_≡_, refl}
-use mathlib.Core.Bool.{false, true}
+use mathlib.Core.Bool.{Bool}
 use mathlib.Core.List.{List, [], List·Memᴰ·not-nil}
 use mathlib.Core.Option.{none}
 use Prim.Native.Nat.{ℕ, _<_}
@@ -13,18 +13,25 @@ use Rattle.verdict.specs.Order.{choose}
 use Rattle.verdict.specs.Verdict.{Request, decider, action, permits, word, answer, tree, NONE}
 use Rattle.verdict.specs.Laws.{Orderly}
 use Rattle.judge.specs.Rules.{rulesIn}
+use Rattle.table.specs.declared.Checked.the-variants.{Accepted}
+use Rattle.verdict_text.specs.Calls.{pathAnswer, treeAnswer}
+use Rattle.verdict_text.specs.Either.{oneOf}
 use Rattle.verdict_text.specs.Ready.{Ready, Groups}
 
 abbrev pub empty : Table
 empty = record { version = []; time = []; groups = []; members = []; rules = [] }
 
-pub no-decider : (q : Request) → decider empty q ≡ none
+no-decider : (q : Request) → decider empty q ≡ none
 unfolding decider choose
 no-decider q = refl
 
-pub no-tree : (q : Request) → tree empty q ≡ NONE
+no-tree : (q : Request) → tree empty q ≡ NONE
 unfolding tree permits action answer word decider choose
 no-tree q = refl
+
+pub factory-is : (whole : Bool) (number : ℕ) (q : Request)
+    → oneOf whole (pathAnswer Accepted number (decider empty q)) (treeAnswer Accepted number (tree empty q)) ≡ oneOf whole (pathAnswer Accepted number none) (treeAnswer Accepted number NONE)
+factory-is whole number q = rw (no-decider q, no-tree q)
 
 orderly : Orderly empty
 unfolding twice
