@@ -1,19 +1,21 @@
--- A path that covers the joined path of two others has no digit that both of them lack.
-use mathlib.Core.Path.{_≡_, refl, sym, ap, ap₂, _∙_}
+-- A path that covers the joined path of another and the asked one has no digit that the other lacks.
+use mathlib.Core.Path.{_≡_, refl, sym, ap, _∙_}
 use mathlib.Core.Logic.{_⊎_, inl, inr}
 use mathlib.Core.Bool.{Bool, true, false, not}
 use mathlib.Core.List.{List, [], _∷_}
 use Prim.Native.Nat.{ℕ, zero, suc, _+_, _*_, _/_, _%_, _^_, _≤_, _<_}
 use native.Mathlib.Nat.{mod-lt}
 use native.Mathlib.Omega.{arith}
-use lib.Bits.{bitOr, or-shr, or-mod, or-comm, or-self}
+use lib.Bits.{bitOr, or-shr, or-mod, or-comm, or-self, or-zero-r}
 use Rattle.text.specs.Test.{_and_, _or_, if_then_else_, all, any, only}
 use Rattle.text.specs.String.{Str, bytes, same}
-use Rattle.text.proofs.Tests.{clash, by, and-l, and-r, or-cases, same→≡}
+use Rattle.text.proofs.Tests.{clash, by, and-l, and-r, or-l, or-r, or-cases, same→≡}
 use Rattle.path.specs.Path.{Key, Elem, Path}
 use Rattle.verdict.specs.Cover.{wild, given, definite, sameKey, holds, meets, covers}
 use Rattle.verdict.specs.Join.{meetsBoth, coversBoth}
-use Rattle.bloom.specs.Bloom.{hash, digit, keyBits, keysBits, elemBits, bits}
+use Rattle.bloom.specs.declared.Filter.{Filter}
+use Rattle.bloom.specs.declared.seed.Seed.{Seed}
+use Rattle.bloom.specs.Bloom.{none, join, hash, digits, keyDigits, keysDigits, elemDigits, pathDigits, beyond}
 
 -- ---- the digits of two numbers together
 
@@ -39,120 +41,159 @@ assoc-to (suc n) a b c h =
     let j : x % 2 ≡ y % 2 = s ∙ low-assoc (a % 2) (b % 2) (c % 2) (mod-lt a (omega arith)) (mod-lt b (omega arith)) (mod-lt c (omega arith)) ∙ sym t in
     omega (arith, i, j)
 
-pub or-assoc : (a b c : ℕ) → bitOr (bitOr a b) c ≡ bitOr a (bitOr b c)
+or-assoc : (a b c : ℕ) → bitOr (bitOr a b) c ≡ bitOr a (bitOr b c)
 or-assoc a b c = assoc-to a a b c (omega arith)
 
--- a has no digit that m lacks
-pub record Within (a m : ℕ) : Type 0 where
-  pub same : bitOr a m ≡ m
+-- ---- the digits of two filters together
 
-none : (m : ℕ) → Within 0 m
-none m = record { same = refl }
+pub join-assoc : (x y z : Filter) → join (join x y) z ≡ join x (join y z)
+unfolding join
+join-assoc x y z = rw (or-assoc (x .a) (y .a) (z .a), or-assoc (x .b) (y .b) (z .b), or-assoc (x .c) (y .c) (z .c), or-assoc (x .d) (y .d) (z .d))
 
-itself : (a : ℕ) → Within a a
-itself a = record { same = or-self a }
+join-comm : (x y : Filter) → join x y ≡ join y x
+unfolding join
+join-comm x y = rw (or-comm (x .a) (y .a), or-comm (x .b) (y .b), or-comm (x .c) (y .c), or-comm (x .d) (y .d))
 
-module _ {a b m : ℕ} where
-  either : Within a m → Within b m → Within (bitOr a b) m
-  either h k = record { same = or-assoc a b m ∙ ap (bitOr a) (k .same) ∙ h .same }
+join-self : (x : Filter) → join x x ≡ x
+unfolding join
+join-self x = rw (or-self (x .a), or-self (x .b), or-self (x .c), or-self (x .d))
 
-  onward : Within a b → Within b m → Within a m
-  onward h k = record { same = ap (bitOr a) (sym (k .same)) ∙ sym (or-assoc a b m) ∙ ap (λ (x : ℕ). bitOr x m) (h .same) ∙ k .same }
+pub join-none : (x : Filter) → join x none ≡ x
+unfolding join
+join-none x = rw (or-zero-r (x .a), or-zero-r (x .b), or-zero-r (x .c), or-zero-r (x .d))
 
-module _ (a b : ℕ) where
-  first : Within a (bitOr a b)
-  first = record { same = sym (or-assoc a a b) ∙ ap (λ (x : ℕ). bitOr x b) (or-self a) }
+pub fresh : (x t : Filter) → x ≡ none → t ≡ join x t
+fresh x t e = sym (rw e (join-comm none t ∙ join-none t))
 
-  second : Within b (bitOr a b)
-  second = record { same = ap (bitOr b) (or-comm a b) ∙ sym (or-assoc b b a) ∙ ap (λ (x : ℕ). bitOr x a) (or-self b) ∙ or-comm b a }
+-- x has no digit that m lacks
+pub record Within (x m : Filter) : Type 0 where
+  pub same : join x m ≡ m
+
+nothing : (m : Filter) → Within none m
+nothing m = record { same = sym (fresh none m refl) }
+
+module _ {x y m : Filter} where
+  either : Within x m → Within y m → Within (join x y) m
+  either h k = record { same = join-assoc x y m ∙ ap (join x) (k .same) ∙ h .same }
+
+  onward : Within x y → Within y m → Within x m
+  onward h k = record { same = ap (join x) (sym (k .same)) ∙ sym (join-assoc x y m) ∙ ap (λ (z : Filter). join z m) (h .same) ∙ k .same }
+
+module _ (x y : Filter) where
+  first : Within x (join x y)
+  first = record { same = sym (join-assoc x x y) ∙ ap (λ (z : Filter). join z y) (join-self x) }
+
+  second : Within y (join x y)
+  second = record { same = ap (join y) (join-comm x y) ∙ sym (join-assoc y y x) ∙ ap (λ (z : Filter). join z x) (join-self y) ∙ join-comm y x }
 
 -- ---- keys
 
-module _ (w d : ℕ) where
-  key-alike : (j k : Key) → sameKey j k ≡ true → keyBits w d k ≡ keyBits w d j
-  unfolding keyBits wild
+held-given : (ks : List Key) (k : Key) → holds (given ks) k ≡ true → holds ks k ≡ true
+unfolding holds any only if_then_else_
+held-given [] k e = e
+held-given (j ∷ ks) k e = by (wild j) (λ h. or-r _ _ (held-given ks k (rw h at e))) (λ h. go (held-given ks k) (or-cases _ _ (rw h at e)))
+  where
+    go : (any (λ (i : Key). sameKey i k) (given ks) ≡ true → any (λ (i : Key). sameKey i k) ks ≡ true)
+        → (sameKey j k ≡ true) ⊎ (any (λ (i : Key). sameKey i k) (given ks) ≡ true) → (sameKey j k or any (λ (i : Key). sameKey i k) ks) ≡ true
+    go ih (inl h) = or-l _ _ h
+    go ih (inr h) = or-r _ _ (ih h)
+
+module _ (s : Seed) (d : ℕ) (asked : List Key) where
+  key-alike : (j k : Key) → sameKey j k ≡ true → keyDigits s d asked k ≡ keyDigits s d asked j
+  unfolding keyDigits wild holds
   key-alike j k e = rw (same→≡ (j .name) (k .name) (and-l _ _ e), same→≡ (j .value) (k .value) (and-r _ _ e))
 
-  key-held : (ks : List Key) (k : Key) → holds (given ks) k ≡ true → Within (keyBits w d k) (keysBits w d ks)
-  unfolding holds any only if_then_else_ keysBits
+  key-held : (ks : List Key) (k : Key) → holds (given ks) k ≡ true → Within (keyDigits s d asked k) (keysDigits s d asked ks)
+  unfolding holds any only if_then_else_ keysDigits
   key-held [] k e = clash e refl
   key-held (j ∷ ks) k e =
       by (wild j)
-      (λ h. onward (key-held ks k (rw h at e)) (second (keyBits w d j) (keysBits w d ks)))
+      (λ h. onward (key-held ks k (rw h at e)) (second (keyDigits s d asked j) (keysDigits s d asked ks)))
       (λ h. go (key-held ks k) (or-cases _ _ (rw h at e)))
     where
-      go : (any (λ (i : Key). sameKey i k) (given ks) ≡ true → Within (keyBits w d k) (keysBits w d ks))
-          → (sameKey j k ≡ true) ⊎ (any (λ (i : Key). sameKey i k) (given ks) ≡ true) → Within (keyBits w d k) (bitOr (keyBits w d j) (keysBits w d ks))
-      go ih (inl h) = rw (key-alike j k h) (first (keyBits w d j) (keysBits w d ks))
-      go ih (inr h) = onward (ih h) (second (keyBits w d j) (keysBits w d ks))
+      go : (any (λ (i : Key). sameKey i k) (given ks) ≡ true → Within (keyDigits s d asked k) (keysDigits s d asked ks))
+          → (sameKey j k ≡ true) ⊎ (any (λ (i : Key). sameKey i k) (given ks) ≡ true)
+          → Within (keyDigits s d asked k) (join (keyDigits s d asked j) (keysDigits s d asked ks))
+      go ih (inl h) = rw (key-alike j k h) (first (keyDigits s d asked j) (keysDigits s d asked ks))
+      go ih (inr h) = onward (ih h) (second (keyDigits s d asked j) (keysDigits s d asked ks))
 
-  wild-none : (m : ℕ) (k : Key) → wild k ≡ true → Within (keyBits w d k) m
-  unfolding keyBits if_then_else_
-  wild-none m k z = rw z (none m)
+  -- a key that is left out
+  key-out : (m : Filter) (k : Key) → (wild k or holds asked k) ≡ true → Within (keyDigits s d asked k) m
+  unfolding keyDigits if_then_else_
+  key-out m k z = rw z (nothing m)
 
   -- each definite key is within m
-  keys-within : (t : Key → Bool) (m : ℕ) → ((k : Key) → t k ≡ true → Within (keyBits w d k) m) → (ks : List Key) → all t (given ks) ≡ true → Within (keysBits w d ks) m
-  unfolding all only if_then_else_ keysBits
-  keys-within t m h [] e = none m
+  keys-within : (t : Key → Bool) (m : Filter) → ((k : Key) → t k ≡ true → Within (keyDigits s d asked k) m) → (ks : List Key) → all t (given ks) ≡ true
+      → Within (keysDigits s d asked ks) m
+  unfolding all only if_then_else_ keysDigits
+  keys-within t m h [] e = nothing m
   keys-within t m h (k ∷ ks) e =
       by (wild k)
-      (λ z. either (wild-none m k z) (keys-within t m h ks (rw z at e)))
+      (λ z. either (key-out m k (or-l _ _ z)) (keys-within t m h ks (rw z at e)))
       (λ z. either (h k (and-l _ _ (rw z at e))) (keys-within t m h ks (and-r _ _ (rw z at e))))
 
-  -- ---- elements
+-- ---- elements
 
-  elem-meets : (p e : Elem) → meets p e ≡ true → Within (elemBits w d p) (elemBits w d e)
-  unfolding meets elemBits definite
+module _ (s : Seed) (d : ℕ) where
+  elem-meets : (p e : Elem) → meets p e ≡ true → Within (elemDigits s d p) (elemDigits s d e)
+  unfolding meets elemDigits definite
   elem-meets p e h =
       let n : p .name ≡ e .name = same→≡ _ _ (and-l _ _ h) in
-      let x : ℕ = digit w (hash d (e .name)) in
-      let y : ℕ = keysBits w d (e .keys) in
-      either {a = digit w (hash d (p .name))} {b = keysBits w d (p .keys)} {m = bitOr x y}
+      let x : Filter = digits (hash s d (e .name)) in
+      let y : Filter = keysDigits s d [] (e .keys) in
+      either {x = digits (hash s d (p .name))} {y = keysDigits s d [] (p .keys)} {m = join x y}
       (rw n (first x y))
-      (onward {b = y} (keys-within (holds (given (e .keys))) y (key-held (e .keys)) (p .keys) (and-r _ _ h)) (second x y))
+      (onward {y = y} (keys-within s d [] (holds (given (e .keys))) y (key-held s d [] (e .keys)) (p .keys) (and-r _ _ h)) (second x y))
 
-  elem-both : (s r p : Elem) → meetsBoth s r p ≡ true → Within (elemBits w d s) (bitOr (elemBits w d r) (elemBits w d p))
-  unfolding meetsBoth elemBits definite
-  elem-both s r p h =
-      let n : s .name ≡ r .name = same→≡ _ _ (and-l _ _ h) in
-      let u : ℕ = digit w (hash d (r .name)) in
-      let x : ℕ = bitOr u (keysBits w d (r .keys)) in
-      let y : ℕ = bitOr (digit w (hash d (p .name))) (keysBits w d (p .keys)) in
-      either {a = digit w (hash d (s .name))} {b = keysBits w d (s .keys)} {m = bitOr x y}
-      (rw n (onward {b = x} (first u (keysBits w d (r .keys))) (first x y)))
-      (keys-within (λ (k : Key). holds (given (r .keys)) k or holds (given (p .keys)) k) (bitOr x y) (λ k e. go x y u (digit w (hash d (p .name))) refl refl k (or-cases _ _ e)) (s .keys) (and-r _ _ h))
+  -- an element that the asked one meets
+  elem-asked : (e p : Elem) → meets e p ≡ true → (m : Filter) → Within (keysDigits s d (p .keys) (e .keys)) m
+  unfolding meets definite
+  elem-asked e p h m =
+      keys-within s d (p .keys) (holds (given (p .keys))) m
+      (λ k i. key-out s d (p .keys) m k (or-r _ _ (held-given (p .keys) k i)))
+      (e .keys) (and-r _ _ h)
+
+  elem-both : (e r p : Elem) → meetsBoth e r p ≡ true → Within (keysDigits s d (p .keys) (e .keys)) (keysDigits s d (p .keys) (r .keys))
+  unfolding meetsBoth definite
+  elem-both e r p h =
+      keys-within s d (p .keys) (λ (k : Key). holds (given (r .keys)) k or holds (given (p .keys)) k) (keysDigits s d (p .keys) (r .keys))
+      (λ k i. go k (or-cases _ _ i))
+      (e .keys) (and-r _ _ h)
     where
-      go : (x y u v : ℕ) → x ≡ bitOr u (keysBits w d (r .keys)) → y ≡ bitOr v (keysBits w d (p .keys))
-          → (k : Key) → (holds (given (r .keys)) k ≡ true) ⊎ (holds (given (p .keys)) k ≡ true) → Within (keyBits w d k) (bitOr x y)
-      go x y u v i j k (inl e) = onward {b = x} (rw i (onward {b = keysBits w d (r .keys)} (key-held (r .keys) k e) (second u (keysBits w d (r .keys))))) (first x y)
-      go x y u v i j k (inr e) = onward {b = y} (rw j (onward {b = keysBits w d (p .keys)} (key-held (p .keys) k e) (second v (keysBits w d (p .keys))))) (second x y)
+      go : (k : Key) → (holds (given (r .keys)) k ≡ true) ⊎ (holds (given (p .keys)) k ≡ true) → Within (keyDigits s d (p .keys) k) (keysDigits s d (p .keys) (r .keys))
+      go k (inl i) = key-held s d (p .keys) (r .keys) k i
+      go k (inr i) = key-out s d (p .keys) _ k (or-r _ _ (held-given (p .keys) k i))
 
 -- ---- paths
 
-module _ (w : ℕ) where
-  path-covers : (d : ℕ) (ps es : Path) → covers ps es ≡ true → Within (bits w d ps) (bits w d es)
-  unfolding covers bits
-  path-covers d [] es h = none _
+module _ (s : Seed) where
+  path-covers : (d : ℕ) (ps es : Path) → covers ps es ≡ true → Within (pathDigits s d ps) (pathDigits s d es)
+  unfolding covers pathDigits
+  path-covers d [] es h = nothing _
   path-covers d (p ∷ ps) [] h = clash h refl
   path-covers d (p ∷ ps) (e ∷ es) h =
       either
-      (onward (elem-meets w d p e (and-l _ _ h)) (first (elemBits w d e) (bits w (d + 256) es)))
-      (onward (path-covers (d + 256) ps es (and-r _ _ h)) (second (elemBits w d e) (bits w (d + 256) es)))
+      (onward (elem-meets s d p e (and-l _ _ h)) (first (elemDigits s d e) (pathDigits s (d + 256) es)))
+      (onward (path-covers (d + 256) ps es (and-r _ _ h)) (second (elemDigits s d e) (pathDigits s (d + 256) es)))
 
-  path-both : (d : ℕ) (ss rs ps : Path) → coversBoth ss rs ps ≡ true → Within (bits w d ss) (bitOr (bits w d rs) (bits w d ps))
-  unfolding coversBoth bits
-  path-both d [] rs ps h = none _
-  path-both d (s ∷ ss) [] ps h = path-covers d (s ∷ ss) ps h
-  path-both d (s ∷ ss) (r ∷ rs) [] h = onward (path-covers d (s ∷ ss) (r ∷ rs) h) (first (bitOr (elemBits w d r) (bits w (d + 256) rs)) 0)
-  path-both d (s ∷ ss) (r ∷ rs) (p ∷ ps) h =
-      let a : ℕ = elemBits w d r in
-      let b : ℕ = elemBits w d p in
-      let x : ℕ = bits w (d + 256) rs in
-      let y : ℕ = bits w (d + 256) ps in
+  path-asked : (d : ℕ) (es ps : Path) → covers es ps ≡ true → (m : Filter) → Within (beyond s d es ps) m
+  unfolding covers beyond
+  path-asked d [] ps h m = nothing m
+  path-asked d (e ∷ es) [] h m = clash h refl
+  path-asked d (e ∷ es) (p ∷ ps) h m = either (elem-asked s d e p (and-l _ _ h) m) (path-asked (d + 256) es ps (and-r _ _ h) m)
+
+  path-both : (d : ℕ) (es rs ps : Path) → coversBoth es rs ps ≡ true → Within (beyond s d es ps) (beyond s d rs ps)
+  unfolding coversBoth beyond
+  path-both d [] rs ps h = nothing _
+  path-both d (e ∷ es) [] ps h = path-asked d (e ∷ es) ps h _
+  path-both d (e ∷ es) (r ∷ rs) [] h = path-covers d (e ∷ es) (r ∷ rs) h
+  path-both d (e ∷ es) (r ∷ rs) (p ∷ ps) h =
+      let x : Filter = keysDigits s d (p .keys) (r .keys) in
+      let y : Filter = beyond s (d + 256) rs ps in
       either
-      (onward (elem-both w d s r p (and-l _ _ h)) (either (onward (first a x) (first (bitOr a x) (bitOr b y))) (onward (first b y) (second (bitOr a x) (bitOr b y)))))
-      (onward (path-both (d + 256) ss rs ps (and-r _ _ h)) (either (onward (second a x) (first (bitOr a x) (bitOr b y))) (onward (second b y) (second (bitOr a x) (bitOr b y)))))
+      (onward (elem-both s d e r p (and-l _ _ h)) (first x y))
+      (onward (path-both (d + 256) es rs ps (and-r _ _ h)) (second x y))
 
--- a path with a digit that both lack does not cover their joined path
-pub not-both : (w : ℕ) (ss rs ps : Path) (m : ℕ) → m ≡ bitOr (bits w 0 rs) (bits w 0 ps) → (bitOr (bits w 0 ss) m ≡ m → ⊥) → coversBoth ss rs ps ≡ false
-not-both w ss rs ps m i n = by (coversBoth ss rs ps) (λ h. absurd (n (rw i (path-both w 0 ss rs ps h .same)))) (λ h. h)
+-- a path with a digit that another lacks does not cover the joined path of that and the asked one
+pub not-both : (s : Seed) (es rs ps : Path) → (join (beyond s 0 es ps) (beyond s 0 rs ps) ≡ beyond s 0 rs ps → ⊥) → coversBoth es rs ps ≡ false
+not-both s es rs ps n = by (coversBoth es rs ps) (λ h. absurd (n (path-both s 0 es rs ps h .same))) (λ h. h)

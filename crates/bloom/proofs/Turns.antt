@@ -3,74 +3,121 @@ use mathlib.Core.Path.{_≡_, refl, sym, ap, _∙_}
 use mathlib.Core.Bool.{true, false}
 use mathlib.Core.List.{List, [], _∷_}
 use Prim.Native.Nat.{ℕ, zero, suc, _+_, _-_, _*_, _/_, _%_, _^_, _≤_, _<_}
-use native.Mathlib.Nat.{mod-lt, one-mul}
+use native.Mathlib.Nat.{mod-lt, one-mul, mul-le-mul}
 use native.Mathlib.Numerals.{add-one}
 use native.Mathlib.Omega.{arith}
-use lib.Bits.{bitOr, or-zero-r}
 use lib.ListN.{length, drop, getD, drop-of-length-le}
 use lib.Seq.{drop-cons}
 use lib.Pow.{shl-exact}
-use Rattle.text.specs.Test.{if_then_else_}
+use Rattle.text.specs.Test.{_or_, if_then_else_}
 use Rattle.text.specs.String.{Str}
-use Rattle.path.specs.Path.{Key, Elem}
-use Rattle.verdict.specs.Cover.{wild}
+use Rattle.path.specs.Path.{Key, Elem, Path}
+use Rattle.verdict.specs.Cover.{wild, holds}
 use Rattle.place.specs.Place.{strEnd, strIn, keyEnd, keyIn, keysIn, elemEnd, elemIn, elemsIn}
 use Rattle.place.proofs.Cursor.{keys-cons, keys-nil, elems-cons, elems-nil}
-use Rattle.bloom.specs.Bloom.{hash, digit, keyBits, keysBits, elemBits, bits}
-use Rattle.bloom.proofs.Laws.{or-assoc}
+use Rattle.text.proofs.Tests.{or-l, or-r}
+use Rattle.bloom.specs.declared.Filter.{Filter}
+use Rattle.bloom.specs.declared.seed.Seed.{Seed}
+use Rattle.bloom.specs.Bloom.{none, join, hashFrom, hash, digits, keyDigits, keysDigits, elemDigits, pathDigits, beyond}
+use Rattle.bloom.proofs.Laws.{join-assoc, join-none}
 
 -- ---- the hash
 
-module _ (s : List ℕ) (i h : ℕ) where
-  pub hash-turn : (x b : ℕ) → i < length s → b ≡ getD s i 0 → x ≡ hash h (drop i s) → x ≡ hash ((h + b) * 2654435761 % 4294967296) (drop (i + 1) s)
-  unfolding hash
-  hash-turn x b l e g = g ∙ rw (add-one, drop-cons s i 0 l, e)
+-- no product passes 64 bits
+pub product : (x m : ℕ) → x < 8589934592 → m < 2147483648 → x * m < 18446744073709551616
+product x m h l = omega (arith, mul-le-mul {n₁ = x} {m₁ = m} {n₂ = 8589934591} {m₂ = 2147483647} (omega arith) (omega arith))
 
-  pub hash-end : (x : ℕ) → length s ≤ i → x ≡ hash h (drop i s) → h ≡ x
-  unfolding hash
-  hash-end x l g = sym (g ∙ rw (drop-of-length-le s l))
+module _ (s : Seed) (t : List ℕ) (i x y : ℕ) where
+  pub hash-turn : (w b : ℕ) → i < length t → b ≡ getD t i 0 → w ≡ hashFrom s x y (drop i t)
+      → w ≡ hashFrom s ((x + b) * s .first % 4294967296) ((y + (x + b) * s .first % 4294967296) * s .second % 4294967296) (drop (i + 1) t)
+  unfolding hashFrom
+  hash-turn w b l e g = g ∙ rw (add-one, drop-cons t i 0 l, e)
 
-pub hash-small : (s : Str) (h : ℕ) → h < 4294967296 → hash h s < 4294967296
+  pub hash-end : (w : ℕ) → length t ≤ i → w ≡ hashFrom s x y (drop i t) → y ≡ w
+  unfolding hashFrom
+  hash-end w l g = sym (g ∙ rw (drop-of-length-le t l))
+
+from-small : (s : Seed) (t : Str) (x y : ℕ) → y < 4294967296 → hashFrom s x y t < 4294967296
+unfolding hashFrom
+from-small s [] x y l = l
+from-small s (b ∷ t) x y l = from-small s t _ _ (mod-lt ((y + (x + b) * s .first % 4294967296) * s .second) (omega arith))
+
+pub hash-small : (s : Seed) (h : ℕ) (t : Str) → hash s h t < 4294967296
 unfolding hash
-hash-small [] h l = l
-hash-small (b ∷ s) h l = hash-small s ((h + b) * 2654435761 % 4294967296) (mod-lt ((h + b) * 2654435761) (omega arith))
+hash-small s h t = from-small s t h 0 (omega arith)
 
-pub digit-is : (w h : ℕ) → (1 * 2 ^ (h / 2 ^ w % 64)) % 2 ^ 64 ≡ digit w h
-unfolding digit
-digit-is w h =
+digit : (w h : ℕ) → (1 * 2 ^ (h / 2 ^ w % 64)) % 2 ^ 64 ≡ 2 ^ (h / 2 ^ w % 64)
+digit w h =
     let z : h / 2 ^ w % 64 < 64 = mod-lt (h / 2 ^ w) (omega arith) in
     shl-exact {a = 1} 1 (h / 2 ^ w % 64) 64 (omega arith) (omega arith) ∙ one-mul (2 ^ (h / 2 ^ w % 64))
 
+abbrev shifted : ℕ → ℕ → ℕ
+shifted w h = (1 * 2 ^ (h / 2 ^ w % 64)) % 2 ^ 64
+
+pub digits-are : (h : ℕ) → record { a = shifted 26 h; b = shifted 20 h; c = shifted 14 h; d = shifted 8 h } ≡ digits h
+unfolding digits
+digits-are h = rw (digit 26 h, digit 20 h, digit 14 h, digit 8 h)
+
 -- ---- keys and elements
 
-module _ (w d : ℕ) (f : List ℕ) where
-  pub key-is : (q v : ℕ) → v ≡ strEnd f q → wild (keyIn f q) ≡ false → digit w (hash (hash d (strIn f q)) (strIn f v)) ≡ keyBits w d (keyIn f q)
-  unfolding keyBits keyIn if_then_else_
-  key-is q v i e = rw (e, i)
+module _ (s : Seed) (d : ℕ) (asked : List Key) (f : List ℕ) where
+  pub key-is : (q v : ℕ) → v ≡ strEnd f q → wild (keyIn f q) ≡ false → holds asked (keyIn f q) ≡ false
+      → digits (hash s (hash s d (strIn f q) + 256) (strIn f v)) ≡ keyDigits s d asked (keyIn f q)
+  unfolding keyDigits keyIn if_then_else_ _or_
+  key-is q v i e n = rw (e, n, i)
 
-  pub key-wild : (q : ℕ) → wild (keyIn f q) ≡ true → 0 ≡ keyBits w d (keyIn f q)
-  unfolding keyBits if_then_else_
-  key-wild q e = rw e
+  pub key-left : (q : ℕ) → (wild (keyIn f q) or holds asked (keyIn f q)) ≡ true → none ≡ keyDigits s d asked (keyIn f q)
+  unfolding keyDigits if_then_else_
+  key-left q e = rw e
 
-  pub keys-turn : (k q : ℕ) → 0 < k → (b c x t : ℕ) → b ≡ keyEnd f q → c ≡ keyBits w d (keyIn f q)
-      → t ≡ bitOr x (keysBits w d (keysIn k f q)) → t ≡ bitOr (bitOr x c) (keysBits w d (keysIn (k - 1) f b))
-  unfolding keysBits
-  keys-turn k q z b c x t i j e = e ∙ rw (keys-cons f k q z, i, j) (sym (or-assoc x (keyBits w d (keyIn f q)) _))
+  pub keys-turn : (k q : ℕ) → 0 < k → (b : ℕ) (c x t : Filter) → b ≡ keyEnd f q → c ≡ keyDigits s d asked (keyIn f q)
+      → t ≡ join x (keysDigits s d asked (keysIn k f q)) → t ≡ join (join x c) (keysDigits s d asked (keysIn (k - 1) f b))
+  unfolding keysDigits
+  keys-turn k q z b c x t i j e = e ∙ rw (keys-cons f k q z, i, j) (sym (join-assoc x (keyDigits s d asked (keyIn f q)) _))
 
-  pub keys-end : (k q x t : ℕ) → k ≤ 0 → t ≡ bitOr x (keysBits w d (keysIn k f q)) → x ≡ t
-  unfolding keysBits
-  keys-end k q x t z e = sym (e ∙ rw (keys-nil f k q z) (or-zero-r x))
+  pub keys-end : (k q : ℕ) (x t : Filter) → k ≤ 0 → t ≡ join x (keysDigits s d asked (keysIn k f q)) → x ≡ t
+  unfolding keysDigits
+  keys-end k q x t z e = sym (e ∙ rw (keys-nil f k q z) (join-none x))
 
-  pub elem-is : (q a c : ℕ) → a ≡ strEnd f q → c ≡ keysBits w d (keysIn (getD f a 0) f (a + 1))
-      → bitOr (digit w (hash d (strIn f q))) c ≡ elemBits w d (elemIn f q)
-  unfolding elemBits elemIn
-  elem-is q a c i j = rw (j, i)
+module _ (s : Seed) (d : ℕ) (f : List ℕ) where
+  pub elem-is : (q a : ℕ) (x c : Filter) → a ≡ strEnd f q → x ≡ digits (hash s d (strIn f q)) → c ≡ keysDigits s d [] (keysIn (getD f a 0) f (a + 1))
+      → join x c ≡ elemDigits s d (elemIn f q)
+  unfolding elemDigits elemIn
+  elem-is q a x c i h j = rw (j, h, i)
 
-  pub elems-turn : (k q : ℕ) → 0 < k → (b c x t : ℕ) → b ≡ elemEnd f q → c ≡ elemBits w d (elemIn f q)
-      → t ≡ bitOr x (bits w d (elemsIn k f q)) → t ≡ bitOr (bitOr x c) (bits w (d + 256) (elemsIn (k - 1) f b))
-  unfolding bits
-  elems-turn k q z b c x t i j e = e ∙ rw (elems-cons f k q z, i, j) (sym (or-assoc x (elemBits w d (elemIn f q)) _))
+  pub elems-turn : (k q : ℕ) → 0 < k → (b : ℕ) (c x t : Filter) → b ≡ elemEnd f q → c ≡ elemDigits s d (elemIn f q)
+      → t ≡ join x (pathDigits s d (elemsIn k f q)) → t ≡ join (join x c) (pathDigits s (d + 256) (elemsIn (k - 1) f b))
+  unfolding pathDigits
+  elems-turn k q z b c x t i j e = e ∙ rw (elems-cons f k q z, i, j) (sym (join-assoc x (elemDigits s d (elemIn f q)) _))
 
-  pub elems-end : (k q x t : ℕ) → k ≤ 0 → t ≡ bitOr x (bits w d (elemsIn k f q)) → x ≡ t
-  unfolding bits
-  elems-end k q x t z e = sym (e ∙ rw (elems-nil f k q z) (or-zero-r x))
+  pub elems-end : (k q : ℕ) (x t : Filter) → k ≤ 0 → t ≡ join x (pathDigits s d (elemsIn k f q)) → x ≡ t
+  unfolding pathDigits
+  elems-end k q x t z e = sym (e ∙ rw (elems-nil f k q z) (join-none x))
+
+-- ---- a path beside the asked one
+
+module _ (s : Seed) (d : ℕ) (f g : List ℕ) where
+  pub new-are : (q a p b : ℕ) (x : Filter) → a ≡ strEnd f q → b ≡ strEnd g p
+      → x ≡ keysDigits s d (keysIn (getD g b 0) g (b + 1)) (keysIn (getD f a 0) f (a + 1)) → x ≡ keysDigits s d (elemIn g p .keys) (elemIn f q .keys)
+  unfolding elemIn
+  new-are q a p b x i j e = e ∙ rw (i, j)
+
+  pub beside-turn : (n q k p : ℕ) → 0 < n → 0 < k → (b c : ℕ) (y x t : Filter) → b ≡ elemEnd f q → c ≡ elemEnd g p
+      → y ≡ keysDigits s d (elemIn g p .keys) (elemIn f q .keys)
+      → t ≡ join x (beyond s d (elemsIn n f q) (elemsIn k g p)) → t ≡ join (join x y) (beyond s (d + 256) (elemsIn (n - 1) f b) (elemsIn (k - 1) g c))
+  unfolding beyond
+  beside-turn n q k p z w b c y x t i l j e =
+      e ∙ rw (elems-cons f n q z, elems-cons g k p w, i, l, j) (sym (join-assoc x (keysDigits s d (elemIn g p .keys) (elemIn f q .keys)) _))
+
+  -- the asked path has ended
+  pub beside-rest : (n q k p : ℕ) → 0 < n → k ≤ 0 → (y x t : Filter) → y ≡ pathDigits s d (elemsIn n f q)
+      → t ≡ join x (beyond s d (elemsIn n f q) (elemsIn k g p)) → join x y ≡ t
+  unfolding beyond
+  beside-rest n q k p z w y x t j e = sym (e ∙ ap (join x) (rest ∙ sym j))
+    where
+      rest : beyond s d (elemsIn n f q) (elemsIn k g p) ≡ pathDigits s d (elemsIn n f q)
+      rest = rw (elems-cons f n q z, elems-nil g k p w)
+
+  pub beside-end : (n q : ℕ) (p : Path) (x t : Filter) → n ≤ 0 → t ≡ join x (beyond s d (elemsIn n f q) p) → x ≡ t
+  unfolding beyond
+  beside-end n q p x t z e = sym (e ∙ rw (elems-nil f n q z) (join-none x))

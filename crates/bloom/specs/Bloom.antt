@@ -1,33 +1,67 @@
--- A Bloom filter of a path: a number with a binary digit for each of its names and one for each of its definite keys, found by a hash. A path
--- has no digit that a path beneath it lacks (proofs/Laws), so most comparisons can be left out.
-use Prim.Native.Nat.{ℕ, _+_, _*_, _/_, _%_, _^_}
+-- A Bloom filter of a path: four numbers, each with a binary digit for each of its names and one for each of its definite keys, found by a
+-- hash. Names and keys that the asked path has are left out. A path that covers the joined path of another and the asked one has no digit that
+-- the other lacks (proofs/Laws), whatever the seed of the hash is. So most comparisons can be left out.
+use Prim.Native.Nat.{ℕ, _+_, _*_, _/_, _%_, _^_, _<_}
 use mathlib.Core.List.{List, [], _∷_}
 use lib.Bits.{bitOr}
-use Rattle.text.specs.Test.{if_then_else_}
+use Rattle.text.specs.Test.{_or_, if_then_else_}
 use Rattle.text.specs.String.{Str}
 use Rattle.path.specs.Path.{Key, Elem, Path}
-use Rattle.verdict.specs.Cover.{wild}
+use Rattle.verdict.specs.Cover.{wild, holds}
+use Rattle.bloom.specs.declared.Filter.{Filter}
+use Rattle.bloom.specs.declared.seed.Seed.{Seed}
 
--- a number that equal strings share, from h on
-unfoldable pub hash : ℕ → Str → ℕ
-hash h [] = h
-hash h (b ∷ s) = hash ((h + b) * 2654435761 % 4294967296) s
+-- ---- filters
 
--- one digit of 64, by the bits of the hash from number w on
-unfoldable pub digit : ℕ → ℕ → ℕ
-digit w h = 2 ^ (h / 2 ^ w % 64)
+unfoldable pub join : Filter → Filter → Filter
+join x y = record { a = bitOr (x .a) (y .a); b = bitOr (x .b) (y .b); c = bitOr (x .c) (y .c); d = bitOr (x .d) (y .d) }
 
--- Names and keys are told apart by their element's depth, d being 256 times that.
-unfoldable pub keyBits : ℕ → ℕ → Key → ℕ
-keyBits w d k = if wild k then 0 else digit w (hash (hash d (k .name)) (k .value))
+abbrev pub none : Filter
+none = record { a = 0; b = 0; c = 0; d = 0 }
 
-unfoldable pub keysBits : ℕ → ℕ → List Key → ℕ
-keysBits w d [] = 0
-keysBits w d (k ∷ ks) = bitOr (keyBits w d k) (keysBits w d ks)
+-- ---- the hash
 
-unfoldable pub elemBits : ℕ → ℕ → Elem → ℕ
-elemBits w d e = bitOr (digit w (hash d (e .name))) (keysBits w d (e .keys))
+abbrev pub Small : Seed → Type 0
+Small s = (s .first < 2147483648) × (s .second < 2147483648)
 
-unfoldable pub bits : ℕ → ℕ → Path → ℕ
-bits w d [] = 0
-bits w d (e ∷ es) = bitOr (elemBits w d e) (bits w (d + 256) es)
+-- a number that equal strings share, from x and y on
+unfoldable pub hashFrom : Seed → ℕ → ℕ → Str → ℕ
+hashFrom s x y [] = y
+hashFrom s x y (b ∷ t) =
+    hashFrom s ((x + b) * s .first % 4294967296) ((y + (x + b) * s .first % 4294967296) * s .second % 4294967296) t
+
+unfoldable pub hash : Seed → ℕ → Str → ℕ
+hash s h t = hashFrom s h 0 t
+
+-- in each number one digit of 64, by six bits of the hash
+unfoldable pub digits : ℕ → Filter
+digits h = record {
+  a = 2 ^ (h / 2 ^ 26 % 64);
+  b = 2 ^ (h / 2 ^ 20 % 64);
+  c = 2 ^ (h / 2 ^ 14 % 64);
+  d = 2 ^ (h / 2 ^ 8 % 64);
+}
+
+-- ---- paths: depth d is 256 times the number of elements before
+
+-- a key, unless it is a wildcard or among the asked ones
+unfoldable pub keyDigits : Seed → ℕ → List Key → Key → Filter
+keyDigits s d asked k = if wild k or holds asked k then none else digits (hash s (hash s d (k .name) + 256) (k .value))
+
+unfoldable pub keysDigits : Seed → ℕ → List Key → List Key → Filter
+keysDigits s d asked [] = none
+keysDigits s d asked (k ∷ ks) = join (keyDigits s d asked k) (keysDigits s d asked ks)
+
+-- an element where nothing is asked
+unfoldable pub elemDigits : Seed → ℕ → Elem → Filter
+elemDigits s d e = join (digits (hash s d (e .name))) (keysDigits s d [] (e .keys))
+
+unfoldable pub pathDigits : Seed → ℕ → Path → Filter
+pathDigits s d [] = none
+pathDigits s d (e ∷ es) = join (elemDigits s d e) (pathDigits s (d + 256) es)
+
+-- what a path has beyond the asked one
+unfoldable pub beyond : Seed → ℕ → Path → Path → Filter
+beyond s d [] ps = none
+beyond s d (e ∷ es) [] = pathDigits s d (e ∷ es)
+beyond s d (e ∷ es) (p ∷ ps) = join (keysDigits s d (p .keys) (e .keys)) (beyond s (d + 256) es ps)

@@ -1,92 +1,184 @@
 // Bloom filters of paths, from checked path bytes.
+pub mod seed;
+
 ghost use mathlib.Core.Path.{_≡_};
 ghost use Prim.Native.Nat.{_+_, _*_, _≤_, _<_};
 ghost use lib.ListN.{length};
 ghost use Rattle.place.specs.Place.{strEnd, strIn, keyEnd, keyIn, keysEnd, keysIn, elemEnd, elemIn, elemsEnd, elemsIn};
-ghost use Rattle.bloom.specs.Bloom.{hash, digit, keyBits, keysBits, elemBits, bits};
+ghost use Rattle.bloom.specs.Bloom.{Small, none, hash, digits, join, keyDigits, keysDigits, elemDigits, pathDigits, beyond};
+use seed::Seed;
 
-pub fn hash(h: usize, s: &[u8]) -> usize
-    requires { ⌜ h < 4294967296 ⌝ }
-    ensures { λ r. ⌜ r ≡ hash h (now (s .entry)) ⌝ }
+// Four numbers, each with binary digits.
+pub struct Filter {
+    pub a: u64,
+    pub b: u64,
+    pub c: u64,
+    pub d: u64,
+}
+
+pub fn empty() -> Filter
+    ensures { λ r. ⌜ r ≡ none ⌝ }
+{
+    Filter {
+        a: 0,
+        b: 0,
+        c: 0,
+        d: 0,
+    }
+}
+
+// The digits of both.
+pub fn join(x: Filter, y: Filter) -> Filter
+    ensures { λ r. ⌜ r ≡ join x y ⌝ }
+{
+    Filter {
+        a: x.a | y.a,
+        b: x.b | y.b,
+        c: x.c | y.c,
+        d: x.d | y.d,
+    }
+}
+
+pub fn hash(s: Seed, h: usize, t: &[u8]) -> usize
+    requires { ⌜ Small s × (h < 4294967552) ⌝ }
+    ensures { λ r. ⌜ r ≡ hash s h (now (t .entry)) ⌝ }
 {
     let mut x = h;
+    let mut y = 0;
     let mut i = 0;
-    while i < s.len() {
-        let b = s[i] as usize;
-        x = (x + b) * 2654435761 % 4294967296;
+    while i < t.len() {
+        let b = t[i] as usize;
+        x = (x + b) * s.first % 4294967296;
+        y = (y + x) * s.second % 4294967296;
         i += 1;
     }
-    x
+    y
 }
 
 // The hash of the string at a position.
-pub fn hash_at(h: usize, f: &[u8], at: usize) -> usize
-    requires { ⌜ (h < 4294967296) × (strEnd (now f) at ≤ length (now f)) ⌝ }
-    ensures { λ r. ⌜ r ≡ hash h (strIn (now (f .entry)) at) ⌝ }
+pub fn hash_at(s: Seed, h: usize, f: &[u8], at: usize) -> usize
+    requires { ⌜ Small s × (h < 4294967552) × (strEnd (now f) at ≤ length (now f)) ⌝ }
+    ensures { λ r. ⌜ r ≡ hash s h (strIn (now (f .entry)) at) ⌝ }
 {
     let a = at + 1;
     let e = place::str_end(f, at);
-    hash(h, &f[a..e])
+    hash(s, h, &f[a..e])
 }
 
-pub fn digit(w: u32, h: usize) -> u64
-    requires { ⌜ w < 64 ⌝ }
-    ensures { λ r. ⌜ r ≡ digit w h ⌝ }
+pub fn digits(h: usize) -> Filter
+    ensures { λ r. ⌜ r ≡ digits h ⌝ }
 {
-    1 << ((h >> w) % 64)
+    Filter {
+        a: 1 << ((h >> 26) % 64),
+        b: 1 << ((h >> 20) % 64),
+        c: 1 << ((h >> 14) % 64),
+        d: 1 << ((h >> 8) % 64),
+    }
 }
 
-pub fn key_bits(w: u32, d: usize, f: &[u8], at: usize) -> u64
-    requires { ⌜ (w < 64) × (d < 4294967296) × (keyEnd (now f) at ≤ length (now f)) ⌝ }
-    ensures { λ r. ⌜ r ≡ keyBits w d (keyIn (now (f .entry)) at) ⌝ }
+// The key at `at` of f, unless it is a wildcard or one of the k keys at p of g.
+pub fn key_digits(s: Seed, d: usize, f: &[u8], at: usize, g: &[u8], p: usize, k: usize) -> Filter
+    requires { ⌜ Small s × (d < 65536) × (keyEnd (now f) at ≤ length (now f)) × (keysEnd k (now g) p ≤ length (now g)) ⌝ }
+    ensures { λ r. ⌜ r ≡ keyDigits s d (keysIn k (now (g .entry)) p) (keyIn (now (f .entry)) at) ⌝ }
 {
     let v = place::str_end(f, at);
     if compare::key::is_star(f, v) {
-        return 0;
+        return empty();
     }
-    let h = hash_at(d, f, at);
-    digit(w, hash_at(h, f, v))
+    if compare::key::gives(g, p, k, f, at) {
+        return empty();
+    }
+    let h = hash_at(s, d, f, at);
+    digits(hash_at(s, h + 256, f, v))
 }
 
-// Of k keys.
-pub fn keys_bits(w: u32, d: usize, f: &[u8], at: usize, k: usize) -> u64
-    requires { ⌜ (w < 64) × (d < 4294967296) × (keysEnd k (now f) at ≤ length (now f)) ⌝ }
-    ensures { λ r. ⌜ r ≡ keysBits w d (keysIn k (now (f .entry)) at) ⌝ }
+// The n keys at `at` of f.
+pub fn keys_digits(
+    s: Seed,
+    d: usize,
+    f: &[u8],
+    at: usize,
+    n: usize,
+    g: &[u8],
+    p: usize,
+    k: usize,
+) -> Filter
+    requires { ⌜ Small s × (d < 65536) × (keysEnd n (now f) at ≤ length (now f)) × (keysEnd k (now g) p ≤ length (now g)) ⌝ }
+    ensures { λ r. ⌜ r ≡ keysDigits s d (keysIn k (now (g .entry)) p) (keysIn n (now (f .entry)) at) ⌝ }
 {
-    let mut x = 0;
+    let mut x = empty();
     let mut q = at;
-    let mut left = k;
+    let mut left = n;
     while 0 < left {
-        x = x | key_bits(w, d, f, q);
+        x = join(x, key_digits(s, d, f, q, g, p, k));
         q = place::key_end(f, q);
         left -= 1;
     }
     x
 }
 
-pub fn elem_bits(w: u32, d: usize, f: &[u8], at: usize) -> u64
-    requires { ⌜ (w < 64) × (d < 4294967296) × (elemEnd (now f) at ≤ length (now f)) ⌝ }
-    ensures { λ r. ⌜ r ≡ elemBits w d (elemIn (now (f .entry)) at) ⌝ }
+// An element where nothing is asked.
+pub fn elem_digits(s: Seed, d: usize, f: &[u8], at: usize) -> Filter
+    requires { ⌜ Small s × (d < 65536) × (elemEnd (now f) at ≤ length (now f)) ⌝ }
+    ensures { λ r. ⌜ r ≡ elemDigits s d (elemIn (now (f .entry)) at) ⌝ }
 {
     let a = place::str_end(f, at);
-    let k = f[a] as usize;
-    digit(w, hash_at(d, f, at)) | keys_bits(w, d, f, a + 1, k)
+    let n = f[a] as usize;
+    let name = digits(hash_at(s, d, f, at));
+    join(name, keys_digits(s, d, f, a + 1, n, f, 0, 0))
 }
 
-// Of n elements.
-pub fn path_bits(w: u32, f: &[u8], at: usize, n: usize) -> u64
-    requires { ⌜ (w < 64) × (n < 256) × (elemsEnd n (now f) at ≤ length (now f)) ⌝ }
-    ensures { λ r. ⌜ r ≡ bits w 0 (elemsIn n (now (f .entry)) at) ⌝ }
+// The keys of the element at `at` of f, beyond those of the element at p of g.
+pub fn new_digits(s: Seed, d: usize, f: &[u8], at: usize, g: &[u8], p: usize) -> Filter
+    requires { ⌜ Small s × (d < 65536) × (elemEnd (now f) at ≤ length (now f)) × (elemEnd (now g) p ≤ length (now g)) ⌝ }
+    ensures { λ r. ⌜ r ≡ keysDigits s d (elemIn (now (g .entry)) p .keys) (elemIn (now (f .entry)) at .keys) ⌝ }
 {
-    let mut x = 0;
-    let mut d = 0;
+    let a = place::str_end(f, at);
+    let b = place::str_end(g, p);
+    let n = f[a] as usize;
+    let k = g[b] as usize;
+    keys_digits(s, d, f, a + 1, n, g, b + 1, k)
+}
+
+// n elements where nothing is asked, the first at depth d.
+pub fn path_digits(s: Seed, d: usize, f: &[u8], at: usize, n: usize) -> Filter
+    requires { ⌜ Small s × (d + 256 * n < 65536) × (elemsEnd n (now f) at ≤ length (now f)) ⌝ }
+    ensures { λ r. ⌜ r ≡ pathDigits s d (elemsIn n (now (f .entry)) at) ⌝ }
+{
+    let mut x = empty();
+    let mut e = d;
     let mut q = at;
     let mut left = n;
     while 0 < left {
-        x = x | elem_bits(w, d, f, q);
-        d += 256;
+        x = join(x, elem_digits(s, e, f, q));
+        e += 256;
         q = place::elem_end(f, q);
         left -= 1;
+    }
+    x
+}
+
+// What the n elements at `at` of f have beyond the k at p of g.
+pub fn beyond(s: Seed, f: &[u8], at: usize, n: usize, g: &[u8], p: usize, k: usize) -> Filter
+    requires { ⌜ Small s × (n < 256) × (elemsEnd n (now f) at ≤ length (now f)) × (elemsEnd k (now g) p ≤ length (now g)) ⌝ }
+    ensures { λ r. ⌜ r ≡ beyond s 0 (elemsIn n (now (f .entry)) at) (elemsIn k (now (g .entry)) p) ⌝ }
+{
+    let mut x = empty();
+    let mut d = 0;
+    let mut q = at;
+    let mut left = n;
+    let mut c = p;
+    let mut more = k;
+    while 0 < left {
+        if more == 0 {
+            return join(x, path_digits(s, d, f, q, left));
+        }
+        x = join(x, new_digits(s, d, f, q, g, c));
+        d += 256;
+        q = place::elem_end(f, q);
+        c = place::elem_end(g, c);
+        left -= 1;
+        more -= 1;
     }
     x
 }

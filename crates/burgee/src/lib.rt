@@ -24,7 +24,7 @@ pub extern "C" fn burgee_path_read(text: &[u8], out: &mut [u8]) -> u64
 pub extern "C" fn burgee_path_write(bytes: &[u8], out: &mut [u8]) -> u64
     ensures { λ r. ⌜ (r ≡ filledWord (answer (now (out .entry)) (textFor (now (bytes .entry))))) × (now (out .exit) ≡ lent (now (out .entry)) (textFor (now (bytes .entry)))) ⌝ }
 {
-    word::of_filled(path_text::writer::write_text(bytes, out))
+    word::of_filled(path_write::write_text(bytes, out))
 }
 
 // A rule table: accepted, or refused with its first faulty line.

@@ -6,24 +6,23 @@ use table_commands::tables;
 
 // burgee table FILE
 fn table() {
-    let fd = input::open(2);
-    if fd < 0 {
-        return;
-    }
     let mut text = io::large_buffer();
-    let n = io::read_full(fd, &mut text);
-    tables::check(&text[..n]);
+    let got = input::file(2, &mut text);
+    let n = got.count;
+    if got.is_good {
+        tables::check(&text[..n]);
+    }
 }
 
 // burgee show|pack FILE
 fn convert(is_pack: bool) {
-    let fd = input::open(2);
-    if fd < 0 {
-        return;
-    }
     // A readable text has at most 131,072 bytes.
     let mut text = [0u8; 131073];
-    let n = io::read_full(fd, &mut text);
+    let got = input::file(2, &mut text);
+    let n = got.count;
+    if !got.is_good {
+        return;
+    }
     if is_pack {
         readable_commands::pack_table(&text[..n]);
     } else {
@@ -33,85 +32,74 @@ fn convert(is_pack: bool) {
 
 // burgee policy FILE
 fn policy() {
-    let fd = input::open(2);
-    if fd < 0 {
-        return;
-    }
     let mut text = io::large_buffer();
-    let n = io::read_full(fd, &mut text);
-    policy_commands::check(&text[..n]);
-}
-
-fn judge_rpc(headers: &[u8]) {
-    let fd = input::open(2);
-    if fd < 0 {
-        return;
+    let got = input::file(2, &mut text);
+    let n = got.count;
+    if got.is_good {
+        policy_commands::check(&text[..n]);
     }
-    let mut identity = io::buffer();
-    let i = os::arg(3, &mut identity);
-    let mut path = io::buffer();
-    let p = os::arg(4, &mut path);
-    let mut text = io::large_buffer();
-    let n = io::read_full(fd, &mut text);
-    policy_commands::rpcs::verdict(&text[..n], &identity[..i], &path[..p], headers);
 }
 
 // burgee rpc FILE IDENTITY PATH [HEADERS-FILE]
 fn rpc(words: usize) {
-    if words == 5 {
-        judge_rpc(b"");
-        return;
-    }
-    let fd = input::open(5);
-    if fd < 0 {
-        return;
-    }
+    let mut text = io::large_buffer();
+    let got = input::file(2, &mut text);
+    let n = got.count;
     let mut headers = io::large_buffer();
-    let n = io::read_full(fd, &mut headers);
-    judge_rpc(&headers[..n]);
+    let also = policy_commands::rpcs::headers(5, words, &mut headers);
+    let h = also.count;
+    let mut identity = io::buffer();
+    let i = input::word(3, &mut identity);
+    let mut path = io::buffer();
+    let p = input::word(4, &mut path);
+    if got.is_good & also.is_good {
+        policy_commands::rpcs::verdict(&text[..n], &identity[..i], &path[..p], &headers[..h]);
+    }
 }
 
 // burgee groups FILE USER
 fn groups() {
-    let fd = input::open(2);
-    if fd < 0 {
-        return;
-    }
     let mut user = io::buffer();
-    let u = os::arg(3, &mut user);
+    let u = input::word(3, &mut user);
     let mut text = io::large_buffer();
-    let n = io::read_full(fd, &mut text);
-    tables::groups(&text[..n], &user[..u]);
+    let got = input::file(2, &mut text);
+    let n = got.count;
+    if got.is_good {
+        tables::groups(&text[..n], &user[..u]);
+    }
+}
+
+// Commands are numbered as in `main`.
+fn judge(command: usize, text: &mut [u8], user: &[u8], mode: u32, origin: &[u8], path: &[u8]) {
+    match command {
+        7 => tables::verdict(text, user, mode, origin, path),
+        8 => tables::tree(text, user, mode, origin, path),
+        _ => explanation::all(text, user, mode, origin, path),
+    }
 }
 
 // burgee verdict|tree|explain FILE USER read|write ORIGIN PATH
-fn verdict(command: &[u8]) {
-    let mut word = io::buffer();
-    let w = os::arg(4, &mut word);
-    let mode = input::mode(&word[..w]);
-    if mode == 0 {
-        console::say::usage(b"the mode is read or write");
-        return;
-    }
-    let fd = input::open(2);
-    if fd < 0 {
-        return;
-    }
+fn verdict(command: usize) {
     let mut user = io::buffer();
-    let u = os::arg(3, &mut user);
+    let u = input::word(3, &mut user);
+    let mut mode = io::buffer();
+    let m = input::word(4, &mut mode);
     let mut origin = io::buffer();
-    let o = os::arg(5, &mut origin);
+    let o = input::word(5, &mut origin);
     let mut path = io::large_buffer();
-    let p = os::arg(6, &mut path);
+    let p = input::word(6, &mut path);
     let mut text = io::large_buffer();
-    let n = io::read_full(fd, &mut text);
-    if text::string::is_same(command, b"tree") {
-        tables::tree(&text[..n], &user[..u], mode, &origin[..o], &path[..p]);
-        return;
-    }
-    tables::verdict(&text[..n], &user[..u], mode, &origin[..o], &path[..p]);
-    if text::string::is_same(command, b"explain") {
-        explanation::rest(&mut text[..n], &user[..u], mode, &origin[..o], &path[..p]);
+    let got = input::file(2, &mut text);
+    let n = got.count;
+    if got.is_good {
+        judge(
+            command,
+            &mut text[..n],
+            &user[..u],
+            input::mode(&mode[..m]),
+            &origin[..o],
+            &path[..p],
+        );
     }
 }
 
@@ -119,11 +107,11 @@ fn verdict(command: &[u8]) {
 // burgee path write BYTES
 fn path() {
     let mut word = io::buffer();
-    let w = os::arg(2, &mut word);
+    let w = input::word(2, &mut word);
     let mode = input::mode(&word[..w]);
     // What stands after the argument is LF, which ends a line of digits.
     let mut given = [10u8; 65536];
-    let n = os::arg(3, &mut given);
+    let n = input::word(3, &mut given);
     if mode == 1 {
         paths::read(&given[..n]);
         return;
@@ -136,54 +124,63 @@ fn path() {
 }
 
 // burgee rotate STEP RECORD STORE ..
-fn rotate(words: usize) -> bool {
+fn rotate(words: usize) {
     let mut step = io::buffer();
-    let s = os::arg(2, &mut step);
-    rotation_commands::steps::run(&step[..s], words)
+    let s = input::word(2, &mut step);
+    if !rotation_commands::steps::run(&step[..s], words) {
+        console::say::misuse(b"rotate");
+    }
 }
 
-// burgee help COMMAND
+// burgee help [COMMAND]
 fn explain_use() {
     let mut word = io::buffer();
-    let w = os::arg(2, &mut word);
-    help::on(&word[..w]);
+    let w = input::word(2, &mut word);
+    if !help::on(&word[..w]) {
+        console::say::usage(b"no such command");
+    }
 }
 
-// The command, if it is one and has the arguments that it takes.
-fn run(command: &[u8], words: usize) -> bool {
-    let is_pack = text::string::is_same(command, b"pack");
-    let is_verdict = text::string::is_same(command, b"verdict")
-        | text::string::is_same(command, b"tree")
-        | text::string::is_same(command, b"explain");
-    if text::string::is_same(command, b"table") & (words == 3) {
-        table();
-    } else if (is_pack | text::string::is_same(command, b"show")) & (words == 3) {
-        convert(is_pack);
-    } else if text::string::is_same(command, b"policy") & (words == 3) {
-        policy();
-    } else if text::string::is_same(command, b"groups") & (words == 4) {
-        groups();
-    } else if text::string::is_same(command, b"path") & (words == 4) {
-        path();
-    } else if is_verdict & (words == 7) {
-        verdict(command);
-    } else if text::string::is_same(command, b"rpc") & ((words == 5) | (words == 6)) {
-        rpc(words);
-    } else if text::string::is_same(command, b"rotate") {
-        return rotate(words);
-    } else if text::string::is_same(command, b"help") {
-        explain_use();
-    } else {
-        return false;
+// Whether a command takes that many words; how many a rotation takes, its step says.
+fn takes(command: usize, words: usize) -> bool {
+    match command {
+        1 | 2 | 3 | 4 => words == 3,
+        5 | 6 => words == 4,
+        7 | 8 | 9 => words == 7,
+        10 => (words == 5) | (words == 6),
+        11 => true,
+        _ => words < 4,
     }
-    true
+}
+
+fn run(command: usize, words: usize) {
+    match command {
+        1 => table(),
+        2 => convert(false),
+        3 => convert(true),
+        4 => policy(),
+        5 => groups(),
+        6 => path(),
+        7 | 8 | 9 => verdict(command),
+        10 => rpc(words),
+        11 => rotate(words),
+        _ => explain_use(),
+    }
 }
 
 fn main() {
     let mut word = io::buffer();
-    let w = os::arg(1, &mut word);
+    let w = input::word(1, &mut word);
     let n = os::arg_count();
-    if !run(&word[..w], n) {
-        console::say::usage(b"no such command, or not the arguments that it takes");
+    let command = console::lines::place(
+        b"table\nshow\npack\npolicy\ngroups\npath\nverdict\ntree\nexplain\nrpc\nrotate\nhelp\n",
+        &word[..w],
+    );
+    if command == 0 {
+        console::say::usage(b"no such command");
+    } else if takes(command, n) {
+        run(command, n);
+    } else {
+        console::say::misuse(&word[..w]);
     }
 }

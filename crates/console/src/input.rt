@@ -1,21 +1,65 @@
 // Arguments, and files by name or standard input.
+ghost use Rattle.io.specs.Counts.{Counts};
 
-// A descriptor of the file that argument i names, 0 for `-`; or -1, after a complaint.
-pub fn open(i: usize) -> i32 {
-    let mut name = io::buffer();
-    let n = os::arg(i, &mut name);
-    if os::errno() != 0 {
-        crate::say::usage(b"the file's name is missing or too long");
-        return -1;
+// Puts argument i at the start of buf and answers its length. One that is longer than buf fills it: it is longer than any call allows.
+pub fn word(i: usize, buf: &mut [u8]) -> usize
+    ensures { λ r. ⌜ Counts r (now (buf .exit)) ⌝ }
+{
+    let n = os::arg(i, buf);
+    if os::errno() == libc::ENAMETOOLONG {
+        return buf.len();
     }
-    if text::string::is_same(&name[..n], b"-") {
+    n
+}
+
+// n, which is no more than buf holds.
+pub fn within(n: usize, buf: &[u8]) -> usize
+    ensures { λ r. ⌜ Counts r (now (buf .entry)) ⌝ }
+{
+    if n <= buf.len() { n } else { buf.len() }
+}
+
+// A descriptor of the file of that name, 0 for `-`; or -1, after a complaint.
+fn open(name: &[u8]) -> i32 {
+    if text::string::is_same(name, b"-") {
         return 0;
     }
-    let fd = os::open_read(&name[..n]);
+    let fd = os::open_read(name);
     if fd < 0 {
-        os::fail(&name[..n]);
+        crate::say::failure(name);
     }
     fd
+}
+
+// How many bytes were read, and whether that went well.
+pub struct Read {
+    pub is_good: bool,
+    pub count: usize,
+}
+
+// Puts what the file holds that argument i names, or standard input for `-`, at the start of buf, as far as there is room; or complains.
+pub fn file(i: usize, buf: &mut [u8]) -> Read
+    ensures { λ r. ⌜ Counts (r .count) (now (buf .exit)) ⌝ }
+{
+    let mut name = io::buffer();
+    let n = os::arg(i, &mut name);
+    let fd = open(&name[..n]);
+    if fd < 0 {
+        return Read {
+            is_good: false,
+            count: 0,
+        };
+    }
+    let count = io::read_full(fd, buf);
+    // `arg` made errno 0, and so it stays where nothing fails.
+    let is_good = os::errno() == 0;
+    if !is_good {
+        crate::say::failure(&name[..n]);
+    }
+    Read {
+        is_good: is_good,
+        count: count,
+    }
 }
 
 // 1 for read, 2 for write, 0 for anything else.
@@ -35,12 +79,12 @@ pub fn save(i: usize, bytes: &[u8]) -> bool {
     let n = os::arg(i, &mut name);
     let fd = os::open_overwrite(&name[..n]);
     if fd < 0 {
-        os::fail(&name[..n]);
+        crate::say::failure(&name[..n]);
         return false;
     }
     let is_written = io::write_all(fd, bytes);
     if !is_written {
-        os::fail(&name[..n]);
+        crate::say::failure(&name[..n]);
     }
     libc::close(fd);
     is_written

@@ -1,5 +1,6 @@
 // What the command line reads and prints: files by name, facts, refusals in words.
 pub mod input;
+pub mod lines;
 pub mod refusal;
 pub mod rows;
 pub mod say;

@@ -1,46 +1,41 @@
 // Refusals in words.
-ghost use Prim.Native.Nat.{_≤_};
-ghost use lib.ListN.{length};
 
-// What a number means.
+// Prints what a number means.
 fn meaning(number: u8) {
-    match number {
-        1 => show::line(b"the table text is over 32,768 bytes"),
-        2 => show::line(b"not a hex line: an even, nonzero count of digits 0-9a-f, then LF"),
-        3 => show::line(b"unknown kind or code byte, or the frame is too short or too long"),
-        4 => show::line(b"order of kinds: one version line first, then groups, members, rules"),
-        5 => show::line(b"a limit passed, or an empty string that may not be empty"),
-        6 => show::line(b"a byte outside its set"),
-        7 => show::line(b"a wildcard misplaced, or an element named ..."),
-        8 => show::line(b"group name, member in a group, rule id, or key in an element twice"),
-        9 => show::line(b"the group is not listed"),
-        11 => show::line(b"the store is shorter than 65,536 bytes"),
-        12 => show::line(b"a rotation is on already"),
-        13 => show::line(b"no rotation is on"),
-        14 => show::line(b"there is no candidate"),
-        15 => show::line(
-            b"not a record: its kind, its slot, a length, or a candidate while no rotation is on",
-        ),
-        16 => show::line(b"the record is of the other kind"),
-        20 => show::line(b"user or mode not as a table allows"),
-        21 => show::line(b"origin not as a table allows"),
-        22 => show::line(b"not a path: path text, or path bytes"),
-        23 => show::line(b"the result does not fit the buffer"),
-        30 => show::line(b"the policy is over 16,384 bytes"),
-        31 => show::line(b"not one JSON value, in printable bytes, nested to depth 16 at most"),
-        32 => show::line(b"a member name twice in one object"),
-        33 => show::line(b"not the schema of a policy"),
-        34 => show::line(b"a backslash in a string"),
-        35 => show::line(b"a limit passed, or empty where that is not allowed"),
-        36 => show::line(b"an asterisk elsewhere than at one end of a pattern"),
-        37 => show::line(b"a barred or ill-spelt header key"),
-        38 => show::line(b"a rule name twice in a list"),
-        40 => show::line(b"identity or path over 256 bytes, or a byte of it does not print"),
-        41 => show::line(
-            b"header lines ill-formed, over 8,192 bytes together, or a byte of a value does not print",
-        ),
-        _ => show::line(b"unknown refusal number"),
-    }
+    let key = [48 + number / 10 % 10, 48 + number % 10, b' '];
+    crate::lines::entry(
+        b"01 the table text is over 32,768 bytes\n\
+        02 not a hex line: an even, nonzero count of digits 0-9a-f, then LF\n\
+        03 unknown kind or code byte, or the frame is too short or too long\n\
+        04 order of kinds: one version line first, then groups, members, rules\n\
+        05 a limit passed, or an empty string that may not be empty\n\
+        06 a byte outside its set\n\
+        07 a wildcard misplaced, or an element named ...\n\
+        08 group name, member in a group, rule id, or key in an element twice\n\
+        09 the group is not listed\n\
+        11 the store is shorter than 65,536 bytes\n\
+        12 a rotation is on already\n\
+        13 no rotation is on\n\
+        14 there is no candidate\n\
+        15 not a record: its kind, its slot, a length, or a candidate while no rotation is on\n\
+        16 the record is of the other kind\n\
+        20 user or mode not as a table allows\n\
+        21 origin not as a table allows\n\
+        22 not a path: path text, or path bytes\n\
+        23 the result does not fit the buffer\n\
+        30 the policy is over 16,384 bytes\n\
+        31 not one JSON value, in printable bytes, nested to depth 16 at most\n\
+        32 a member name twice in one object\n\
+        33 not the schema of a policy\n\
+        34 a backslash in a string\n\
+        35 a limit passed, or empty where that is not allowed\n\
+        36 an asterisk elsewhere than at one end of a pattern\n\
+        37 a barred or ill-spelt header key\n\
+        38 a rule name twice in a list\n\
+        40 identity or path over 256 bytes, or a byte of it does not print\n\
+        41 header lines ill-formed, over 8,192 bytes together, or a byte of a value does not print\n",
+        &key,
+    );
 }
 
 // `refused N: what it means`, or `refused N at line L: what it means` where the refusal carries a line.
@@ -55,35 +50,11 @@ pub fn at(number: u8, line: usize) {
     meaning(number);
 }
 
-// Where line n begins, counted from 1.
-fn line_start(text: &[u8], n: usize) -> usize
-    ensures { λ r. ⌜ r ≤ length (now (text .entry)) ⌝ }
-{
-    let mut at = 0;
-    let mut left = n;
-    while 1 < left {
-        if text.len() <= at {
-            return at;
-        }
-        at = crate::rows::next(text, at);
-        left -= 1;
-    }
-    at
-}
-
-// Prints the line at `at`, without its LF.
-fn quote_at(text: &[u8], at: usize)
-    requires { ⌜ at ≤ length (now text) ⌝ }
-{
-    let end = path_text::reader::find(text, at, 10, 10);
-    crate::say::quote(&text[at..end]);
-}
-
 // Prints a line of a text; there is no line 0.
 pub fn quote_line(text: &[u8], line: usize) {
     if line != 0 {
         show::word(b"line: ");
-        quote_at(text, line_start(text, line));
+        crate::lines::quote(text, line);
     }
 }
 

@@ -16,7 +16,7 @@ pub fn all() {
         burgee policy FILE\n\
         burgee rpc FILE IDENTITY PATH [HEADERS-FILE]\n\
         burgee rotate STEP RECORD STORE ..\n\
-        burgee help COMMAND\n\
+        burgee help [COMMAND]\n\
         \n\
         A FILE named - is standard input. Each line of an answer is one fact.\n\
         The exit status is 0 for an answer, 1 for a refusal, 2 for a call that is not understood.\n",
@@ -62,12 +62,12 @@ fn groups() {
         1,
         b"burgee groups FILE USER\n\
         \n\
-        How many groups of a rule table list the user, and the first of them.\n\
+        How many groups of a rule table list the user, and the number and name of each.\n\
         \n\
         $ burgee groups examples/files/yard.table stevie\n\
         groups 2\n\
-        first 0\n\
-        name admin\n",
+        group 0 admin\n\
+        group 1 engineers\n",
     );
 }
 
@@ -183,11 +183,13 @@ fn rotate() {
         burgee rotate upload RECORD STORE FILE\n\
         burgee rotate verdict RECORD STORE USER read|write ORIGIN PATH\n\
         burgee rotate tree RECORD STORE USER read|write ORIGIN PATH\n\
+        burgee rotate rpc RECORD STORE IDENTITY PATH [HEADERS-FILE]\n\
         burgee rotate finalize RECORD STORE\n\
         burgee rotate close RECORD STORE\n\
         \n\
         A rotation tried by hand. RECORD and STORE are files that new makes; each step prints what the record then says.\n\
-        The verdicts are on what is in force: the candidate, else the live text, else factory, which denies all.\n\
+        A verdict, a tree answer or an RPC is judged on what is in force: the candidate, else the live text, else factory,\n\
+        which denies all (table) or permits all (policy).\n\
         \n\
         $ burgee rotate new target/help.record target/help.store table\n\
         kind table\n\
@@ -196,33 +198,45 @@ fn rotate() {
         rotation off\n\
         candidate none\n\
         $ burgee rotate finalize target/help.record target/help.store\n\
-        refused 13: no rotation is on\n",
+        refused 13: no rotation is on\n\
+        $ burgee rotate new target/help.record target/help.store policy | head -n 1\n\
+        kind policy\n\
+        $ burgee rotate rpc target/help.record target/help.store '' /gnmi.gNMI/Get\n\
+        permit\n\
+        factory\n\
+        $ burgee rotate start target/help.record target/help.store | tail -n 2\n\
+        rotation on\n\
+        candidate none\n\
+        $ burgee rotate upload target/help.record target/help.store examples/files/yard.json | tail -n 1\n\
+        candidate 525\n\
+        $ burgee rotate rpc target/help.record target/help.store spiffe://yard/dryer /gnoi.system.System/Reboot\n\
+        deny\n\
+        list deny_rules\n\
+        rule 0\n",
     );
 }
 
-// One command's help, or all of it where there is no such command.
-pub fn on(command: &[u8]) {
-    if text::string::is_same(command, b"table") {
-        table();
-    } else if text::string::is_same(command, b"show") | text::string::is_same(command, b"pack") {
-        conversion();
-    } else if text::string::is_same(command, b"groups") {
-        groups();
-    } else if text::string::is_same(command, b"verdict") {
-        verdict();
-    } else if text::string::is_same(command, b"tree") {
-        tree();
-    } else if text::string::is_same(command, b"explain") {
-        explain();
-    } else if text::string::is_same(command, b"path") {
-        path();
-    } else if text::string::is_same(command, b"policy") {
-        policy();
-    } else if text::string::is_same(command, b"rpc") {
-        rpc();
-    } else if text::string::is_same(command, b"rotate") {
-        rotate();
-    } else {
-        all();
+// One command's help, or all of it; false where there is no such command.
+pub fn on(command: &[u8]) -> bool {
+    let page = console::lines::place(
+        b"table\nshow\npack\ngroups\nverdict\ntree\nexplain\npath\npolicy\nrpc\nrotate\nhelp\n\n",
+        command,
+    );
+    match page {
+        0 => {
+            return false;
+        }
+        1 => table(),
+        2 | 3 => conversion(),
+        4 => groups(),
+        5 => verdict(),
+        6 => tree(),
+        7 => explain(),
+        8 => path(),
+        9 => policy(),
+        10 => rpc(),
+        11 => rotate(),
+        _ => all(),
     }
+    true
 }

@@ -1,25 +1,25 @@
 -- Path bytes: what is read is written back the same, and what is written is read.
 use mathlib.Core.Path.{_≡_, refl, sym, ap, _∙_}
-use mathlib.Core.Bool.{Bool, true, false}
+use mathlib.Core.Bool.{true}
 use mathlib.Core.List.{List, [], _∷_, _++_, append-assoc, append-nil}
-use mathlib.Core.Option.{Option, none, some}
-use Prim.Native.Nat.{ℕ, zero, suc, _+_, _-_, _≤_, _<_}
+use mathlib.Core.Option.{some}
+use Prim.Native.Nat.{ℕ, _+_, _-_}
 use native.Mathlib.Omega.{arith}
 use borrow.Author.Tests.{eqb-true, eq-eqb}
 use lib.Dec.{eqb}
 use lib.ListN.{length, drop, length-drop}
 use lib.Seq.{drop-length}
-use Rattle.text.specs.Test.{_and_, if_then_else_}
+use Rattle.text.specs.Test.{_and_, if_then_else_, twice}
 use Rattle.text.specs.String.{Str, joined}
 use Rattle.text.specs.Frame.{Parsed, got, unread, andThen, _>>=_, ret, byte, string, stringBytes, times}
-use Rattle.text.proofs.Tests.{by, and-l, and-r, both, clash}
+use Rattle.text.proofs.Tests.{by, and-l, and-r, both}
 use Rattle.text.proofs.Frames.{times-length}
 use Rattle.text.proofs.Codec.{then-got, got-move, Took, took-both, byte-took, string-took, times-took, Gives, then-gives, byte-gives, string-gives, times-gives}
 use Rattle.path.specs.Path.{Key, Elem, Path}
 use Rattle.path.specs.Bytes.{key, element, path, counted, keyBytes, elemBytes, pathBytes}
-use Rattle.path.specs.Faults.{goodPath}
+use Rattle.path.specs.Faults.{sameName, goodPath}
 use Rattle.path.specs.Spells.{Spells, Reads, whole, readBytes}
-use Rattle.path.specs.Walk.{isPath, isPathIn}
+use Rattle.path.specs.Walk.{twiceIn}
 
 key-open : (f : List ℕ) (at : ℕ) → key f at ≡ andThen (string f at) (λ n p. andThen (string f p) (λ v q. got (record { name = n; value = v }) q))
 unfolding key _>>=_ ret
@@ -94,6 +94,13 @@ module _ (f : List ℕ) where
       rw (path-open f at)
       (then-gives (byte f at) _ f (length p) _ _ _ (byte-gives f at _ _ e) (λ q i. times-gives element elemBytes f element-gives p q rest i))
 
+-- whether two keys have the same name is told by their bytes
+pub twice-bytes : (ks : List Key) → twiceIn (times (length ks) key (joined keyBytes ks) 0) ≡ twice sameName ks
+unfolding twiceIn
+twice-bytes ks =
+    let f = joined keyBytes ks in
+    rw (times-gives key keyBytes f (key-gives f) ks 0 [] (sym (append-nil f)) .1)
+
 -- ---- both
 
 whole-got : (s : Str) (p q : Path) (t : ℕ) → whole s (got q t) ≡ some p → (q ≡ p) × (t ≡ length s) × (goodPath p ≡ true)
@@ -133,10 +140,6 @@ bytes-whole p =
     let l : length s - g .0 ≡ 0 = sym (length-drop (g .0) s) ∙ ap length (g .2) in
     let t : g .0 ≡ length s = omega (arith, w .fits) in
     g .1 ∙ ap (got p) t
-
-pub bytes-are-path : (p : Path) → isPath (pathBytes p) ≡ goodPath p
-unfolding isPath isPathIn _and_
-bytes-are-path p = rw (bytes-whole p, eq-eqb (length (pathBytes p)) (length (pathBytes p)) refl)
 
 -- path bytes are read to a path exactly where they are that good path's
 pub bytes-reader : Reads pathBytes readBytes

@@ -22,7 +22,7 @@ outside true b p q e f = rw e (or-ends (isName b || eqb b 42))
     or-ends false = refl
 outside false b p q e f = rw f
 
-size : (s : Str) → unsizedBy (length s) ≡ unsized s
+pub size : (s : Str) → unsizedBy (length s) ≡ unsized s
 unfolding unsized _or_
 size s = refl
 

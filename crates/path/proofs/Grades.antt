@@ -3,18 +3,19 @@ use mathlib.Core.Path.{_≡_, refl, sym, ap, _∙_}
 use mathlib.Core.Bool.{Bool, true, false, not, _||_}
 use mathlib.Core.List.{List, [], _∷_}
 use Prim.Native.Nat.{ℕ, min, _≤_, _<_}
-use native.Mathlib.Nat.{min-eq-left, min-eq-right, min-le-left, min-le-right, le-min}
+use native.Mathlib.Nat.{min-eq-left, min-eq-right, min-le-left}
 use native.Mathlib.Omega.{arith}
-use borrow.Author.Tests.{leb-true, leb-false, eq-eqb, ne-eqb}
+use borrow.Author.Tests.{leb-true, leb-false, eqb-true, ne-eqb, le-ltb}
 use lib.Dec.{leb, ltb, eqb}
 use lib.ListN.{length}
-use Rattle.text.specs.Test.{_and_, _or_, if_then_else_, any, twice}
-use Rattle.text.specs.String.{Str}
+use Rattle.text.specs.Test.{_and_, _or_, if_then_else_, all, any, twice}
+use Rattle.text.specs.Byte.{isName, isStar}
+use Rattle.text.specs.String.{Str, bytes, same}
 use Rattle.text.specs.Refusal.{_when_else_, clear}
 use Rattle.text.proofs.Tests.{by, or-assoc, or-none}
 use Rattle.path.specs.Path.{Key, Elem, Path}
 use Rattle.path.specs.Faults.{unsized, keyOver, elemOver, overLimit, outsideName, outsideValue, keyStray, elemStray, strayByte, starred, halfWild, keyMisplaced, elemMisplaced, misplaced, sameName, keyTwice, grade, pathRefusal, goodPath}
-use Rattle.path.specs.Walk.{nameGrade, elemNameGrade, valueGrade, keyGrade, keysGrade, elemGrade, elemsGrade}
+use Rattle.path.specs.Walk.{nameGrade, elemNameGrade, valueGrade, keyGrade, keysGrade, elemGrade, elemsGrade, aloneGrade, good}
 
 -- ---- min
 
@@ -139,3 +140,165 @@ path-grade p = sym (grade-merge (ltb 16 (length p)) false false false (any elemO
 pub path-clear : (p : Path) → eqb (pathRefusal p) 255 ≡ goodPath p
 unfolding pathRefusal goodPath
 path-clear p = grade-clear (overLimit p) (strayByte p) (misplaced p) (keyTwice p)
+
+-- ---- parts that get no number
+
+name-high : (s : Str) → nameGrade s ≤ 255
+unfolding nameGrade
+name-high s = grade-high _ _ _ _
+
+elem-name-high : (s : Str) → elemNameGrade s ≤ 255
+unfolding elemNameGrade
+elem-name-high s = grade-high _ _ _ _
+
+value-high : (s : Str) → valueGrade s ≤ 255
+unfolding valueGrade
+value-high s = grade-high _ _ _ _
+
+key-high : (n v : Str) (again : Bool) → keyGrade n v again ≤ 255
+unfolding keyGrade
+key-high n v again = grade-high _ _ _ _
+
+pub keys-high : (ks : List Key) → keysGrade ks ≤ 255
+unfolding keysGrade
+keys-high ks = grade-high _ _ _ _
+
+elem-high : (e : Elem) → elemGrade e ≤ 255
+unfolding elemGrade
+elem-high e = grade-high _ _ _ _
+
+pub elems-high : (es : List Elem) → elemsGrade es ≤ 255
+unfolding elemsGrade
+elems-high es = grade-high _ _ _ _
+
+pub keys-none : keysGrade [] ≡ 255
+unfolding keysGrade grade any twice if_then_else_
+keys-none = refl
+
+pub elems-none : elemsGrade [] ≡ 255
+unfolding elemsGrade grade any if_then_else_
+elems-none = refl
+
+-- two get no number where neither does
+clear-min : (a b : ℕ) → a ≤ 255 → b ≤ 255 → eqb (min a b) 255 ≡ (eqb a 255 and eqb b 255)
+unfolding _and_
+clear-min a b h l =
+    by (eqb a 255)
+    (λ u. let k : b ≤ a = omega (arith, eqb-true a 255 u) in rw (u, min-eq-right k))
+    (λ u. by (leb a b)
+    (λ e. rw (min-eq-left (leb-true a b e), u))
+    (λ e. let k : b < a = leb-false a b e in
+    let j : b ≤ a = omega arith in
+    let m : eqb b 255 ≡ false = ne-eqb b 255 (λ z. omega arith) in
+    rw (min-eq-right j, u) m))
+
+last-clear : (a b c d : Bool) → not (a or b or c or d) ≡ (not (a or b or c or false) and not d)
+unfolding _or_ _and_
+last-clear true b c d = refl
+last-clear false true c d = refl
+last-clear false false true d = refl
+last-clear false false false true = refl
+last-clear false false false false = refl
+
+-- a byte that no name has
+abbrev pub strange : ℕ → Bool
+strange b = not (isName b)
+
+strange-flags : (n : Bool) → (not (n || false) or false) ≡ not n
+unfolding _or_
+strange-flags true = refl
+strange-flags false = refl
+
+strange-byte : (b : ℕ) → (outsideName b or isStar b) ≡ strange b
+unfolding outsideName _or_
+strange-byte b =
+    by (isStar b)
+    (λ u. let z : b ≡ 42 = eqb-true b 42 u in rw z)
+    (λ u. rw u (strange-flags (isName b)))
+
+or-swap : (p q r t : Bool) → ((p or q) or (r or t)) ≡ ((p or r) or (q or t))
+unfolding _or_
+or-swap true q r t = refl
+or-swap false true true t = refl
+or-swap false true false t = refl
+or-swap false false r t = refl
+
+any-either : (f g h : ℕ → Bool) → ((b : ℕ) → (f b or g b) ≡ h b) → (s : Str) → (any f s or any g s) ≡ any h s
+unfolding any
+any-either f g h e [] = or-none false
+any-either f g h e (b ∷ s) = or-swap (f b) (any f s) (g b) (any g s) ∙ rw (e b, any-either f g h e s)
+
+-- a good name
+pub name-good : (s : Str) → good nameGrade s ≡ not (unsized s or any strange s)
+unfolding nameGrade
+name-good s =
+    let e : (unsized s or any outsideName s or starred s or false) ≡ (unsized s or any strange s) = rw (or-none (starred s), any-either outsideName isStar strange strange-byte s) in
+    grade-clear (unsized s) (any outsideName s) (starred s) false ∙ ap not e
+
+pub elem-name-good : (s : Str) → good elemNameGrade s ≡ (good nameGrade s and not (same s (bytes "...")))
+unfolding elemNameGrade nameGrade
+elem-name-good s =
+    rw (
+      grade-clear (unsized s) (any outsideName s) (starred s or same s (bytes "...")) false,
+      grade-clear (unsized s) (any outsideName s) (starred s) false,
+      or-assoc (starred s) (same s (bytes "...")) false,
+      or-none (same s (bytes "...")),
+    )
+    (last-clear (unsized s) (any outsideName s) (starred s) _)
+
+-- a good key
+pub key-good : (k : Key) → good aloneGrade k ≡ (good nameGrade (k .name) and good valueGrade (k .value))
+unfolding aloneGrade keyGrade nameGrade valueGrade _or_
+key-good k =
+    ap (λ (n : ℕ). eqb n 255)
+    (sym (grade-merge (unsized (k .name)) (any outsideName (k .name)) (starred (k .name)) false (unsized (k .value)) (any outsideValue (k .value)) (halfWild (k .value)) false))
+    ∙ clear-min _ _ (name-high (k .name)) (value-high (k .value))
+
+again-good : (k : Key) (again : Bool) → eqb (keyGrade (k .name) (k .value) again) 255 ≡ (good aloneGrade k and not again)
+unfolding aloneGrade keyGrade
+again-good k again =
+    grade-clear _ _ _ again ∙ last-clear _ _ _ again ∙ ap (λ (b : Bool). b and not again) (sym (grade-clear _ _ _ false))
+
+keys-swap : (a b g t : Bool) → ((a and not g) and (b and not t)) ≡ ((a and b) and not (g or t))
+unfolding _and_ _or_
+keys-swap true true true t = refl
+keys-swap true true false t = refl
+keys-swap true false true t = refl
+keys-swap true false false t = refl
+keys-swap false b g t = refl
+
+-- good keys, no two with the same name
+pub keys-good : (ks : List Key) → good keysGrade ks ≡ (all (good aloneGrade) ks and not (twice sameName ks))
+unfolding all twice _and_
+keys-good [] = rw keys-none
+keys-good (k ∷ ks) =
+    rw (keys-grade k ks)
+    (clear-min _ _ (key-high (k .name) (k .value) _) (keys-high ks)
+    ∙ rw (again-good k (any (sameName k) ks), keys-good ks)
+    (keys-swap (good aloneGrade k) (all (good aloneGrade) ks) (any (sameName k) ks) (twice sameName ks)))
+
+over-good : (b : Bool) → eqb (grade b false false false) 255 ≡ not b
+unfolding _or_
+over-good b = let e : (b or false) ≡ b = or-none b in grade-clear b false false false ∙ ap not e
+
+-- a good element
+pub elem-good : (e : Elem) → good elemGrade e ≡ ((good elemNameGrade (e .name) and not (ltb 4 (length (e .keys)))) and good keysGrade (e .keys))
+elem-good e =
+    let n = elemNameGrade (e .name) in
+    let m = grade (ltb 4 (length (e .keys))) false false false in
+    let h : min n m ≤ 255 = omega (arith, min-le-left n m, elem-name-high (e .name)) in
+    rw (elem-grade e)
+    (clear-min (min n m) _ h (keys-high (e .keys)) ∙ rw (clear-min n m (elem-name-high (e .name)) (grade-high _ _ _ _), over-good (ltb 4 (length (e .keys)))))
+
+elems-good : (es : List Elem) → good elemsGrade es ≡ all (good elemGrade) es
+unfolding all
+elems-good [] = rw elems-none
+elems-good (e ∷ es) = rw (elems-grade e es) (clear-min _ _ (elem-high e) (elems-high es) ∙ ap (λ (b : Bool). good elemGrade e and b) (elems-good es))
+
+-- a path of good elements, at most 16, is good
+pub path-good : (p : Path) → length p ≤ 16 → goodPath p ≡ all (good elemGrade) p
+unfolding _and_
+path-good p h =
+    sym (path-clear p)
+    ∙ rw (path-grade p)
+    (clear-min _ _ (grade-high _ _ _ _) (elems-high p) ∙ rw (over-good (ltb 16 (length p)), le-ltb 16 (length p) h) (elems-good p))

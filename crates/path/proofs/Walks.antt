@@ -1,16 +1,15 @@
 -- One step of each walk over path bytes, and each way out of it.
-use mathlib.Core.Path.{_≡_, refl, sym, ap, ap₂, _∙_}
+use mathlib.Core.Path.{_≡_, refl, sym, ap, _∙_}
 use mathlib.Core.Bool.{Bool, true, false, _||_}
 use mathlib.Core.List.{List, [], _∷_}
 use Prim.Native.Nat.{ℕ, _+_, _-_, _≤_, _<_, min}
 use native.Mathlib.Nat.{min-eq-left, min-eq-right}
 use native.Mathlib.Omega.{arith}
-use borrow.Author.Tests.{eq-eqb, ne-eqb}
 use lib.Dec.{ltb, eqb}
 use lib.ListN.{length, getD}
-use Rattle.text.specs.Test.{_and_, _or_, if_then_else_, any, twice}
+use Rattle.text.specs.Test.{_and_, _or_, any, twice}
 use Rattle.text.specs.String.{Str, same}
-use Rattle.text.specs.Frame.{Parsed, got, unread, andThen, _>>=_, ret, byte, string, part, times, endOf}
+use Rattle.text.specs.Frame.{Parsed, got, unread, andThen, _>>=_, ret, string, part, times, endOf}
 use Rattle.text.specs.declared.frame.End.{End}
 use Rattle.text.specs.declared.frame.End.the-variants.{At}
 use Rattle.text.specs.declared.frame.End.the-variants as ends
@@ -18,11 +17,11 @@ use Rattle.text.proofs.Tests.{or-none}
 use Rattle.text.proofs.Frames.{byte-got, byte-unread, string-ends, string-misses, times-turn, times-unread, times-done, times-length}
 use Rattle.path.specs.Path.{Key, Elem, Path}
 use Rattle.path.specs.Bytes.{key, element, path}
-use Rattle.path.specs.Faults.{grade, pathRefusal, goodPath}
-use Rattle.path.specs.Walk.{keyGrade, keysGrade, elemNameGrade, elemGrade, elemsGrade, walked, hasName, isPath, isPathIn}
+use Rattle.path.specs.Faults.{grade, pathRefusal}
+use Rattle.path.specs.Walk.{keyGrade, keysGrade, elemNameGrade, elemGrade, elemsGrade, walked, hasName, twiceIn, isPath, isPathIn}
 use Rattle.path.specs.declared.frame.Walk.{Walk}
 use Rattle.path.specs.declared.frame.Walk.the-variants.{To, Unread}
-use Rattle.path.proofs.Grades.{min-assoc, grade-high, keys-grade, elem-grade, elems-grade, path-grade, path-clear}
+use Rattle.path.proofs.Grades.{min-assoc, keys-high, keys-none, keys-grade, elem-grade, elems-high, elems-none, elems-grade, path-grade, path-clear}
 
 -- ---- keys
 
@@ -66,6 +65,46 @@ pub has-done : (f : List ℕ) (p : ℕ) (b : Bool) (n : Str) (left : ℕ) → le
 unfolding hasName any
 has-done f p b n left z = rw (times-done key f p left z) (or-none b)
 
+-- ---- two of the keys have the same name
+
+twice-cons : (k : Key) (y : Parsed (List Key)) → twiceIn (andThen y (λ ks t. got (k ∷ ks) t)) ≡ (hasName false (k .name) y or twiceIn y)
+unfolding twiceIn hasName twice _or_
+twice-cons k (got ks t) = refl
+twice-cons k unread = refl
+
+module _ (f : List ℕ) (p : ℕ) (r : End) (e : r ≡ endOf (string f p)) (left : ℕ) where
+  module _ (m t : ℕ) (s : End) (z : 1 < left) (g : r ≡ At m) (h : s ≡ endOf (string f m)) (i : s ≡ At t) (q : Bool)
+      (j : q ≡ hasName false (part f (p + 1) m) (times (left - 1) key f t)) where
+    twice-is : twiceIn (times left key f p) ≡ (q or twiceIn (times (left - 1) key f t))
+    twice-is = rw (times-turn key f p left _ t (omega arith) (key-got f p r e m t s g h i), j) (twice-cons _ (times (left - 1) key f t))
+
+    pub twice-found : q ≡ true → twiceIn (times left key f p) ≡ true
+    unfolding _or_
+    twice-found k = twice-is ∙ rw k
+
+    pub twice-turn : q ≡ false → twiceIn (times left key f p) ≡ twiceIn (times (left - 1) key f t)
+    unfolding _or_
+    twice-turn k = twice-is ∙ rw k
+
+  pub twice-nameless : 1 < left → r ≡ ends.Unread → twiceIn (times left key f p) ≡ false
+  unfolding twiceIn
+  twice-nameless z g = rw (times-unread key f p left (omega arith) (key-nameless f p r e g))
+
+  pub twice-valueless : (m : ℕ) (s : End) → 1 < left → r ≡ At m → s ≡ endOf (string f m) → s ≡ ends.Unread → twiceIn (times left key f p) ≡ false
+  unfolding twiceIn
+  twice-valueless m s z g h i = rw (times-unread key f p left (omega arith) (key-valueless f p r e m s g h i))
+
+-- one key, or none, is not twice
+pub twice-done : (f : List ℕ) (p left : ℕ) → left ≤ 1 → twiceIn (times left key f p) ≡ false
+unfolding twiceIn twice any _or_
+twice-done f p left z = go (times left key f p) refl
+  where
+    go : (x : Parsed (List Key)) → times left key f p ≡ x → twiceIn x ≡ false
+    go (got [] t) e = refl
+    go (got (k ∷ []) t) e = refl
+    go (got (k ∷ l ∷ ks) t) e = let n = times-length key f left p _ t e in absurd (omega arith)
+    go unread e = refl
+
 -- ---- numbers on the way
 
 -- the smaller of m and what g gives
@@ -98,10 +137,6 @@ walk-cons G h c m a w i unread = refl
 
 -- ---- read_keys
 
-keys-high : (ks : List Key) → keysGrade ks ≤ 255
-unfolding keysGrade
-keys-high ks = grade-high _ _ _ _
-
 pub keys-start : (x : Parsed (List Key)) → walked keysGrade x ≡ walked (lowered 255 keysGrade) x
 keys-start = walk-start keysGrade keys-high
 
@@ -128,10 +163,6 @@ module _ (f : List ℕ) (p : ℕ) (r : End) (e : r ≡ endOf (string f p)) (m le
   pub keys-valueless : (i : ℕ) (s : End) → 0 < left → r ≡ At i → s ≡ endOf (string f i) → s ≡ ends.Unread → walked (lowered m keysGrade) (times left key f p) ≡ Unread
   unfolding walked
   keys-valueless i s z g h j = rw (times-unread key f p left z (key-valueless f p r e i s g h j))
-
-keys-none : keysGrade [] ≡ 255
-unfolding keysGrade grade any twice if_then_else_
-keys-none = refl
 
 pub keys-done : (f : List ℕ) (p m left : ℕ) → m ≤ 255 → left ≤ 0 → walked (lowered m keysGrade) (times left key f p) ≡ To m p
 unfolding walked
@@ -170,10 +201,6 @@ module _ (f : List ℕ) (at : ℕ) (r : End) (e : r ≡ endOf (string f at)) whe
 
 -- ---- read_elements
 
-elems-high : (es : List Elem) → elemsGrade es ≤ 255
-unfolding elemsGrade
-elems-high es = grade-high _ _ _ _
-
 pub elems-start : (x : Parsed (List Elem)) → walked elemsGrade x ≡ walked (lowered 255 elemsGrade) x
 elems-start = walk-start elemsGrade elems-high
 
@@ -192,10 +219,6 @@ module _ (f : List ℕ) (p : ℕ) (w : Walk) (e : w ≡ walked elemGrade (elemen
   pub elems-unread : w ≡ Unread → walked (lowered m elemsGrade) (times left element f p) ≡ Unread
   unfolding walked
   elems-unread g = rw (times-unread element f p left z (walked-not elemGrade _ (sym g ∙ e)))
-
-elems-none : elemsGrade [] ≡ 255
-unfolding elemsGrade grade any if_then_else_
-elems-none = refl
 
 pub elems-done : (f : List ℕ) (p m left : ℕ) → m ≤ 255 → left ≤ 0 → walked (lowered m elemsGrade) (times left element f p) ≡ To m p
 unfolding walked

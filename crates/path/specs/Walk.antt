@@ -8,6 +8,7 @@ use Rattle.text.specs.Test.{_and_, _or_, any, twice}
 use Rattle.text.specs.Byte.{isStar}
 use Rattle.text.specs.String.{Str, bytes, same}
 use Rattle.text.specs.Frame.{Parsed, got, unread}
+use Rattle.text.specs.Refusal.{clear}
 use Rattle.path.specs.Path.{Key, Elem, Path}
 use Rattle.path.specs.Bytes.{path}
 use Rattle.path.specs.Faults.{unsized, keyOver, elemOver, overLimit, outsideName, outsideValue, keyStray, elemStray, starred, halfWild, keyMisplaced, elemMisplaced, sameName, grade, pathRefusal, goodPath}
@@ -41,6 +42,14 @@ elemGrade e = grade (elemOver e) (elemStray e) (elemMisplaced e) (twice sameName
 unfoldable pub elemsGrade : List Elem → ℕ
 elemsGrade es = grade (any elemOver es) (any elemStray es) (any elemMisplaced es) (any (λ (e : Elem). twice sameName (e .keys)) es)
 
+-- a key by itself
+unfoldable pub aloneGrade : Key → ℕ
+aloneGrade k = keyGrade (k .name) (k .value) false
+
+-- a part that gets no number
+abbrev pub good : {A : Type 0} → (A → ℕ) → A → Bool
+good g a = eqb (g a) clear
+
 -- the number, and where reading goes on
 unfoldable pub walked : {A : Type 0} → (A → ℕ) → Parsed A → Walk
 walked g (got a t) = To (g a) t
@@ -50,6 +59,11 @@ walked g unread = Unread
 unfoldable pub hasName : Bool → Str → Parsed (List Key) → Bool
 hasName b n (got ks t) = b or any (λ (k : Key). same n (k .name)) ks
 hasName b n unread = false
+
+-- two of the keys have the same name
+unfoldable pub twiceIn : Parsed (List Key) → Bool
+twiceIn (got ks t) = twice sameName ks
+twiceIn unread = false
 
 -- the bytes are those of a good path, and nothing more
 unfoldable pub isPathIn : List ℕ → Parsed Path → Bool

@@ -4,7 +4,7 @@ ghost use mathlib.Core.Bool.{false};
 ghost use Rattle.text.specs.Frame.{times};
 ghost use Rattle.path.specs.Bytes.{key, element, path};
 ghost use Rattle.path.specs.Faults.{pathRefusal};
-ghost use Rattle.path.specs.Walk.{keysGrade, elemGrade, elemsGrade, walked, hasName, isPath};
+ghost use Rattle.path.specs.Walk.{keysGrade, elemGrade, elemsGrade, walked, hasName, twiceIn, isPath};
 use text::frame::End;
 
 pub enum Walk {
@@ -35,6 +35,31 @@ fn has_key(f: &[u8], at: usize, count: usize, name: &[u8]) -> bool
         left -= 1;
     }
     found
+}
+
+// Two of the `count` keys from `at` on have the same name. (False where they do not read.)
+pub fn has_twice(f: &[u8], at: usize, count: usize) -> bool
+    ensures { λ r. ⌜ r ≡ twiceIn (times count key (now (f .entry)) at) ⌝ }
+{
+    let mut p = at;
+    let mut left = count;
+    while 1 < left {
+        let n = text::frame::string_end(f, p);
+        let End::At(middle) = n else {
+            return false;
+        };
+        let v = text::frame::string_end(f, middle);
+        let End::At(end) = v else {
+            return false;
+        };
+        let start = p + 1;
+        left -= 1;
+        if has_key(f, end, left, &f[start..middle]) {
+            return true;
+        }
+        p = end;
+    }
+    false
 }
 
 fn key_fault(name: &[u8], value: &[u8], again: bool) -> u8

@@ -5,5 +5,5 @@ pub mod RoundTrip
 pub mod Longest
 pub mod Storing
 pub mod Reading
-pub mod Writing
+pub mod Judging
 pub mod Answers

@@ -1,7 +1,7 @@
 -- One step of each program that reads path text.
 use mathlib.Core.Path.{_≡_, refl, sym, ap, _∙_}
-use mathlib.Core.Bool.{Bool, true, false, _||_, _&&_}
-use mathlib.Core.List.{List, [], _∷_, _++_, append-assoc, append-nil}
+use mathlib.Core.Bool.{true, false, _||_, _&&_}
+use mathlib.Core.List.{List, [], _∷_}
 use Prim.Native.Nat.{ℕ, zero, suc, _+_, _-_, _≤_, _<_}
 use native.Mathlib.Numerals.{add-one}
 use native.Mathlib.Omega.{arith}
@@ -15,18 +15,16 @@ use Rattle.text.specs.Frame.{Parsed, got, unread, andThen, Reader, _>>=_, ret, 
 use Rattle.text.specs.Fill.{put, Wrote}
 use Rattle.text.proofs.Tests.{by, and-left, and-right}
 use Rattle.text.proofs.Filling.{wrote-more, wrote-byte, wrote-before}
-use Rattle.path.specs.Path.{Key, Elem, Path}
-use Rattle.path.specs.Bytes.{counted, keyBytes, elemBytes}
+use Rattle.path.specs.Bytes.{counted, keyBytes}
 use Rattle.path_text.specs.Text.{isMark}
-use Rattle.path_text.specs.TextReader.{literal, upTo, name, item, value, each, key, element}
-use Rattle.path_text.specs.Steps.{itemIn, itemOf, Within, Room, Stores, stores, nothing}
-use Rattle.path_text.specs.declared.reader.Stored.{Stored}
+use Rattle.path_text.specs.TextReader.{literal, upTo, name, item, value, each, key}
+use Rattle.path_text.specs.Steps.{itemIn, itemOf, Within, Room}
 use Rattle.path_text.specs.declared.reader.Item.{Item}
 use Rattle.path_text.specs.declared.reader.Item.the-variants as items
-use Rattle.path_text.specs.declared.reader.Stored.the-variants.{To, Unread}
+use Rattle.path_text.specs.declared.reader.Stored.the-variants.{Unread}
 use Rattle.path_text.proofs.Sound.{inside, upTo-fits, item-inside}
 use Rattle.path_text.proofs.Complete.{value-closed, value-open, each-open, each-end, each-none}
-use Rattle.path_text.proofs.Storing.{stored-to, stored-not, within-after, room-end}
+use Rattle.path_text.proofs.Storing.{room-end}
 
 -- ---- find
 
@@ -165,13 +163,6 @@ module _ (a b : ℕ) (s : Str) (at n : ℕ) (h : at ≤ length s) (e : n ≡ at 
   pub name-high : n ≤ length s
   name-high = omega (arith, upTo-fits a b (drop at s), length-drop at s)
 
-  upTo-is : upTo a b (drop at s) ≡ n - at
-  upTo-is = omega arith
-
-  pub name-long : 64 < n - at → name a b s at ≡ unread
-  unfolding name if_then_else_
-  name-long k = rw (upTo-is, lt-ltb 64 (n - at) k)
-
   pub name-got : n - at ≤ 64 → name a b s at ≡ got (part s at n) n
   unfolding name if_then_else_
   name-got k = rw (le-ltb 64 (upTo a b (drop at s)) (omega arith)) (let i : at + upTo a b (drop at s) ≡ n = omega arith in rw i)
@@ -222,10 +213,6 @@ wrote-value d to v d′ end h w =
 -- ---- read_key
 
 module _ (s : Str) (at : ℕ) where
-  pub key-nameless : name 61 61 s at ≡ unread → key s at ≡ unread
-  unfolding key _>>=_
-  key-nameless e = rw e
-
   module _ (n : Str) (m : ℕ) (e : name 61 61 s at ≡ got n m) where
     pub key-unequal : (getD s m 0 ≡ 61 → ⊥) → key s at ≡ unread
     unfolding key _>>=_ literal if_then_else_
@@ -241,17 +228,10 @@ module _ (s : Str) (at : ℕ) where
       key-got v t i = rw (e, eq-eqb _ 61 h, i)
 
 -- a name and a value, one after the other, are a key
-pub key-stores : (s : Str) (at : ℕ) (n : Str) (m : ℕ) (d : List ℕ) (to : ℕ) (d′ : List ℕ) (end : ℕ) (d″ : List ℕ) (r : Stored) → name 61 61 s at ≡ got n m → getD s m 0 ≡ 61
-    → Wrote d to (stringBytes n) d′ end → Within 65 1 s at m to end → end ≤ length d → Stores 65 1 stringBytes (value 64) s (m + 1) d′ end d″ r → Stores 130 1 keyBytes key s at d to d″ r
+pub key-wrote : (d : List ℕ) (to : ℕ) (n d′ : List ℕ) (end : ℕ) (v d″ : List ℕ) (last : ℕ) → Wrote d to (stringBytes n) d′ end → end ≤ length d → Wrote d′ end (stringBytes v) d″ last
+    → Wrote d to (keyBytes (record { name = n; value = v })) d″ last
 unfolding keyBytes
-key-stores s at n m d to d′ end d″ r e h w b room x = go r x
-  where
-    go : (q : Stored) → Stores 65 1 stringBytes (value 64) s (m + 1) d′ end d″ q → Stores 130 1 keyBytes key s at d to d″ q
-    go (To t last) y =
-        let u = stored-to y refl in
-        stores (key-got s at n m e h (u .0) t (u .1)) (wrote-more d to (stringBytes n) d′ end w (omega (arith, w .ends)) (stringBytes (u .0)) d″ last (u .2))
-        (within-after 65 1 65 1 130 1 s at m (m + 1) t to end last b (u .3) (omega arith) (omega arith))
-    go Unread y = nothing (key-valueless s at n m e h (stored-not y refl))
+key-wrote d to n d′ end v d″ last w h x = wrote-more d to (stringBytes n) d′ end w (omega (arith, w .ends)) (stringBytes v) d″ last x
 
 -- ---- read_keys, read_elements
 
@@ -289,30 +269,3 @@ pub wrote-counted : {A : Type 0} (w : A → Str) (d : List ℕ) (to : ℕ) (xs :
     → Wrote d (to + 1) (joined w xs) d′ end → Wrote d to (counted w xs) (set d′ to n) end
 unfolding counted
 wrote-counted w d to xs n d′ end l h v = rw (← l) (wrote-before d to (length xs) (joined w xs) d′ end h v)
-
--- ---- read_element
-
-pub element-nameless : (s : Str) (at : ℕ) → name 47 91 s at ≡ unread → element s at ≡ unread
-unfolding element _>>=_
-element-nameless s at e = rw e
-
-element-keyless : (s : Str) (at : ℕ) (n : Str) (m : ℕ) → name 47 91 s at ≡ got n m → each 91 4 key s m ≡ unread → element s at ≡ unread
-unfolding element _>>=_
-element-keyless s at n m e i = rw (e, i)
-
-element-got : (s : Str) (at : ℕ) (n : Str) (m : ℕ) (ks : List Key) (t : ℕ) → name 47 91 s at ≡ got n m → each 91 4 key s m ≡ got ks t
-    → element s at ≡ got (record { name = n; keys = ks }) t
-unfolding element _>>=_ ret
-element-got s at n m ks t e i = rw (e, i)
-
-pub element-stores : (s : Str) (at : ℕ) (n : Str) (m : ℕ) (d : List ℕ) (to : ℕ) (d′ : List ℕ) (end : ℕ) (d″ : List ℕ) (r : Stored) → name 47 91 s at ≡ got n m
-    → Wrote d to (stringBytes n) d′ end → Within 65 1 s at m to end → end ≤ length d → Stores 521 1 (counted keyBytes) (each 91 4 key) s m d′ end d″ r → Stores 586 2 elemBytes element s at d to d″ r
-unfolding elemBytes
-element-stores s at n m d to d′ end d″ r e w b room x = go r x
-  where
-    go : (q : Stored) → Stores 521 1 (counted keyBytes) (each 91 4 key) s m d′ end d″ q → Stores 586 2 elemBytes element s at d to d″ q
-    go (To t last) y =
-        let u = stored-to y refl in
-        stores (element-got s at n m (u .0) t e (u .1)) (wrote-more d to (stringBytes n) d′ end w (omega (arith, w .ends)) (counted keyBytes (u .0)) d″ last (u .2))
-        (within-after 65 1 521 1 586 2 s at m m t to end last b (u .3) (omega arith) (omega arith))
-    go Unread y = nothing (element-keyless s at n m e (stored-not y refl))

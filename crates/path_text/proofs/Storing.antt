@@ -3,9 +3,10 @@ use mathlib.Core.Path.{_≡_, refl, sym, ap, _∙_}
 use mathlib.Core.List.{List, [], _∷_, _++_, append-assoc, append-nil}
 use Prim.Native.Nat.{ℕ, _+_, _-_, _≤_, _<_}
 use native.Mathlib.Omega.{arith}
-use lib.ListN.{length, set, length-append}
+use lib.ListN.{length, take, drop, length-append}
+use lib.Seq.{length-take-le, take-at, drop-at}
 use Rattle.text.specs.String.{Str, joined}
-use Rattle.text.specs.Frame.{Parsed, got, unread, andThen, Reader}
+use Rattle.text.specs.Frame.{Parsed, got, unread, andThen, Reader, part, stringBytes}
 use Rattle.text.specs.Fill.{put, Wrote}
 use Rattle.text.proofs.Filling.{wrote-long, wrote-more, wrote-nothing}
 use Rattle.path_text.specs.Steps.{Within, Room, Stores, stores, nothing}
@@ -61,6 +62,26 @@ module _ (m k : ℕ) (s : Str) (at : ℕ) (d : List ℕ) (to : ℕ) (r : Room m 
 
     pub room-then : (m₂ k₂ p₁ : ℕ) (v d′ : List ℕ) → Wrote d to v d′ q → m₁ ≤ m → k₁ ≤ k → m₁ + m₂ ≤ m → p + k₁ + k₂ ≤ p₁ + k → p₁ ≤ length s → Room m₂ k₂ s p₁ d′ q
     room-then m₂ k₂ p₁ v d′ w h i = room-after m₂ k₂ p₁ d′ (wrote-long d to v d′ q w (omega (arith, w .ends, room-end h i)))
+
+-- ---- what was stored, as it stands there
+
+pub stored-rest : (d : List ℕ) (to : ℕ) (x y d′ : List ℕ) (end : ℕ) → Wrote d to (x ++ y) d′ end → to + length (x ++ y) ≤ length d → part d′ (to + length x) end ≡ y
+unfolding put
+stored-rest d to x y d′ end w h =
+    let l = length-append x y in
+    let a : length (take to d) ≡ to = length-take-le to d (omega arith) in
+    let b : length (take to d ++ x) ≡ to + length x = length-append (take to d) x ∙ ap (λ (n : ℕ). n + length x) a in
+    let c : d′ ≡ (take to d ++ x) ++ (y ++ drop (to + length (x ++ y)) d) = w .same ∙ simp append-assoc in
+    rw (c, drop-at (take to d ++ x) (y ++ drop (to + length (x ++ y)) d) (to + length x) b) (take-at y (drop (to + length (x ++ y)) d) (end - (to + length x)) (omega (arith, w .ends)))
+
+-- a string after its length byte
+pub stored-string : (d : List ℕ) (to : ℕ) (v d′ : List ℕ) (end : ℕ) → Wrote d to (stringBytes v) d′ end → end ≤ length d → part d′ (to + 1) end ≡ v
+unfolding stringBytes
+stored-string d to v d′ end w h = stored-rest d to (length v ∷ []) v d′ end w (omega (arith, w .ends))
+
+pub string-longer : (d : List ℕ) (to : ℕ) (v d′ : List ℕ) (end : ℕ) → Wrote d to (stringBytes v) d′ end → to + 1 ≤ end
+unfolding stringBytes
+string-longer d to v d′ end w = omega (arith, w .ends)
 
 -- ---- a list of things
 

@@ -1,16 +1,20 @@
--- The answers of the programs that read and write path text step by step, said of what is read there.
-use Prim.Native.Nat.{ℕ, _+_, _≤_}
+-- The answers of the programs that read path text step by step, said of what is read there.
+use Prim.Native.Nat.{ℕ, suc, _+_, _≤_}
 use mathlib.Core.Path.{_≡_}
-use mathlib.Core.Bool.{Bool, true, false}
-use mathlib.Core.List.{List, []}
+use mathlib.Core.Bool.{Bool, not}
+use mathlib.Core.List.{List, [], _∷_}
 use mathlib.Core.Option.{Option, none, some}
 use lib.Dec.{eqb}
 use lib.ListN.{length, getD}
-use Rattle.text.specs.Test.{if_then_else_}
+use Rattle.text.specs.Test.{if_then_else_, twice}
+use Rattle.text.specs.Byte.{isName}
 use Rattle.text.specs.String.{Str}
 use Rattle.text.specs.Frame.{Parsed, got, unread, Reader}
 use Rattle.text.specs.Fill.{put, Wrote}
-use Rattle.path_text.specs.TextReader.{item}
+use Rattle.path.specs.Path.{Key, Elem, Path}
+use Rattle.path.specs.Faults.{sameName}
+use Rattle.path.specs.Walk.{nameGrade, aloneGrade, elemGrade, good}
+use Rattle.path_text.specs.TextReader.{name, item, each, key, element}
 use Rattle.path_text.specs.declared.reader.Stored.{Stored}
 use Rattle.path_text.specs.declared.reader.Stored.the-variants as stored
 use Rattle.path_text.specs.declared.reader.Item.{Item}
@@ -23,6 +27,38 @@ itemIn unread = items.Unread
 
 unfoldable pub itemOf : Str → ℕ → Item
 itemOf s at = if eqb (getD s at 0) 93 then items.End else itemIn (item s at)
+
+-- how many bytes at the start belong to a name
+unfoldable pub nameRun : Str → ℕ
+nameRun [] = 0
+nameRun (b ∷ s) = if isName b then suc (nameRun s) else 0
+
+-- what was read, where it passes
+unfoldable pub pass : {A : Type 0} → (A → Bool) → Parsed A → Parsed A
+pass ok (got a t) = if ok a then got a t else unread
+pass ok unread = unread
+
+abbrev pub passing : {A : Type 0} → (A → Bool) → Reader A → Reader A
+passing ok r s at = pass ok (r s at)
+
+-- the parts of a good path
+abbrev pub goodName : ℕ → ℕ → Reader Str
+goodName a b = passing (good nameGrade) (name a b)
+
+abbrev pub goodKey : Reader Key
+goodKey = passing (good aloneGrade) key
+
+abbrev pub distinct : List Key → Bool
+distinct ks = not (twice sameName ks)
+
+abbrev pub goodKeys : Reader (List Key)
+goodKeys = passing distinct (each 91 4 goodKey)
+
+abbrev pub goodElement : Reader Elem
+goodElement = passing (good elemGrade) element
+
+abbrev pub goodElements : Reader Path
+goodElements = each 47 16 goodElement
 
 abbrev pub plainly : Str → Str
 plainly s = s
@@ -48,16 +84,3 @@ pub data Stores {A : Type 0} (most more : ℕ) (w : A → Str) (r : Reader A) (s
 pub data Transcribed : Option Str → List ℕ → List ℕ → Stored → Type 0 where
   filled-up : {f : Str} {d d′ : List ℕ} {next end : ℕ} → end ≡ length f → end ≤ length d → d′ ≡ put d 0 f → Transcribed (some f) d d′ (stored.To next end)
   not-filled : {d d′ : List ℕ} → Transcribed none d d′ stored.Unread
-
--- it reads; what w writes for it; where it ends
-abbrev pub isRead : {A : Type 0} → Parsed A → Bool
-isRead (got a t) = true
-isRead unread = false
-
-abbrev pub written : {A : Type 0} → (A → Str) → Parsed A → Str
-written w (got a t) = w a
-written w unread = []
-
-abbrev pub endAt : {A : Type 0} → Parsed A → ℕ
-endAt (got a t) = t
-endAt unread = 0

@@ -1,6 +1,5 @@
-// Path text: reading it to path bytes, and writing it from them.
+// Path text: reading it to path bytes.
 pub mod reader;
-pub mod writer;
 
 pub enum Filled {
     // The start of the lent buffer is the result, which has this length.

@@ -1,12 +1,17 @@
 // Path text to path bytes.
 ghost use mathlib.Core.Path.{_≡_};
+ghost use mathlib.Core.Bool.{false};
+ghost use mathlib.Core.List.{[], _∷_};
+ghost use mathlib.Core.Option.{some};
 ghost use Prim.Native.Nat.{_+_, _≤_};
 ghost use lib.ListN.{length, drop, getD};
+ghost use Rattle.text.specs.Byte.{isName};
+ghost use Rattle.text.specs.String.{bytes, same};
 ghost use Rattle.text.specs.Frame.{stringBytes};
-ghost use Rattle.path.specs.Bytes.{counted, keyBytes, elemBytes, pathBytes};
-ghost use Rattle.path_text.specs.TextReader.{upTo, name, value, each, key, element};
+ghost use Rattle.path.specs.Bytes.{counted, keyBytes, elemBytes};
+ghost use Rattle.path_text.specs.TextReader.{upTo, value};
 ghost use Rattle.path_text.specs.Calls.{answer, lent, bytesFor};
-ghost use Rattle.path_text.specs.Steps.{itemOf, Room, Stores, plainly, Transcribed};
+ghost use Rattle.path_text.specs.Steps.{nameRun, goodName, goodKey, goodKeys, goodElement, goodElements, itemOf, Room, Stores, plainly, Transcribed};
 use crate::Filled;
 
 // Where reading goes on in the text, and storing in the buffer.
@@ -45,14 +50,33 @@ pub fn find(text: &[u8], at: usize, a: u8, b: u8) -> usize
     i
 }
 
-// A name, which ends before the first a or b, with its length byte.
-fn read_name(text: &[u8], at: usize, a: u8, b: u8, out: &mut [u8], to: usize) -> Stored
-    requires { ⌜ Room 65 1 (now text) at (now out) to ⌝ }
-    ensures { λ r. ⌜ Stores 65 1 stringBytes (name a b) (now (text .entry)) at (now (out .entry)) to (now (out .exit)) r ⌝ }
+// Where the name from `at` on ends.
+fn name_end(text: &[u8], at: usize) -> usize
+    requires { ⌜ at ≤ length (now text) ⌝ }
+    ensures { λ r. ⌜ r ≡ at + nameRun (drop at (now (text .entry))) ⌝ }
 {
-    let next = find(text, at, a, b);
+    let mut i = at;
+    while i < text.len() {
+        if !text::byte::is_name(text[i]) {
+            return i;
+        }
+        i += 1;
+    }
+    i
+}
+
+// A good name with its length byte. a, b or nothing comes after it.
+fn read_name(text: &[u8], at: usize, a: u8, b: u8, out: &mut [u8], to: usize) -> Stored
+    requires { ⌜ Room 65 1 (now text) at (now out) to × (isName a ≡ false) × (isName b ≡ false) ⌝ }
+    ensures { λ r. ⌜ Stores 65 1 stringBytes (goodName a b) (now (text .entry)) at (now (out .entry)) to (now (out .exit)) r ⌝ }
+{
+    let next = name_end(text, at);
+    let c = byte_at(text, next);
+    if (next < text.len()) & (c != a) & (c != b) {
+        return Stored::Unread;
+    }
     let n = next - at;
-    if 64 < n {
+    if (n == 0) | (64 < n) {
         return Stored::Unread;
     }
     out[to] = n as u8;
@@ -143,7 +167,7 @@ pub fn read_value(text: &[u8], at: usize, out: &mut [u8], to: usize) -> Stored
 // name=value], after its [.
 fn read_key(text: &[u8], at: usize, out: &mut [u8], to: usize) -> Stored
     requires { ⌜ Room 130 1 (now text) at (now out) to ⌝ }
-    ensures { λ r. ⌜ Stores 130 1 keyBytes key (now (text .entry)) at (now (out .entry)) to (now (out .exit)) r ⌝ }
+    ensures { λ r. ⌜ Stores 130 1 keyBytes goodKey (now (text .entry)) at (now (out .entry)) to (now (out .exit)) r ⌝ }
 {
     let n = read_name(text, at, 61, 61, out, to);
     let Stored::To { next, end } = n else {
@@ -152,16 +176,32 @@ fn read_key(text: &[u8], at: usize, out: &mut [u8], to: usize) -> Stored
     if byte_at(text, next) != 61 {
         return Stored::Unread;
     }
-    read_value(text, next + 1, out, end)
+    let v = read_value(text, next + 1, out, end);
+    let Stored::To {
+        next: after,
+        end: last,
+    } = v
+    else {
+        return Stored::Unread;
+    };
+    let start = end + 1;
+    if path::fault::value_fault(&out[start..last]) != 255 {
+        return Stored::Unread;
+    }
+    Stored::To {
+        next: after,
+        end: last,
+    }
 }
 
 // The keys of an element, after their count.
 fn read_keys(text: &[u8], at: usize, out: &mut [u8], to: usize) -> Stored
     requires { ⌜ Room 521 1 (now text) at (now out) to ⌝ }
-    ensures { λ r. ⌜ Stores 521 1 (counted keyBytes) (each 91 4 key) (now (text .entry)) at (now (out .entry)) to (now (out .exit)) r ⌝ }
+    ensures { λ r. ⌜ Stores 521 1 (counted keyBytes) goodKeys (now (text .entry)) at (now (out .entry)) to (now (out .exit)) r ⌝ }
 {
+    let start = to + 1;
     let mut p = at;
-    let mut q = to + 1;
+    let mut q = start;
     let mut left: usize = 4;
     while (0 < left) & (byte_at(text, p) == 91) {
         let k = read_key(text, p + 1, out, q);
@@ -173,6 +213,9 @@ fn read_keys(text: &[u8], at: usize, out: &mut [u8], to: usize) -> Stored
         left -= 1;
     }
     let count = 4 - left;
+    if path::frame::has_twice(&out[start..q], 0, count) {
+        return Stored::Unread;
+    }
     out[to] = count as u8;
     Stored::To { next: p, end: q }
 }
@@ -180,19 +223,23 @@ fn read_keys(text: &[u8], at: usize, out: &mut [u8], to: usize) -> Stored
 // An element, after its /.
 fn read_element(text: &[u8], at: usize, out: &mut [u8], to: usize) -> Stored
     requires { ⌜ Room 586 2 (now text) at (now out) to ⌝ }
-    ensures { λ r. ⌜ Stores 586 2 elemBytes element (now (text .entry)) at (now (out .entry)) to (now (out .exit)) r ⌝ }
+    ensures { λ r. ⌜ Stores 586 2 elemBytes goodElement (now (text .entry)) at (now (out .entry)) to (now (out .exit)) r ⌝ }
 {
     let n = read_name(text, at, 47, 91, out, to);
     let Stored::To { next, end } = n else {
         return Stored::Unread;
     };
+    let dots = [46u8, 46, 46];
+    if text::string::is_same(&text[at..next], &dots) {
+        return Stored::Unread;
+    }
     read_keys(text, next, out, end)
 }
 
 // The elements of a path, after their count.
 fn read_elements(text: &[u8], out: &mut [u8]) -> Stored
     requires { ⌜ Room 9377 17 (now text) 0 (now out) 0 ⌝ }
-    ensures { λ r. ⌜ Stores 9377 17 (counted elemBytes) (each 47 16 element) (now (text .entry)) 0 (now (out .entry)) 0 (now (out .exit)) r ⌝ }
+    ensures { λ r. ⌜ Stores 9377 17 (counted elemBytes) goodElements (now (text .entry)) 0 (now (out .entry)) 0 (now (out .exit)) r ⌝ }
 {
     let mut p = 0;
     let mut q = 1;
@@ -211,16 +258,11 @@ fn read_elements(text: &[u8], out: &mut [u8]) -> Stored
     Stored::To { next: p, end: q }
 }
 
-// The bytes of the good path whose text this is.
+// The bytes of the good path, not the root, whose text this is.
 fn transcribe(text: &[u8], out: &mut [u8]) -> Stored
-    requires { ⌜ Room 9377 17 (now text) 0 (now out) 0 ⌝ }
+    requires { ⌜ Room 9377 17 (now text) 0 (now out) 0 × (same (now text) (bytes "/") ≡ false) ⌝ }
     ensures { λ r. ⌜ Transcribed (bytesFor (now (text .entry))) (now (out .entry)) (now (out .exit)) r ⌝ }
 {
-    let root = [47u8];
-    if text::string::is_same(text, &root) {
-        out[0] = 0;
-        return Stored::To { next: 1, end: 1 };
-    }
     if text.len() == 0 {
         return Stored::Unread;
     }
@@ -231,9 +273,6 @@ fn transcribe(text: &[u8], out: &mut [u8]) -> Stored
     if next != text.len() {
         return Stored::Unread;
     }
-    if !path::frame::is_path(&out[..end]) {
-        return Stored::Unread;
-    }
     Stored::To {
         next: next,
         end: end,
@@ -242,7 +281,7 @@ fn transcribe(text: &[u8], out: &mut [u8]) -> Stored
 
 // The bytes are made apart, and copied where they fit.
 fn read_apart(text: &[u8], apart: &mut [u8], out: &mut [u8]) -> Filled
-    requires { ⌜ Room 9377 17 (now text) 0 (now apart) 0 ⌝ }
+    requires { ⌜ Room 9377 17 (now text) 0 (now apart) 0 × (same (now text) (bytes "/") ≡ false) ⌝ }
     ensures { λ r. ⌜ (r ≡ answer (now (out .entry)) (bytesFor (now (text .entry)))) × (now (out .exit) ≡ lent (now (out .entry)) (bytesFor (now (text .entry)))) ⌝ }
 {
     let t = transcribe(text, apart);
@@ -258,7 +297,7 @@ fn read_apart(text: &[u8], apart: &mut [u8], out: &mut [u8]) -> Filled
 
 // The bytes are at most 17 more than the text: a count, and for each of 16 elements one more byte than its text has.
 fn read_short(text: &[u8], out: &mut [u8]) -> Filled
-    requires { ⌜ length (now text) ≤ 239 ⌝ }
+    requires { ⌜ (length (now text) ≤ 239) × (same (now text) (bytes "/") ≡ false) ⌝ }
     ensures { λ r. ⌜ (r ≡ answer (now (out .entry)) (bytesFor (now (text .entry)))) × (now (out .exit) ≡ lent (now (out .entry)) (bytesFor (now (text .entry)))) ⌝ }
 {
     let mut apart = [0u8; 256];
@@ -266,6 +305,7 @@ fn read_short(text: &[u8], out: &mut [u8]) -> Filled
 }
 
 fn read_long(text: &[u8], out: &mut [u8]) -> Filled
+    requires { ⌜ same (now text) (bytes "/") ≡ false ⌝ }
     ensures { λ r. ⌜ (r ≡ answer (now (out .entry)) (bytesFor (now (text .entry)))) × (now (out .exit) ≡ lent (now (out .entry)) (bytesFor (now (text .entry)))) ⌝ }
 {
     // the longest path bytes
@@ -273,10 +313,24 @@ fn read_long(text: &[u8], out: &mut [u8]) -> Filled
     read_apart(text, &mut apart, out)
 }
 
+fn read_root(out: &mut [u8]) -> Filled
+    ensures { λ r. ⌜ (r ≡ answer (now (out .entry)) (some (0 ∷ []))) × (now (out .exit) ≡ lent (now (out .entry)) (some (0 ∷ []))) ⌝ }
+{
+    if out.len() == 0 {
+        return Filled::Refused(23);
+    }
+    out[0] = 0;
+    Filled::Length(1)
+}
+
 // Path text to path bytes, at the start of out. Nothing is stored there before all is checked.
 pub fn read_text(text: &[u8], out: &mut [u8]) -> Filled
     ensures { λ r. ⌜ (r ≡ answer (now (out .entry)) (bytesFor (now (text .entry)))) × (now (out .exit) ≡ lent (now (out .entry)) (bytesFor (now (text .entry)))) ⌝ }
 {
+    let root = [47u8];
+    if text::string::is_same(text, &root) {
+        return read_root(out);
+    }
     if text.len() <= 239 {
         return read_short(text, out);
     }

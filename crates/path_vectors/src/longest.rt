@@ -73,7 +73,7 @@ pub fn run() {
     let mut bytes = [0u8; 9377];
     fill(&mut bytes);
     let mut text = [0u8; 13520];
-    let r = path_text::writer::write_text(&bytes, &mut text);
+    let r = path_write::write_text(&bytes, &mut text);
     match r {
         Filled::Length(n) => read_back(&bytes, &text[..n]),
         Filled::Refused(number) => show::number(number),

@@ -23,7 +23,7 @@ fn run_text(text: &[u8], out: &mut [u8]) {
 
 // Prints the text of path bytes, or the refusal.
 fn run_bytes(bytes: &[u8], out: &mut [u8]) {
-    let r = path_text::writer::write_text(bytes, out);
+    let r = path_write::write_text(bytes, out);
     match r {
         Filled::Length(n) => show::line(&out[..n]),
         Filled::Refused(number) => show::number(number),

@@ -1,5 +1,4 @@
 pub mod Finds
 pub mod Clean
-pub mod Kept
-pub mod Limits
+pub mod Doubles
 pub mod Judgements

@@ -7,7 +7,7 @@ use lib.ListN.{length, drop, getD, set}
 use Rattle.text.specs.String.{Str, joined}
 use Rattle.text.specs.Fill.{Wrote}
 use Rattle.text.proofs.Filling.{Pending, fill-start, fill-set, fill-byte, wrote}
-use Rattle.path_text.proofs.Writing.{joined-here, joined-end}
+use Rattle.path_write.proofs.Writing.{joined-here, joined-end}
 use Rattle.readable_parts.specs.Parts.{hexDigit, hexPair, hexText}
 
 module _ (d : List ℕ) (to : ℕ) (w f out : List ℕ) (p i : ℕ) (g : Pending d to w out p (joined hexPair (drop i f))) where

@@ -21,7 +21,7 @@ fn string(f: &[u8], at: usize, out: &mut [u8], to: usize) -> Stored
         return Stored::Unread;
     }
     out[to] = 91;
-    let close = path_text::writer::write_value(s, out, to + 1);
+    let close = path_write::write_value(s, out, to + 1);
     out[close] = 93;
     Stored::To {
         next: end,
@@ -50,7 +50,7 @@ fn path(f: &[u8], at: usize, out: &mut [u8], to: usize) -> Stored
     if f.len() <= at {
         return Stored::Unread;
     }
-    let w = path_text::writer::write_text(&f[at..], &mut out[to..]);
+    let w = path_write::write_text(&f[at..], &mut out[to..]);
     let Filled::Length(n) = w else {
         return Stored::Unread;
     };

@@ -1,28 +1,24 @@
 // The steps of a rotation, and its probes. The words of a call: rotate, the step, the record's file, the store's file, what the step takes.
+use probe::rpcs::RpcAnswer;
 use rotation::Record;
 use rotation::Stepped;
 use table::Checked;
 
-// Stores the record in its file and prints it.
+// Stores the record in its file, and prints it.
 fn keep(r: Record) {
     let bytes = crate::record::to_bytes(r);
-    console::input::save(3, &bytes);
-    crate::record::print(r);
+    if console::input::save(3, &bytes) {
+        crate::record::print(r);
+    }
 }
 
-// Keeps what a step makes of the record, or prints why it is refused; `text` is what was offered.
-fn settle(s: Stepped, text: &[u8]) -> bool {
+// Keeps what a step makes of the record, or prints why it is refused.
+fn settle(s: Stepped) {
     let a = s.answer;
     let next = s.next;
     match a {
-        Checked::Accepted => {
-            keep(next);
-            true
-        }
-        Checked::Refused { number, line } => {
-            console::refusal::table(text, number, line);
-            false
-        }
+        Checked::Accepted => keep(next),
+        Checked::Refused { number, line } => console::refusal::at(number, line),
     }
 }
 
@@ -40,7 +36,7 @@ fn kind(word: &[u8]) -> u32 {
 // burgee rotate new RECORD STORE policy|table
 fn new() {
     let mut word = io::buffer();
-    let w = os::arg(5, &mut word);
+    let w = console::input::word(5, &mut word);
     let k = kind(&word[..w]);
     if k == 0 {
         console::say::usage(b"a record is for a policy or for a table");
@@ -52,84 +48,150 @@ fn new() {
     }
 }
 
+// Stores what an upload makes of store and record, or prints why it is refused; the store first, so that no record names a text that is not there.
+fn settle_upload(s: Stepped, store: &[u8], text: &[u8]) {
+    let a = s.answer;
+    let next = s.next;
+    match a {
+        Checked::Accepted => {
+            if console::input::save(4, store) {
+                keep(next);
+            }
+        }
+        Checked::Refused { number, line } => console::refusal::table(text, number, line),
+    }
+}
+
 // burgee rotate upload RECORD STORE FILE
 fn upload(r: Record, store: &mut [u8]) {
-    let fd = console::input::open(5);
-    if fd < 0 {
-        return;
-    }
     let mut text = io::large_buffer();
-    let n = io::read_full(fd, &mut text);
-    let s = upload::upload(r, store, &text[..n]);
-    if settle(s, &text[..n]) {
-        console::input::save(4, store);
+    let got = console::input::file(5, &mut text);
+    let n = got.count;
+    if got.is_good {
+        let s = upload::upload(r, store, &text[..n]);
+        settle_upload(s, store, &text[..n]);
+    }
+}
+
+fn judge(
+    r: Record,
+    store: &[u8],
+    is_tree: bool,
+    user: &[u8],
+    mode: u32,
+    origin: &[u8],
+    path: &[u8],
+) {
+    if is_tree {
+        table_commands::answer::tree(probe::probe_tree(r, store, user, mode, origin, path));
+    } else {
+        table_commands::answer::path(probe::probe_path(r, store, user, mode, origin, path));
     }
 }
 
 // burgee rotate verdict|tree RECORD STORE USER read|write ORIGIN PATH
 fn probe(r: Record, store: &[u8], is_tree: bool) {
-    let mut word = io::buffer();
-    let w = os::arg(6, &mut word);
-    let mode = console::input::mode(&word[..w]);
     let mut user = io::buffer();
-    let u = os::arg(5, &mut user);
+    let u = console::input::word(5, &mut user);
+    let mut mode = io::buffer();
+    let m = console::input::word(6, &mut mode);
     let mut origin = io::buffer();
-    let o = os::arg(7, &mut origin);
+    let o = console::input::word(7, &mut origin);
     let mut path = io::large_buffer();
-    let p = os::arg(8, &mut path);
-    if is_tree {
-        let a = probe::probe_tree(r, store, &user[..u], mode, &origin[..o], &path[..p]);
-        table_commands::answer::tree(a);
-    } else {
-        let a = probe::probe_path(r, store, &user[..u], mode, &origin[..o], &path[..p]);
-        table_commands::answer::path(a);
+    let p = console::input::word(8, &mut path);
+    judge(
+        r,
+        store,
+        is_tree,
+        &user[..u],
+        console::input::mode(&mode[..m]),
+        &origin[..o],
+        &path[..p],
+    );
+}
+
+fn answer_rpc(a: RpcAnswer) {
+    match a {
+        RpcAnswer::PermitAll => show::line(b"permit\nfactory"),
+        RpcAnswer::Judged(v) => policy_commands::rpcs::answer(v),
     }
 }
 
-fn run_on(step: &[u8], words: usize, r: Record, store: &mut [u8]) -> bool {
-    let n = store.len();
-    let is_tree = text::string::is_same(step, b"tree");
-    if text::string::is_same(step, b"start") & (words == 5) {
-        settle(rotation::step::start(r, n), b"");
-    } else if text::string::is_same(step, b"upload") & (words == 6) {
-        upload(r, store);
-    } else if text::string::is_same(step, b"finalize") & (words == 5) {
-        settle(rotation::step::finalize(r, n), b"");
-    } else if text::string::is_same(step, b"close") & (words == 5) {
-        settle(rotation::step::close(r, n), b"");
-    } else if (is_tree | text::string::is_same(step, b"verdict")) & (words == 9) {
-        probe(r, store, is_tree);
-    } else {
-        return false;
+// burgee rotate rpc RECORD STORE IDENTITY PATH [HEADERS-FILE]
+fn probe_rpc(r: Record, store: &[u8], words: usize) {
+    let mut identity = io::buffer();
+    let i = console::input::word(5, &mut identity);
+    let mut path = io::buffer();
+    let p = console::input::word(6, &mut path);
+    let mut headers = io::large_buffer();
+    let got = policy_commands::rpcs::headers(7, words, &mut headers);
+    let h = got.count;
+    if got.is_good {
+        answer_rpc(probe::rpcs::probe_rpc(r, store, &identity[..i], &path[..p], &headers[..h]));
     }
-    true
+}
+
+// Whether a step takes that many words. Steps are numbered as in `run`.
+fn takes(step: usize, words: usize) -> bool {
+    match step {
+        1 | 2 | 3 => words == 5,
+        4 | 5 => words == 6,
+        6 | 7 => words == 9,
+        8 => (words == 7) | (words == 8),
+        _ => false,
+    }
+}
+
+// A step on a record and its store.
+fn run_on(step: usize, words: usize, r: Record, store: &mut [u8]) {
+    match step {
+        1 => settle(rotation::step::start(r, store.len())),
+        2 => settle(rotation::step::finalize(r, store.len())),
+        3 => settle(rotation::step::close(r, store.len())),
+        4 => upload(r, store),
+        6 => probe(r, store, false),
+        7 => probe(r, store, true),
+        _ => probe_rpc(r, store, words),
+    }
+}
+
+// Reads the record and the store, and takes the step.
+fn open(step: usize, words: usize) {
+    let mut bytes = [0u8; 20];
+    let record = console::input::file(3, &mut bytes);
+    if !record.is_good {
+        return;
+    }
+    if record.count != 20 {
+        console::say::usage(b"a record has 20 bytes");
+        return;
+    }
+    let mut store = io::large_buffer();
+    let got = console::input::file(4, &mut store);
+    let n = got.count;
+    if got.is_good {
+        run_on(
+            step,
+            words,
+            crate::record::of_bytes(&bytes),
+            &mut store[..n],
+        );
+    }
 }
 
 // The step, if it is one and has the words that it takes.
-pub fn run(step: &[u8], words: usize) -> bool {
-    if text::string::is_same(step, b"new") & (words == 6) {
+pub fn run(word: &[u8], words: usize) -> bool {
+    let step = console::lines::place(
+        b"start\nfinalize\nclose\nupload\nnew\nverdict\ntree\nrpc\n",
+        word,
+    );
+    if !takes(step, words) {
+        return false;
+    }
+    if step == 5 {
         new();
-        return true;
+    } else {
+        open(step, words);
     }
-    let record = console::input::open(3);
-    if record < 0 {
-        return true;
-    }
-    let mut bytes = [0u8; 20];
-    if io::read_full(record, &mut bytes) != 20 {
-        console::say::usage(b"a record has 20 bytes");
-        return true;
-    }
-    let fd = console::input::open(4);
-    if fd < 0 {
-        return true;
-    }
-    let mut store = io::large_buffer();
-    let n = io::read_full(fd, &mut store);
-    run_on(
-        step,
-        words,
-        crate::record::of_bytes(&bytes),
-        &mut store[..n],
-    )
+    true
 }

@@ -88,51 +88,6 @@ module _ (h : Str) where
     pub cut-over : length h ≤ i → cutAt b (drop i h) ≡ cutHere h i i
     cut-over l = ap (cutAt b) (drop-of-length-le h l) ∙ cut-nil b ∙ sym (here-none i i l)
 
--- ---- values, each after a comma
-
-module _ (key : Str) (x : Line) (l : List Line) where
-  values-hit : same (x .name) key ≡ true → valuesOf key (x ∷ l) ≡ x .value ∷ valuesOf key l
-  unfolding valuesOf only if_then_else_
-  values-hit h = rw h
-
-  values-miss : same (x .name) key ≡ false → valuesOf key (x ∷ l) ≡ valuesOf key l
-  unfolding valuesOf only if_then_else_
-  values-miss h = rw h
-
-values-nil : (key : Str) → valuesOf key [] ≡ []
-unfolding valuesOf only
-values-nil key = refl
-
-commaed-cons : (v : Str) (l : List Str) → commaed (v ∷ l) ≡ 44 ∷ (v ++ commaed l)
-unfolding commaed
-commaed-cons v l = refl
-
-commaed-nil : commaed [] ≡ []
-unfolding commaed
-commaed-nil = refl
-
-append-nil : (s : Str) → s ++ [] ≡ s
-append-nil [] = refl
-append-nil (c ∷ s) = ap (λ (t : Str). c ∷ t) (append-nil s)
-
-module _ (key : Str) (x : Line) where
-  alone-hit : same (x .name) key ≡ true → commaed (valuesOf key (x ∷ [])) ≡ 44 ∷ x .value
-  alone-hit t =
-      ap commaed (values-hit key x [] t ∙ ap (λ (v : List Str). x .value ∷ v) (values-nil key)) ∙ commaed-cons (x .value) [] ∙ ap (λ (v : Str). 44 ∷ (x .value ++ v)) commaed-nil ∙ ap (λ (v : Str). 44 ∷ v) (append-nil (x .value))
-
-  alone-miss : same (x .name) key ≡ false → commaed (valuesOf key (x ∷ [])) ≡ []
-  alone-miss t = ap commaed (values-miss key x [] t ∙ values-nil key) ∙ commaed-nil
-
-  one-more : (l : List Line) → commaed (valuesOf key (x ∷ l)) ≡ commaed (valuesOf key (x ∷ [])) ++ commaed (valuesOf key l)
-  one-more l =
-      by (same (x .name) key)
-      (λ t. ap commaed (values-hit key x l t) ∙ commaed-cons (x .value) (valuesOf key l) ∙ ap (λ (y : Str). y ++ commaed (valuesOf key l)) (sym (alone-hit t)))
-      (λ t. ap commaed (values-miss key x l t) ∙ ap (λ (y : Str). y ++ commaed (valuesOf key l)) (sym (alone-miss t)))
-
--- a comma was stored, and then a value
-comma-value : (out out₂ s : Str) (len to : ℕ) → len + 1 + length s ≤ length out → out₂ ≡ put (set out len 44) (len + 1) s → to ≡ len + 1 + length s → Wrote out len (44 ∷ s) out₂ to
-comma-value out out₂ s len to r b c = wrote-more out len (44 ∷ []) (set out len 44) (len + 1) (wrote-byte out len 44 (omega arith)) (omega arith) s out₂ to (record { ends = c; same = b })
-
 -- ---- is_line
 
 line-none : lineOf none ≡ none
@@ -197,35 +152,11 @@ module _ (l : Str) (c : ℕ) (k : Cut 58 l 0 c) where
     pub line-there : c < length l
     line-there = by (ltb c (length l)) (λ t. ltb-true _ _ t) (λ t. clash g (line-uncut (let x = ltb-false c (length l) t in let y = k .high in omega arith)))
 
-    line-whole : lineOf (cutAt 58 l) ≡ some (record { name = part l 0 c; value = drop (c + 1) l })
+    pub line-whole : lineOf (cutAt 58 l) ≡ some (record { name = part l 0 c; value = drop (c + 1) l })
     line-whole = let e = line-cut line-there in ap lineOf e ∙ line-is _ _ (ap (λ (o : Option (Str × Str)). readable (lineOf o)) (sym e) ∙ g)
 
     pub tail-long : length (take (length l - (c + 1)) (drop (c + 1) l)) + (c + 1) ≡ length l
     tail-long = let h = line-there in omega (arith, length-take-le (length l - (c + 1)) (drop (c + 1) l) (omega (arith, length-drop (c + 1) l)))
-
-    value-of : (key : Str) → lineValue key l ≡ commaed (valuesOf key (record { name = part l 0 c; value = drop (c + 1) l } ∷ []))
-    unfolding lineValue oneLine
-    value-of key = ap (λ (o : Option Line). commaed (valuesOf key (oneLine o))) line-whole
-
-    line-other : (key : Str) → same (part l 0 c) key ≡ false → lineValue key l ≡ []
-    line-other key e = value-of key ∙ alone-miss key _ e
-
-    line-named : (key : Str) → same (part l 0 c) key ≡ true → lineValue key l ≡ 44 ∷ drop (c + 1) l
-    line-named key e = value-of key ∙ alone-hit key _ e
-
-    pub line-passed : (key out : Str) (len : ℕ) → same (part l 0 c) key ≡ false → Wrote out len (lineValue key l) out len × (len ≤ len + length l)
-    line-passed key out len e = (subst (λ (v : Str). Wrote out len v out len) (sym (line-other key e)) (wrote-nothing out len), omega arith)
-
-    pub line-added : (key out out₂ : Str) (len : ℕ) → same (part l 0 c) key ≡ true → len + length l ≤ length out → out₂ ≡ put (set out len 44) (len + 1) (take (length l - (c + 1)) (drop (c + 1) l))
-        → Wrote out len (lineValue key l) out₂ (len + 1 + (length l - (c + 1))) × (len + 1 + (length l - (c + 1)) ≤ len + length l)
-    line-added key out out₂ len e room b =
-        let h = line-there in
-        let s = take-all (length l - (c + 1)) (drop (c + 1) l) (omega (arith, length-drop (c + 1) l)) in
-        let d = length-drop (c + 1) l in
-        (subst (λ (v : Str). Wrote out len v out₂ (len + 1 + (length l - (c + 1)))) (sym (line-named key e)) (comma-value out out₂ (drop (c + 1) l) len (len + 1 + (length l - (c + 1))) (omega arith) (b ∙ ap (put (set out len 44) (len + 1)) s) (omega arith)), omega arith)
-
-    pub line-kept : (out out₂ : Str) (len : ℕ) → len + length l ≤ length out → out₂ ≡ put (set out len 44) (len + 1) (take (length l - (c + 1)) (drop (c + 1) l)) → length out₂ ≡ length out
-    line-kept out out₂ len room b = ap length b ∙ put-length (set out len 44) (len + 1) _ (omega (arith, length-set out len 44, tail-long)) ∙ length-set out len 44
 
 -- ---- are_lines
 
@@ -256,7 +187,7 @@ module _ {A : Type 0} where
   cons-read a none = refl
   cons-read a (some l) = refl
 
-  read-is : (o : Option A) → readable o ≡ true → (a : A) × (o ≡ some a)
+  pub read-is : (o : Option A) → readable o ≡ true → (a : A) × (o ≡ some a)
   unfolding readable
   read-is none h = clash h refl
   read-is (some a) h = (a, refl)
@@ -271,23 +202,23 @@ pub record Reading (h : Str) (i fuel : ℕ) : Type 0 where
   pub inside : i ≤ length h
   pub enough : length h ≤ i + fuel
 
-reading-on : (h : Str) (i e fuel : ℕ) → Reading h i (suc fuel) → i ≤ e → e < length h → Reading h (e + 1) fuel
+pub reading-on : (h : Str) (i e fuel : ℕ) → Reading h i (suc fuel) → i ≤ e → e < length h → Reading h (e + 1) fuel
 reading-on h i e fuel r l k = record { inside = omega arith; enough = omega (arith, r .enough) }
 
 module _ (h : Str) (i e fuel : ℕ) (l : i < length h) (k : Cut 10 h i e) where
   lines-open : linesOf (suc fuel) (drop i h) ≡ lineThen (linesOf fuel) (cutHere h i e)
   lines-open = lines-some fuel (drop i h) (omega (arith, length-drop i h)) ∙ ap (lineThen (linesOf fuel)) (k .is)
 
-  lines-cut : e < length h → linesOf (suc fuel) (drop i h) ≡ cons (lineOf (cutAt 58 (part h i e))) (linesOf fuel (drop (e + 1) h))
+  pub lines-cut : e < length h → linesOf (suc fuel) (drop i h) ≡ cons (lineOf (cutAt 58 (part h i e))) (linesOf fuel (drop (e + 1) h))
   lines-cut z = lines-open ∙ ap (lineThen (linesOf fuel)) (here-some h i e z) ∙ then-some fuel _ _
 
-  lines-uncut : e ≡ length h → readable (linesOf (suc fuel) (drop i h)) ≡ false
+  pub lines-uncut : e ≡ length h → readable (linesOf (suc fuel) (drop i h)) ≡ false
   lines-uncut z = unread (lines-open ∙ ap (lineThen (linesOf fuel)) (here-none h i e (omega arith)) ∙ then-none fuel)
 
-  lines-bad : e < length h → readable (lineOf (cutAt 58 (part h i e))) ≡ false → readable (linesOf (suc fuel) (drop i h)) ≡ false
+  pub lines-bad : e < length h → readable (lineOf (cutAt 58 (part h i e))) ≡ false → readable (linesOf (suc fuel) (drop i h)) ≡ false
   lines-bad z g = unread (lines-cut z ∙ ap (λ (o : Option Line). cons o (linesOf fuel (drop (e + 1) h))) (unread-is _ g) ∙ cons-none _)
 
-  lines-on : e < length h → readable (lineOf (cutAt 58 (part h i e))) ≡ true → readable (linesOf (suc fuel) (drop i h)) ≡ readable (linesOf fuel (drop (e + 1) h))
+  pub lines-on : e < length h → readable (lineOf (cutAt 58 (part h i e))) ≡ true → readable (linesOf (suc fuel) (drop i h)) ≡ readable (linesOf fuel (drop (e + 1) h))
   lines-on z g = let a = read-is _ g in ap readable (lines-cut z ∙ ap (λ (o : Option Line). cons o (linesOf fuel (drop (e + 1) h))) (a .1)) ∙ cons-read _ _
 
 -- whether the lines are well formed is whether those from i on are
@@ -300,7 +231,7 @@ pub judging-start : (h : Str) → Judging h 0
 judging-start h = record { fuel = length h; reading = record { inside = omega arith; enough = omega arith }; is = refl }
 
 module _ (h : Str) (i e : ℕ) (l : i < length h) (k : Cut 10 h i e) where
-  fueled : (fuel : ℕ) → Reading h i fuel → (g : ℕ) × (fuel ≡ suc g)
+  pub fueled : (fuel : ℕ) → Reading h i fuel → (g : ℕ) × (fuel ≡ suc g)
   fueled zero r = absurd (omega (arith, r .enough))
   fueled (suc g) r = (g, refl)
 
@@ -320,7 +251,7 @@ module _ (h : Str) (i e : ℕ) (l : i < length h) (k : Cut 10 h i e) where
         let z : e < length h = omega (arith, n, k .high) in
         record { fuel = t .0; reading = reading-on h i e (t .0) (t .1) (k .low) z; is = t .2 ∙ lines-on h i e (t .0) l k z g }
 
-lines-over : (h : Str) (i n : ℕ) → length h ≤ i → linesOf n (drop i h) ≡ some []
+pub lines-over : (h : Str) (i n : ℕ) → length h ≤ i → linesOf n (drop i h) ≡ some []
 lines-over h i n l = ap (linesOf n) (drop-of-length-le h l) ∙ lines-nil n
 
 read-some : {A : Type 0} (a : A) → readable (some a) ≡ true
@@ -352,114 +283,6 @@ pub headers-short : (h : Str) → badHeaders h ≡ false → length h ≤ 8192
 unfolding badHeaders
 headers-short h e = ltb-false 8192 (length h) (or-false-l _ _ e)
 
-headers-read : (h : Str) → badHeaders h ≡ false → readable (headersOf h) ≡ true
+pub headers-read : (h : Str) → badHeaders h ≡ false → readable (headersOf h) ≡ true
 unfolding badHeaders
 headers-read h e = not-false _ (or-false-r _ _ e)
-
--- ---- header_value
-
-written-some : (l : List Line) → written (some l) ≡ l
-unfolding written
-written-some l = refl
-
-cons-some : (a : Line) (l : List Line) → cons (some a) (some l) ≡ some (a ∷ l)
-unfolding cons
-cons-some a l = refl
-
-joined-commaed : (v : Str) (l : List Str) → joined (v ∷ l) ≡ v ++ commaed l
-unfolding joined commaed
-joined-commaed v [] = sym (append-nil v)
-joined-commaed v (w ∷ l) = ap (λ (t : Str). v ++ (44 ∷ t)) (joined-commaed w l)
-
-joined-is : (l : List Str) → joined l ≡ drop 1 (commaed l)
-unfolding joined commaed
-joined-is [] = refl
-joined-is (v ∷ l) = joined-commaed v l
-
--- the values of the lines up to i stand in `out`, each after a comma, up to `len`
-pub record Joining (key h out : Str) (i len : ℕ) : Type 0 where
-  pub fuel : ℕ
-  pub reading : Reading h i fuel
-  pub low : len ≤ i
-  pub good : readable (linesOf fuel (drop i h)) ≡ true
-  pub is : commaed (valuesOf key (written (headersOf h))) ≡ take len out ++ commaed (valuesOf key (written (linesOf fuel (drop i h))))
-
-pub joining-start : (key h out : Str) → badHeaders h ≡ false → Joining key h out 0 0
-joining-start key h out b = record {
-  fuel = length h;
-  reading = record { inside = omega arith; enough = omega arith };
-  low = omega arith;
-  good = headers-read h b;
-  is = ap (λ (t : Str). t ++ commaed (valuesOf key (written (headersOf h)))) (sym (none-taken 0 out refl));
-}
-
-module _ (key h out : Str) (i len e : ℕ) (l : i < length h) (k : Cut 10 h i e) (j : Joining key h out i len) where
-  abbrev rest : ℕ → Str
-  rest g = commaed (valuesOf key (written (linesOf g (drop (e + 1) h))))
-
-  joining-turn : (g : ℕ) × (Reading h i (suc g)) × (readable (linesOf (suc g) (drop i h)) ≡ true) × (commaed (valuesOf key (written (headersOf h))) ≡ take len out ++ commaed (valuesOf key (written (linesOf (suc g) (drop i h)))))
-  joining-turn =
-      let f = fueled h i e l k (j .fuel) (j .reading) in
-      let q = f .1 in
-      (f .0, subst (Reading h i) q (j .reading), ap (λ (n : ℕ). readable (linesOf n (drop i h))) (sym q) ∙ j .good, j .is ∙ ap (λ (n : ℕ). take len out ++ commaed (valuesOf key (written (linesOf n (drop i h))))) q)
-
-  pub joining-cut : e < length h
-  joining-cut = let t = joining-turn in by (ltb e (length h)) (λ z. ltb-true _ _ z) (λ z. clash (t .2) (lines-uncut h i e (t .0) l k (let x = ltb-false e (length h) z in let y = k .high in omega arith)))
-
-  pub joining-line : readable (lineOf (cutAt 58 (part h i e))) ≡ true
-  joining-line = let t = joining-turn in by (readable (lineOf (cutAt 58 (part h i e)))) (λ z. z) (λ z. clash (t .2) (lines-bad h i e (t .0) l k joining-cut z))
-
-  lines-rest : (x : Line) → lineOf (cutAt 58 (part h i e)) ≡ some x → (g : ℕ) → readable (linesOf (suc g) (drop i h)) ≡ true
-      → (readable (linesOf g (drop (e + 1) h)) ≡ true) × (written (linesOf (suc g) (drop i h)) ≡ x ∷ written (linesOf g (drop (e + 1) h)))
-  lines-rest x q g r =
-      let a = sym (lines-on h i e g l k joining-cut joining-line) ∙ r in
-      let o = read-is _ a in
-      (a, ap written (lines-cut h i e g l k joining-cut ∙ ap (λ (z : Option Line). cons z (linesOf g (drop (e + 1) h))) q ∙ ap (cons (some x)) (o .1) ∙ cons-some x (o .0)) ∙ written-some _ ∙ ap (λ (z : List Line). x ∷ z) (sym (written-some _) ∙ ap written (sym (o .1))))
-
-  added : (x : Line) → lineOf (cutAt 58 (part h i e)) ≡ some x → lineValue key (part h i e) ≡ commaed (valuesOf key (x ∷ []))
-  unfolding lineValue oneLine
-  added x q = ap (λ (o : Option Line). commaed (valuesOf key (oneLine o))) q
-
-  pub joining-room : length h ≤ 8192 → 8192 ≤ length out → len + length (part h i e) ≤ length out
-  joining-room a b = omega (arith, part-long h i e (k .high), j .low, k .low, k .high)
-
-  module _ (out′ : Str) (to : ℕ) (w : Wrote out len (lineValue key (part h i e)) out′ to) (short : to ≤ len + length (part h i e)) (room : len + length (part h i e) ≤ length out) where
-    stored : take to out′ ≡ take len out ++ lineValue key (part h i e)
-    unfolding put
-    stored =
-        let a : length (take len out) ≡ len = length-take-le len out (omega arith) in
-        let s : Str = lineValue key (part h i e) in
-        ap (take to) (w .same ∙ sym (append-assoc (take len out) s _)) ∙ take-at (take len out ++ s) _ to (length-append (take len out) s ∙ ap (λ (m : ℕ). m + length s) a ∙ sym (w .ends))
-
-    pub joining-kept : length out′ ≡ length out
-    joining-kept = wrote-long out len _ out′ to w (omega (arith, w .ends))
-
-    pub joining-on : Joining key h out′ (e + 1) to
-    joining-on =
-        let t = joining-turn in
-        let x = read-is _ joining-line in
-        let r = lines-rest (x .0) (x .1) (t .0) (t .2) in
-        record {
-          fuel = t .0;
-          reading = reading-on h i e (t .0) (t .1) (k .low) joining-cut;
-          low = omega (arith, j .low, k .low, part-long h i e (k .high));
-          good = r .0;
-          is = t .3 ∙ ap (λ (y : List Line). take len out ++ commaed (valuesOf key y)) (r .1)
-              ∙ ap (λ (y : Str). take len out ++ y) (one-more key (x .0) _ ∙ ap (λ (y : Str). y ++ rest (t .0)) (sym (added (x .0) (x .1))))
-              ∙ sym (append-assoc (take len out) (lineValue key (part h i e)) (rest (t .0)))
-              ∙ ap (λ (y : Str). y ++ rest (t .0)) (sym stored);
-        }
-
-module _ (key h out : Str) (i len : ℕ) (j : Joining key h out i len) (l : length h ≤ i) where
-  gathered : commaed (valuesOf key (written (headersOf h))) ≡ take len out
-  gathered = j .is ∙ ap (λ (o : List Line). take len out ++ commaed (valuesOf key o)) (ap written (lines-over h i (j .fuel) l) ∙ written-some []) ∙ ap (λ (y : List Str). take len out ++ commaed y) (values-nil key) ∙ ap (λ (y : Str). take len out ++ y) commaed-nil ∙ append-nil _
-
-  value-is : headerValue key (written (headersOf h)) ≡ drop 1 (take len out)
-  unfolding headerValue
-  value-is = joined-is _ ∙ ap (drop 1) gathered
-
-  pub joined-empty : len ≡ 0 → part out 0 0 ≡ headerValue key (written (headersOf h))
-  joined-empty z = none-taken (0 - 0) (drop 0 out) (omega arith) ∙ sym (value-is ∙ ap (drop 1) (none-taken len out z))
-
-  pub joined-value : (len ≡ 0 → ⊥) → len ≤ length out → part out 1 len ≡ headerValue key (written (headersOf h))
-  joined-value z f = sym (value-is ∙ drop-take 1 len out (omega (arith, z)) (omega (arith, z)))

@@ -3,3 +3,4 @@ pub mod Request
 pub mod Verdict
 pub mod Call
 pub mod Steps
+pub mod Index

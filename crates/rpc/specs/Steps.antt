@@ -10,7 +10,7 @@ use Rattle.text.specs.String.{Str}
 use Rattle.text.specs.Frame.{part}
 use Rattle.rpc.specs.Request.{Line, cutAt, lineOf, headersOf, valuesOf, headerValue}
 use Rattle.rpc.specs.Call.{written}
-use Rattle.rpc.specs.declared.headers.Span.{Span}
+use Rattle.rpc.specs.declared.index.Span.{Span}
 
 -- the bytes from `from` on, cut at e; no cut where e is the end
 unfoldable pub cutHere : List ℕ → ℕ → ℕ → Option (Str × Str)

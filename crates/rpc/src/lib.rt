@@ -1,4 +1,5 @@
 pub mod headers;
+pub mod index;
 pub mod pattern;
 pub mod request;
 pub mod verdict;

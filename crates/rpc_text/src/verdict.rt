@@ -15,14 +15,17 @@ fn verdict_at(s: &[u8], i: usize, identity: &[u8], path: &[u8], headers: &[u8]) 
     requires { ⌜ Stands 16 (now s) i × (badHeaders (now headers) ≡ false) ⌝ }
     ensures { λ r. ⌜ r ≡ verdict (policyIn (treeAt 16 (now (s .entry)) i)) (request (now (identity .entry)) (now (path .entry)) (now (headers .entry))) ⌝ }
 {
+    let mut last = [8192u16; 256];
+    let mut before = [0u16; 2731];
+    rpc::index::index_lines(headers, &mut last, &mut before);
     let mut out = [0u8; 8192];
     let d = policy_text::place::member_at(s, i, b"deny_rules", 16);
-    let denied = crate::rule::first_rule(s, d, identity, path, headers, &mut out);
+    let denied = crate::rule::first_rule(s, d, identity, path, headers, &last, &before, &mut out);
     if let First::At(n) = denied {
         return Verdict::Denied(n);
     }
     let a = policy_text::place::member_at(s, i, b"allow_rules", 16);
-    let allowed = crate::rule::first_rule(s, a, identity, path, headers, &mut out);
+    let allowed = crate::rule::first_rule(s, a, identity, path, headers, &last, &before, &mut out);
     if let First::At(n) = allowed {
         return Verdict::Permitted(n);
     }

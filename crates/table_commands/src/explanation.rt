@@ -1,35 +1,28 @@
 // Which rules match a request, in ranking order, and the step of the ranking at which each lost to the first.
-ghost use Prim.Native.Nat.{_≤_};
-ghost use lib.ListN.{length};
 use explain::Place;
 use explain::Standing;
 use explain::Step;
+use facts::Row;
 use table::RuleNumber;
 use verdict_text::PathAnswer;
 
-enum Decided {
-    Rule(RuleNumber),
-    Nobody,
-}
-
-fn decider(text: &[u8], user: &[u8], mode: u32, origin: &[u8], path: &[u8]) -> Decided {
+// The number of the deciding rule; 256, which no rule has, where none decides.
+fn decider(text: &[u8], user: &[u8], mode: u32, origin: &[u8], path: &[u8]) -> u16 {
     let a = verdicts::path_verdict(text, user, mode, origin, path);
     match a {
-        PathAnswer::Permit(number) => Decided::Rule(number),
-        PathAnswer::Deny(number) => Decided::Rule(number),
-        PathAnswer::Default => Decided::Nobody,
-        PathAnswer::Refused { number, line } => Decided::Nobody,
+        PathAnswer::Permit(rule) => rule.0,
+        PathAnswer::Deny(rule) => rule.0,
+        PathAnswer::Default => 256,
+        PathAnswer::Refused { number, line } => 256,
     }
 }
 
 // Gives a rule the other mode, so that it matches no more. The table stays as acceptable as it was.
-fn silence(text: &mut [u8], rule: RuleNumber, mode: u32)
-    requires { ⌜ length (now text) ≤ 65536 ⌝ }
-{
-    let at = console::rows::find(text, 4, rule.0 as usize);
-    // after the digits of the kind and the action, and the first digit of the mode
-    let digit = at + 5;
-    if digit < text.len() {
+fn silence(text: &mut [u8], rule: u16, mode: u32) {
+    let at = console::rows::find(text, 4, rule as usize);
+    if 5 < text.len() - at {
+        // after the digits of the kind and the action, and the first digit of the mode
+        let digit = at + 5;
         text[digit] = if mode == 1 { b'2' } else { b'1' };
     }
 }
@@ -62,10 +55,7 @@ fn name_standing(s: Standing) {
 }
 
 // One of the rules that match, in its place.
-fn rule(text: &[u8], place: u64, rule: RuleNumber, best: RuleNumber)
-    requires { ⌜ length (now text) ≤ 65536 ⌝ }
-{
-    let n = rule.0 as usize;
+fn rule(text: &[u8], place: u64, rule: RuleNumber, best: RuleNumber) {
     let p = explain::place_of(text, rule);
     let q = explain::place_of(text, best);
     let Place::Stands(s) = p else {
@@ -82,27 +72,29 @@ fn rule(text: &[u8], place: u64, rule: RuleNumber, best: RuleNumber)
         name_step(explain::lost_at(s, b));
         show::word(b": rule ");
     }
-    show::decimal(n as u64);
+    show::decimal(rule.0 as u64);
     name_standing(s);
-    console::rows::id(text, n);
+    crate::tables::name(text, Row::Rule(rule));
 }
 
-// The rules that match, after `best`, the first of them.
-pub fn rest(text: &mut [u8], user: &[u8], mode: u32, origin: &[u8], path: &[u8])
-    requires { ⌜ length (now text) ≤ 65536 ⌝ }
-{
-    let d = decider(text, user, mode, origin, path);
-    let Decided::Rule(best) = d else {
-        return;
-    };
+// The rules that match, the best first.
+fn list(text: &mut [u8], user: &[u8], mode: u32, origin: &[u8], path: &[u8]) {
+    let best = decider(text, user, mode, origin, path);
+    let mut next = best;
     let mut place: u64 = 1;
     while place <= 256 {
-        let d = decider(text, user, mode, origin, path);
-        let Decided::Rule(number) = d else {
+        if next == 256 {
             return;
-        };
-        rule(text, place, number, best);
-        silence(text, number, mode);
+        }
+        rule(text, place, RuleNumber(next), RuleNumber(best));
+        silence(text, next, mode);
+        next = decider(text, user, mode, origin, path);
         place += 1;
     }
+}
+
+// The verdict, and the rules that match.
+pub fn all(text: &mut [u8], user: &[u8], mode: u32, origin: &[u8], path: &[u8]) {
+    crate::tables::verdict(text, user, mode, origin, path);
+    list(text, user, mode, origin, path);
 }

@@ -1,16 +1,8 @@
 // Path text and path bytes.
 ghost use Prim.Native.Nat.{_≤_};
 ghost use lib.ListN.{length};
-ghost use Rattle.io.specs.Counts.{Counts};
 use line::Line;
 use path_text::Filled;
-
-// n, which is no more than buf holds.
-fn within(n: usize, buf: &[u8]) -> usize
-    ensures { λ r. ⌜ Counts r (now (buf .entry)) ⌝ }
-{
-    if n <= buf.len() { n } else { buf.len() }
-}
 
 // Prints the bytes of a path text, in hex.
 pub fn read(text: &[u8]) {
@@ -18,7 +10,7 @@ pub fn read(text: &[u8]) {
     let r = path_text::reader::read_text(text, &mut out);
     match r {
         Filled::Length(n) => {
-            show::hex(&out[..within(n, &out)]);
+            show::hex(&out[..console::input::within(n, &out)]);
             show::word(b"\n");
         }
         Filled::Refused(number) => console::refusal::at(number, 0),
@@ -27,9 +19,9 @@ pub fn read(text: &[u8]) {
 
 fn write_bytes(bytes: &[u8]) {
     let mut out = [0u8; 13520];
-    let r = path_text::writer::write_text(bytes, &mut out);
+    let r = path_write::write_text(bytes, &mut out);
     match r {
-        Filled::Length(n) => show::line(&out[..within(n, &out)]),
+        Filled::Length(n) => show::line(&out[..console::input::within(n, &out)]),
         Filled::Refused(number) => console::refusal::at(number, 0),
     }
 }
@@ -42,7 +34,7 @@ pub fn write(digits: &[u8])
     let l = line::read_line(digits, 0, &mut bytes, 0);
     match l {
         Line::Frame { len, next } => {
-            write_bytes(&bytes[..within(len, &bytes)]);
+            write_bytes(&bytes[..console::input::within(len, &bytes)]);
         }
         Line::Bad => console::say::usage(b"path bytes are written as pairs of the digits 0-9a-f"),
     }

@@ -1,55 +1,76 @@
 // A rule table's check, a user's groups, the verdicts.
-ghost use Prim.Native.Nat.{_≤_};
-ghost use lib.ListN.{length};
-use table::Checked;
+use facts::Row;
+use facts::Rows;
 use table::Counted;
+use table::GroupNumber;
 use table::RuleNumber;
 use verdict_text::PathAnswer;
 use verdict_text::TreeAnswer;
 
 // How many rows of each kind an accepted table has, or why it is refused.
 pub fn check(text: &[u8]) {
-    let c = groups::check_table(text);
-    match c {
-        Checked::Accepted => {
-            show::line(b"accepted");
-            console::say::count(b"groups ", console::rows::count(text, 2));
-            console::say::count(b"members ", console::rows::count(text, 3));
-            console::say::count(b"rules ", console::rows::count(text, 4));
+    let r = facts::count_rows(text);
+    match r {
+        Rows::Count {
+            groups,
+            members,
+            rules,
+        } => {
+            console::say::count(b"accepted\ngroups ", groups);
+            console::say::count(b"members ", members);
+            console::say::count(b"rules ", rules);
         }
-        Checked::Refused { number, line } => console::refusal::table(text, number, line),
+        Rows::Refused { number, line } => console::refusal::table(text, number, line),
     }
 }
 
-// How many groups list the user, and the first of them.
-pub fn groups(text: &[u8], user: &[u8])
-    requires { ⌜ length (now text) ≤ 65536 ⌝ }
-{
+// Prints the name of a row, which has at most 64 bytes.
+pub fn name(text: &[u8], row: Row) {
+    let mut out = [0u8; 64];
+    let n = facts::name_of(text, row, &mut out);
+    show::line(&out[..console::input::within(n, &out)]);
+}
+
+// The number and the name of a group.
+fn group(text: &[u8], number: GroupNumber) {
+    show::word(b"group ");
+    show::decimal(number.0 as u64);
+    show::space();
+    name(text, Row::Group(number));
+}
+
+// Each group that lists the user.
+fn list(text: &[u8], user: &[u8]) {
+    let mut g: u8 = 0;
+    while g < 64 {
+        if facts::is_listed(text, user, GroupNumber(g)) {
+            group(text, GroupNumber(g));
+        }
+        g += 1;
+    }
+}
+
+// How many groups list the user, and each of them.
+pub fn groups(text: &[u8], user: &[u8]) {
     let c = groups::count_groups(text, user);
     match c {
         Counted::Count { count, first } => {
-            let g = first.0 as usize;
-            console::say::count(b"groups ", count as usize);
-            console::say::count(b"first ", g);
-            show::word(b"name ");
-            console::rows::group(text, g);
+            console::say::fact(b"groups ", count as u64);
+            list(text, user);
         }
         Counted::NoGroup => show::line(b"groups 0"),
         Counted::Declined { number, line } => console::refusal::table(text, number, line),
     }
 }
 
-fn id(text: &[u8], rule: RuleNumber)
-    requires { ⌜ length (now text) ≤ 65536 ⌝ }
-{
+// Prints the id of a rule.
+fn id(text: &[u8], rule: RuleNumber) {
     show::word(b"id ");
-    console::rows::id(text, rule.0 as usize);
+    name(text, Row::Rule(rule));
 }
 
 // The action, and the deciding rule's number and id.
-pub fn verdict(text: &[u8], user: &[u8], mode: u32, origin: &[u8], path: &[u8])
-    requires { ⌜ length (now text) ≤ 65536 ⌝ }
-{
+pub fn verdict(text: &[u8], user: &[u8], mode: u32, origin: &[u8], path: &[u8]) {
     let a = verdicts::path_verdict(text, user, mode, origin, path);
     crate::answer::path(a);
     match a {
@@ -61,9 +82,7 @@ pub fn verdict(text: &[u8], user: &[u8], mode: u32, origin: &[u8], path: &[u8])
 }
 
 // The tree answer, and the number and id of the rule that MIXED names.
-pub fn tree(text: &[u8], user: &[u8], mode: u32, origin: &[u8], path: &[u8])
-    requires { ⌜ length (now text) ≤ 65536 ⌝ }
-{
+pub fn tree(text: &[u8], user: &[u8], mode: u32, origin: &[u8], path: &[u8]) {
     let a = verdicts::tree_verdict(text, user, mode, origin, path);
     crate::answer::tree(a);
     match a {

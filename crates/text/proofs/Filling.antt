@@ -20,7 +20,7 @@ module _ (d : List ℕ) (at : ℕ) (s : List ℕ) (h : at + length s ≤ length 
       simp (length-append, length-drop, a) (omega arith)
 
   -- the front of what was put
-  put-take : take (at + length s) (put d at s) ≡ take at d ++ s
+  pub put-take : take (at + length s) (put d at s) ≡ take at d ++ s
   unfolding put
   put-take =
       let a : length (take at d) ≡ at = length-take-le at d (omega arith) in

@@ -11,7 +11,9 @@ use Rattle.verdict.specs.Join.{agree, coversBoth}
 use Rattle.verdict.specs.Order.{better, choose, rank}
 use Rattle.verdict.specs.Verdict.{action}
 use Rattle.place.specs.Place.{pathIn, pathEnd}
-use Rattle.bloom.specs.Bloom.{bits}
+use Rattle.bloom.specs.declared.Filter.{Filter}
+use Rattle.bloom.specs.declared.seed.Seed.{Seed}
+use Rattle.bloom.specs.Bloom.{beyond}
 use Rattle.judge.specs.Rules.{pathAt, ruleIn}
 
 -- ---- the tests
@@ -56,23 +58,32 @@ pub record Below (weights : List ℕ) (n limit r : ℕ) : Type 0 where
   pub there : 0 < r → (j : ℕ) × (j < n) × (getD weights j 0 ≡ r)
   pub less : 0 < r → r < limit
 
--- the Bloom filters of the paths of those that fit
-abbrev pub Filters : ℕ → List ℕ → List ℕ → List ℕ → List ℕ → ℕ → Type 0
-Filters w f weights paths filters n = (i : ℕ) → i < n → 255 < getD weights i 0 → getD filters i 0 ≡ bits w 0 (pathIn f (getD paths i 0))
+-- the filter kept of rule i: four numbers
+unfoldable pub filterOf : List ℕ → ℕ → Filter
+filterOf filters i = record {
+  a = getD filters (4 * i) 0;
+  b = getD filters (4 * i + 1) 0;
+  c = getD filters (4 * i + 2) 0;
+  d = getD filters (4 * i + 3) 0;
+}
+
+-- those of the rules that fit have what their paths have beyond p
+abbrev pub Filters : Seed → List ℕ → List ℕ → List ℕ → Path → List ℕ → ℕ → Type 0
+Filters s f weights paths p filters n =
+    (i : ℕ) → i < n → 255 < getD weights i 0 → filterOf filters i ≡ beyond s 0 (pathIn f (getD paths i 0)) p
 
 -- after each that fits the next in weight
 abbrev pub Nexts : List ℕ → List ℕ → ℕ → Type 0
 Nexts weights next n = (i : ℕ) → i < n → 255 < getD weights i 0 → Below weights n (getD weights i 0) (getD next i 0)
 
--- what is kept of n rules; the first in weight is `first`
-pub record Kept (f weights paths next low high : List ℕ) (n first : ℕ) : Type 0 where
+-- what is kept of n rules, p being asked; the first in weight is `first`
+pub record Kept (f weights paths next filters : List ℕ) (p : Path) (n first : ℕ) : Type 0 where
   pub few : n ≤ 256
   pub laid : (i : ℕ) → i < n → pathEnd f (getD paths i 0) ≤ length f
   pub packed : (i : ℕ) → i < n → Packed (getD weights i 0) i
   pub start : Below weights n 9223372036854775808 first
   pub nexts : Nexts weights next n
-  pub lows : Filters 26 f weights paths low n
-  pub highs : Filters 20 f weights paths high n
+  pub filtered : (s : Seed) × Filters s f weights paths p filters n
 
 -- ---- the deciding rule
 

@@ -1,31 +1,76 @@
 // The Bloom filters of the rules that fit.
 ghost use mathlib.Core.Path.{_≡_};
-ghost use Prim.Native.Nat.{ℕ, _≤_, _<_};
+ghost use mathlib.Core.Bool.{false};
+ghost use Prim.Native.Nat.{ℕ, _+_, _*_, _≤_, _<_};
 ghost use lib.ListN.{length, getD};
-ghost use Rattle.place.specs.Place.{pathEnd, pathIn};
-ghost use Rattle.bloom.specs.Bloom.{bits};
-ghost use Rattle.tree.specs.Tree.{Filters};
+ghost use Rattle.place.specs.Place.{elemsEnd, elemsIn, pathEnd, pathIn};
+ghost use Rattle.bloom.specs.Bloom.{Small, join, beyond};
+ghost use Rattle.tree.specs.Tree.{filterOf, Filters};
+use bloom::Filter;
+use bloom::seed::Seed;
 
 // That of the path at a, asked only where x is the weight of a rule that fits.
-pub fn filter_at(w: u32, x: usize, f: &[u8], a: usize) -> u64
-    requires { ⌜ (w < 64) × (pathEnd (now f) a ≤ length (now f)) ⌝ }
-    ensures { λ r. ⌜ (255 < x → r ≡ bits w 0 (pathIn (now (f .entry)) a)) ⌝ }
+pub fn filter_at(s: Seed, x: usize, f: &[u8], a: usize, g: &[u8], p: usize, k: usize) -> Filter
+    requires { ⌜ Small s × (pathEnd (now f) a ≤ length (now f)) × (elemsEnd k (now g) p ≤ length (now g)) ⌝ }
+    ensures { λ r. ⌜ (255 < x → r ≡ beyond s 0 (pathIn (now (f .entry)) a) (elemsIn k (now (g .entry)) p)) ⌝ }
 {
     if x < 256 {
-        return 0;
+        return bloom::empty();
     }
     let n = f[a] as usize;
-    bloom::path_bits(w, f, a + 1, n)
+    bloom::beyond(s, f, a + 1, n, g, p, k)
 }
 
-pub fn fill(w: u32, f: &[u8], weights: &[usize], paths: &[u16], n: usize, filters: &mut [u64])
-    requires { ⌜ (w < 64) × ((i : ℕ) → i < n → pathEnd (now f) (getD (now paths) i 0) ≤ length (now f)) × (n ≤ length (now weights)) × (n ≤ length (now paths)) × (n ≤ length (now filters)) ⌝ }
-    ensures { λ _. ⌜ (length (now (filters .exit)) ≡ length (now (filters .entry))) × Filters w (now (f .entry)) (now (weights .entry)) (now (paths .entry)) (now (filters .exit)) n ⌝ }
+// Stores the filter of rule i.
+pub fn store(x: Filter, i: usize, filters: &mut [u64])
+    requires { ⌜ 4 * i + 4 ≤ length (now filters) ⌝ }
+    ensures { λ _. ⌜ (length (now (filters .exit)) ≡ length (now (filters .entry))) × (filterOf (now (filters .exit)) i ≡ x) × ((j : ℕ) → j < i → filterOf (now (filters .exit)) j ≡ filterOf (now (filters .entry)) j) ⌝ }
+{
+    filters[4 * i] = x.a;
+    filters[4 * i + 1] = x.b;
+    filters[4 * i + 2] = x.c;
+    filters[4 * i + 3] = x.d;
+}
+
+pub fn fill(
+    s: Seed,
+    f: &[u8],
+    weights: &[usize],
+    paths: &[u16],
+    n: usize,
+    g: &[u8],
+    p: usize,
+    k: usize,
+    filters: &mut [u64],
+)
+    requires { ⌜ Small s × ((i : ℕ) → i < n → pathEnd (now f) (getD (now paths) i 0) ≤ length (now f)) × (n ≤ length (now weights)) × (n ≤ length (now paths)) × (elemsEnd k (now g) p ≤ length (now g)) × (4 * n ≤ length (now filters)) ⌝ }
+    ensures { λ _. ⌜ (length (now (filters .exit)) ≡ length (now (filters .entry))) × Filters s (now (f .entry)) (now (weights .entry)) (now (paths .entry)) (elemsIn k (now (g .entry)) p) (now (filters .exit)) n ⌝ }
 {
     let mut i = 0;
     while i < n {
         let a = paths[i] as usize;
-        filters[i] = filter_at(w, weights[i], f, a);
+        store(filter_at(s, weights[i], f, a, g, p, k), i, filters);
         i += 1;
     }
+}
+
+// Whether rule j's filter has no digit that rule i's lacks.
+pub fn is_within(filters: &[u64], j: usize, i: usize) -> bool
+    requires { ⌜ (4 * j + 4 ≤ length (now filters)) × (4 * i + 4 ≤ length (now filters)) ⌝ }
+    ensures { λ r. ⌜ (r ≡ false → join (filterOf (now (filters .entry)) j) (filterOf (now (filters .entry)) i) ≡ filterOf (now (filters .entry)) i → ⊥) ⌝ }
+{
+    let a = filters[4 * i];
+    if filters[4 * j] | a != a {
+        return false;
+    }
+    let b = filters[4 * i + 1];
+    if filters[4 * j + 1] | b != b {
+        return false;
+    }
+    let c = filters[4 * i + 2];
+    if filters[4 * j + 2] | c != c {
+        return false;
+    }
+    let d = filters[4 * i + 3];
+    filters[4 * j + 3] | d == d
 }

@@ -1,12 +1,11 @@
 // The opposing rule with the smallest id.
 ghost use mathlib.Core.Path.{_≡_};
 ghost use mathlib.Core.Bool.{Bool, xor};
-ghost use Prim.Native.Nat.{ℕ, _≤_, _<_};
+ghost use Prim.Native.Nat.{ℕ, _*_, _≤_, _<_};
 ghost use lib.ListN.{length, getD};
 ghost use Rattle.table.specs.Table.{Rule};
 ghost use Rattle.verdict.specs.Order.{earlier, choose, prefer, candidate};
 ghost use Rattle.place.specs.Place.{elemsEnd, elemsIn};
-ghost use Rattle.bloom.specs.Bloom.{bits};
 ghost use Rattle.judge.specs.Rules.{ruleIn, rulesIn, Laid};
 ghost use Rattle.judge.specs.Best.{held, Sound};
 ghost use Rattle.tree.specs.Tree.{opposing, Weights, Packed, Paths, Kept};
@@ -30,18 +29,15 @@ pub fn oppose(
     weights: &[usize],
     paths: &[u16],
     next: &[usize],
-    low: &[u64],
-    high: &[u64],
+    filters: &[u64],
     n: usize,
     first: usize,
     v: bool,
     g: &[u8],
     p: usize,
     k: usize,
-    x: u64,
-    y: u64,
 ) -> Best
-    requires { ⌜ (i < n) × Sound (now f) b × Kept (now f) (now weights) (now paths) (now next) (now low) (now high) n first × Paths (now f) (now starts) (now paths) n × Laid (now f) (now starts) n × (length (now f) < 65536) × (n ≤ length (now starts)) × (n ≤ length (now weights)) × (n ≤ length (now paths)) × (n ≤ length (now next)) × (n ≤ length (now low)) × (n ≤ length (now high)) × (elemsEnd k (now g) p ≤ length (now g)) × (x ≡ bits 26 0 (elemsIn k (now g) p)) × (y ≡ bits 20 0 (elemsIn k (now g) p)) ⌝ }
+    requires { ⌜ (i < n) × Sound (now f) b × Kept (now f) (now weights) (now paths) (now next) (now filters) (elemsIn k (now g) p) n first × Paths (now f) (now starts) (now paths) n × Laid (now f) (now starts) n × (length (now f) < 65536) × (n ≤ length (now starts)) × (n ≤ length (now weights)) × (n ≤ length (now paths)) × (n ≤ length (now next)) × (4 * n ≤ length (now filters)) × (elemsEnd k (now g) p ≤ length (now g)) ⌝ }
     ensures { λ c. ⌜ Sound (now (f .entry)) c × ((test : Rule → Bool) → Weights test (now (f .entry)) (now (starts .entry)) (now (weights .entry)) n → held (now (f .entry)) c ≡ prefer earlier (held (now (f .entry)) b) (candidate (opposing test (rulesIn (now (f .entry)) (now (starts .entry)) n 0) (elemsIn k (now (g .entry)) p) v) i (ruleIn (now (f .entry)) (getD (now (starts .entry)) i 0)))) ⌝ }
 {
     if weights[i] < 256 {
@@ -51,22 +47,7 @@ pub fn oppose(
     if !judge::best::wins_earlier(f, s, b) {
         return b;
     }
-    let d = crate::joined::decide_joined(
-        i,
-        f,
-        weights,
-        paths,
-        next,
-        low,
-        high,
-        n,
-        first,
-        g,
-        p,
-        k,
-        x,
-        y,
-    );
+    let d = crate::joined::decide_joined(i, f, weights, paths, next, filters, n, first, g, p, k);
     let t = starts[d] as usize;
     if !unlike(f[t] == 1, v) {
         return b;
@@ -85,18 +66,15 @@ pub fn search(
     weights: &[usize],
     paths: &[u16],
     next: &[usize],
-    low: &[u64],
-    high: &[u64],
+    filters: &[u64],
     n: usize,
     first: usize,
     v: bool,
     g: &[u8],
     p: usize,
     k: usize,
-    x: u64,
-    y: u64,
 ) -> Best
-    requires { ⌜ Kept (now f) (now weights) (now paths) (now next) (now low) (now high) n first × Paths (now f) (now starts) (now paths) n × Laid (now f) (now starts) n × (length (now f) < 65536) × (n ≤ length (now starts)) × (n ≤ length (now weights)) × (n ≤ length (now paths)) × (n ≤ length (now next)) × (n ≤ length (now low)) × (n ≤ length (now high)) × (elemsEnd k (now g) p ≤ length (now g)) × (x ≡ bits 26 0 (elemsIn k (now g) p)) × (y ≡ bits 20 0 (elemsIn k (now g) p)) ⌝ }
+    requires { ⌜ Kept (now f) (now weights) (now paths) (now next) (now filters) (elemsIn k (now g) p) n first × Paths (now f) (now starts) (now paths) n × Laid (now f) (now starts) n × (length (now f) < 65536) × (n ≤ length (now starts)) × (n ≤ length (now weights)) × (n ≤ length (now paths)) × (n ≤ length (now next)) × (4 * n ≤ length (now filters)) × (elemsEnd k (now g) p ≤ length (now g)) ⌝ }
     ensures { λ c. ⌜ Sound (now (f .entry)) c × ((test : Rule → Bool) → Weights test (now (f .entry)) (now (starts .entry)) (now (weights .entry)) n → held (now (f .entry)) c ≡ choose earlier (opposing test (rulesIn (now (f .entry)) (now (starts .entry)) n 0) (elemsIn k (now (g .entry)) p) v) 0 (rulesIn (now (f .entry)) (now (starts .entry)) n 0)) ⌝ }
 {
     let mut b = Best {
@@ -114,16 +92,13 @@ pub fn search(
             weights,
             paths,
             next,
-            low,
-            high,
+            filters,
             n,
             first,
             v,
             g,
             p,
             k,
-            x,
-            y,
         );
         i += 1;
     }
@@ -148,27 +123,21 @@ pub fn witness(
     let first = crate::order::below(weights, n, 9223372036854775808);
     let mut next = [0usize; 256];
     crate::order::link(weights, n, &mut next);
-    let mut low = [0u64; 256];
-    crate::filter::fill(26, f, weights, paths, n, &mut low);
-    let mut high = [0u64; 256];
-    crate::filter::fill(20, f, weights, paths, n, &mut high);
-    let x = bloom::path_bits(26, g, p, k);
-    let y = bloom::path_bits(20, g, p, k);
+    let seed = bloom::seed::draw(f);
+    let mut filters = [0u64; 1024];
+    crate::filter::fill(seed, f, weights, paths, n, g, p, k, &mut filters);
     search(
         f,
         starts,
         weights,
         paths,
         &next,
-        &low,
-        &high,
+        &filters,
         n,
         first,
         v,
         g,
         p,
         k,
-        x,
-        y,
     )
 }

@@ -30,6 +30,12 @@ pub fn worst_trees() -> Vec<WorstTree> {
         named("ranks that rise", full_table(rising), &plain(16)),
         named("keys that rise", full_table(rising_keys), &keyed(&[4; 16])),
         named("values of one hash", values_of_one_hash(), &root),
+        named(
+            "all keys asked",
+            full_table(|number| (b'u', (number % 2) as u8, last_key(plain(14), number))),
+            &keyed(&[4; 16]),
+        ),
+        named("keys split in two", full_table(split_keys), &root),
     ]
 }
 
@@ -137,8 +143,18 @@ fn rising_keys(number: usize) -> (u8, u8, Path) {
     (subject, action, path)
 }
 
-/// Values made so that the proved library's Bloom filters tell no rule from another: all have the digits of the
-/// first. Its author has to know the hash.
+/// Two keys in the last element, each of 17 letters, that differ only in where the name ends and the value begins.
+fn split_keys(number: usize) -> (u8, u8, Path) {
+    let mut path = plain(2);
+    for (letter, at) in [(b'a', number / 16), (b'b', number % 16)] {
+        let key = Key { name: vec![letter; at + 1], value: vec![letter; 16 - at] };
+        path.elements[1].keys.push(key);
+    }
+    (b'u', (number % 2) as u8, path)
+}
+
+/// Values that a linear hash with a factor known beforehand does not tell apart, as the proved library once had: the
+/// upper twelve bits are those of the first value's.
 fn values_of_one_hash() -> Vec<u8> {
     let digits = |value: &[u8]| {
         let start = 13 * 256;

@@ -14,7 +14,7 @@ add-a c =
 str-end-requires : tie.Need-str-end-requires
 str-end-requires c κs =
     let at-start = c .before in
-    at-start .pre .1
+    at-start .pre .2
 
 sub-hash : tie.Need-sub-hash
 sub-hash c =
@@ -32,7 +32,7 @@ part-hash-end c = search needs
 hash-requires : tie.Need-hash-requires
 hash-requires c κs =
     let at-start = c .before .before .before in
-    at-start .pre .0
+    (at-start .pre .0, at-start .pre .1)
 
 returns : tie.Need-returns
 unfolding strIn

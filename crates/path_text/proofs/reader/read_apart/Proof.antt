@@ -9,7 +9,9 @@ use Rattle.path_text.proofs.reader.read_apart.Statement.{statement}
 use Rattle.path_text.proofs.reader.read_apart.Tie as tie
 
 transcribe-requires : tie.Need-transcribe-requires
-transcribe-requires c κs = search needs
+transcribe-requires c κs =
+    let at-start = c .before .before .before .before in
+    at-start .pre
 
 enum-known-t : tie.Need-enum-known-t
 enum-known-t c = search needs

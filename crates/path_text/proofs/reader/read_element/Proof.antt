@@ -1,16 +1,18 @@
--- `read_element` stores the name, and then the keys.
+-- `read_element` stores the name, and then the keys, where all are good.
 use borrow.Author.Needs.{needs}
 use native.Mathlib.Omega.{arith}
+use mathlib.Core.Path.{refl}
+use Rattle.path.specs.Walk.{nameGrade, good}
 use Rattle.path_text.specs.Steps.{nothing}
-use Rattle.path_text.proofs.Storing.{stored-to, stored-not, room-less, room-end, room-then}
-use Rattle.path_text.proofs.Reading.{element-nameless, element-stores}
+use Rattle.path_text.proofs.Storing.{stored-to, stored-not, string-longer, room-less, room-end, room-then}
+use Rattle.path_text.proofs.Judging.{pass-got, element-misnamed, element-dots, element-stores}
 use Rattle.path_text.proofs.reader.read_element.Statement.{statement}
 use Rattle.path_text.proofs.reader.read_element.Tie as tie
 
 read-name-requires : tie.Need-read-name-requires
 read-name-requires c κs =
     let at-start = c .before .before .before in
-    room-less _ _ _ _ _ _ (at-start .pre) 65 1 (omega arith) (omega arith)
+    (room-less _ _ _ _ _ _ (at-start .pre) 65 1 (omega arith) (omega arith), refl, refl)
 
 enum-known-n : tie.Need-enum-known-n
 enum-known-n c = search needs
@@ -25,27 +27,70 @@ returns : tie.Need-returns
 returns c =
     let at-enum-told = c .enum-told in
     let at-read-name = c .before .before .before .before .read-name in
-    nothing (element-nameless _ _ (stored-not (at-read-name .ensures) (at-enum-told .given .1)))
+    nothing (element-misnamed _ _ (stored-not (at-read-name .ensures) (at-enum-told .given .1)))
 
-read-keys-requires : tie.Need-read-keys-requires
-read-keys-requires c κs =
-    let at-n = c .before .before .n in
-    let at-read-name = c .before .before .before .before .before .before .read-name in
-    let at-start = c .before .before .before .before .before .before .before .before .before .before in
+sub-is-same : tie.Need-sub-is-same
+sub-is-same c =
+    let at-n = c .before .n in
+    let at-read-name = c .before .before .before .before .before .read-name in
     let u = stored-to (at-read-name .ensures) (at-n .given .1) in
-    room-then _ _ _ _ _ _ (at-start .pre) 65 1 _ _ (u .3) (omega (arith, u .2 .ends)) 521 1 _ _ _ (u .2) (omega arith) (omega arith) (omega arith) (omega arith) (u .3 .inside)
+    omega (arith, u .3 .near, string-longer _ _ _ _ _ (u .2))
+
+part-is-same-start : tie.Need-part-is-same-start
+part-is-same-start c =
+    let at-n = c .before .n in
+    let at-read-name = c .before .before .before .before .before .read-name in
+    let u = stored-to (at-read-name .ensures) (at-n .given .1) in
+    omega (arith, u .3 .near, string-longer _ _ _ _ _ (u .2))
+
+part-is-same-end : tie.Need-part-is-same-end
+part-is-same-end c =
+    let at-n = c .before .n in
+    let at-read-name = c .before .before .before .before .before .read-name in
+    let u = stored-to (at-read-name .ensures) (at-n .given .1) in
+    u .3 .inside
+
+slice-aggregate-is-same : tie.Need-slice-aggregate-is-same
+slice-aggregate-is-same c = search needs
+
+is-same-requires : tie.Need-is-same-requires
+is-same-requires c κs = search needs
 
 same-length-2 : tie.Need-same-length-2
 same-length-2 c = search needs
 
 returns-2 : tie.Need-returns-2
 returns-2 c =
-    let at-read-keys = c .before .before .read-keys in
+    let at-if1 = c .if1 in
+    let at-is-same = c .before .is-same in
     let at-n = c .before .before .before .before .before .n in
     let at-read-name = c .before .before .before .before .before .before .before .before .before .read-name in
-    let at-start = c .before .before .before .before .before .before .before .before .before .before .before .before .before in
     let u = stored-to (at-read-name .ensures) (at-n .given .1) in
-    element-stores _ _ _ _ _ _ _ _ _ _ (u .1) (u .2) (u .3) (room-end _ _ _ _ _ _ (at-start .pre) 65 1 _ _ (u .3) (omega (arith, u .2 .ends)) (omega arith) (omega arith)) (at-read-keys .ensures)
+    let g = pass-got (good nameGrade) _ (u .1) in
+    nothing (element-dots _ _ _ _ _ (g .0) (at-is-same .ensures) (at-if1 .taken))
+
+read-keys-requires : tie.Need-read-keys-requires
+read-keys-requires c κs =
+    let at-n = c .before .before .before .before .before .before .n in
+    let at-read-name = c .before .before .before .before .before .before .before .before .before .before .read-name in
+    let at-start = c .before .before .before .before .before .before .before .before .before .before .before .before .before .before in
+    let u = stored-to (at-read-name .ensures) (at-n .given .1) in
+    room-then _ _ _ _ _ _ (at-start .pre) 65 1 _ _ (u .3) (omega (arith, u .2 .ends)) 521 1 _ _ _ (u .2) (omega arith) (omega arith) (omega arith) (omega arith) (u .3 .inside)
+
+same-length-3 : tie.Need-same-length-3
+same-length-3 c = search needs
+
+returns-3 : tie.Need-returns-3
+returns-3 c =
+    let at-read-keys = c .before .before .read-keys in
+    let at-if1 = c .before .before .before .before .if1 in
+    let at-is-same = c .before .before .before .before .before .is-same in
+    let at-n = c .before .before .before .before .before .before .before .before .before .n in
+    let at-read-name = c .before .before .before .before .before .before .before .before .before .before .before .before .before .read-name in
+    let at-start = c .before .before .before .before .before .before .before .before .before .before .before .before .before .before .before .before .before in
+    let u = stored-to (at-read-name .ensures) (at-n .given .1) in
+    let g = pass-got (good nameGrade) _ (u .1) in
+    element-stores _ _ _ _ (g .0) (g .1) _ (at-is-same .ensures) (at-if1 .left) _ _ _ _ _ _ (u .2) (u .3) (room-end _ _ _ _ _ _ (at-start .pre) 65 1 _ _ (u .3) (omega (arith, u .2 .ends)) (omega arith) (omega arith)) (at-read-keys .ensures)
 
 pub read-element-spec : {M : Type 1} → statement M
 read-element-spec =
@@ -56,6 +101,13 @@ read-element-spec =
     enum-told
     same-length
     returns
-    read-keys-requires
+    sub-is-same
+    part-is-same-start
+    part-is-same-end
+    slice-aggregate-is-same
+    is-same-requires
     same-length-2
-    returns-2)
+    returns-2
+    read-keys-requires
+    same-length-3
+    returns-3)

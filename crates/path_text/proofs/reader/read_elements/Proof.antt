@@ -1,18 +1,18 @@
 -- `read_elements` stores the elements, and then their count.
 use borrow.Author.Needs.{needs}
 use native.Mathlib.Omega.{arith}
-use Rattle.path_text.specs.Steps.{Within, stores, nothing}
+use Rattle.path_text.specs.Steps.{goodElement, Within, stores, nothing}
 use Rattle.path_text.proofs.Storing.{Storing, storing-start, storing-long, storing-from, storing-none, storing-done, storing-turn, stored-to, stored-not, within-after, within-less, room-byte, room-end, room-after}
 use Prim.Native.Nat.{_*_, _-_, _≤_}
 use lib.ListN.{length-set}
 use Rattle.path.specs.Bytes.{elemBytes}
-use Rattle.path_text.specs.TextReader.{each, element}
+use Rattle.path_text.specs.TextReader.{each}
 use Rattle.path_text.proofs.Reading.{some-left, next-inside, each-turn, each-unread, each-done, wrote-counted}
 use Rattle.path_text.proofs.reader.read_elements.Statement.{statement}
 use Rattle.path_text.proofs.reader.read_elements.Tie as tie
 
 abbrev Inv-loop : tie.InvT-loop
-Inv-loop text out₀ p₀ q₀ left₀ out p q left = Storing elemBytes out₀ 1 (each 47 16 element text 0) (16 - left) out q (each 47 left element text p) × (left ≤ 16) × Within (9377 - 586 * left) (17 - left) text 0 p 0 q
+Inv-loop text out₀ p₀ q₀ left₀ out p q left = Storing elemBytes out₀ 1 (each 47 16 goodElement text 0) (16 - left) out q (each 47 left goodElement text p) × (left ≤ 16) × Within (9377 - 586 * left) (17 - left) text 0 p 0 q
 
 abbrev μ-loop : tie.MeasureT-loop
 μ-loop text out₀ p₀ q₀ left₀ out p q left = left
@@ -63,7 +63,7 @@ returns c =
     let at-byte-at = c .before .before .before .before .before .before .before .byte-at in
     let at-loop = c .before .before .before .before .before .before .before .before .loop in
     let at-start = c .before .before .before .before .before .before .before .before .before .before .before in
-    nothing (storing-none _ _ _ _ _ _ _ _ (at-loop .inv .0) (each-unread 47 (at-loop .left) (at-start .args .text .now) (at-loop .p) _ (at-byte-at .ensures) (at-if1 .taken) element (stored-not (at-read-element .ensures) (at-enum-told .given .1))))
+    nothing (storing-none _ _ _ _ _ _ _ _ (at-loop .inv .0) (each-unread 47 (at-loop .left) (at-start .args .text .now) (at-loop .p) _ (at-byte-at .ensures) (at-if1 .taken) goodElement (stored-not (at-read-element .ensures) (at-enum-told .given .1))))
 
 sub-left : tie.Need-sub-left Inv-loop μ-loop
 sub-left c =
@@ -95,7 +95,7 @@ loop-again c =
     let o = storing-from _ _ _ _ _ _ _ _ (at-loop .inv .0) in
     let w = within-after (9377 - 586 * at-loop .left) (17 - at-loop .left) 586 2 (9377 - 586 * (at-loop .left - 1)) (17 - (at-loop .left - 1)) _ _ _ _ _ _ _ _ (at-loop .inv .2) (u .3) (omega (arith, z, at-loop .inv .1)) (omega (arith, z, at-loop .inv .1)) in
     let f = room-end _ _ _ _ _ _ (at-start .pre) (9377 - 586 * (at-loop .left - 1)) (17 - (at-loop .left - 1)) _ _ w (omega (arith, u .2 .ends)) (omega arith) (omega arith) in (
-      storing-turn _ _ _ _ _ _ _ _ (at-loop .inv .0) (u .0) _ _ _ _ (each-turn 47 (at-loop .left) (at-start .args .text .now) (at-loop .p) _ (at-byte-at .ensures) (at-if1 .taken) element (u .0) _ (u .1)) (u .2)
+      storing-turn _ _ _ _ _ _ _ _ (at-loop .inv .0) (u .0) _ _ _ _ (each-turn 47 (at-loop .left) (at-start .args .text .now) (at-loop .p) _ (at-byte-at .ensures) (at-if1 .taken) goodElement (u .0) _ (u .1)) (u .2)
           (omega (arith, u .2 .ends, f)) (omega (arith, z, at-loop .inv .1)),
       omega (arith, at-loop .inv .1),
       w,
@@ -126,7 +126,7 @@ returns-2 c =
     let at-byte-at = c .before .byte-at in
     let at-loop = c .before .before .loop in
     let at-start = c .before .before .before .before .before in
-    stores (storing-done _ _ _ _ _ _ _ _ (at-loop .inv .0) _ (each-done 47 (at-loop .left) (at-start .args .text .now) (at-loop .p) _ (at-byte-at .ensures) (at-if1 .left) element))
+    stores (storing-done _ _ _ _ _ _ _ _ (at-loop .inv .0) _ (each-done 47 (at-loop .left) (at-start .args .text .now) (at-loop .p) _ (at-byte-at .ensures) (at-if1 .left) goodElement))
     (wrote-counted elemBytes _ _ _ _ _ _ (at-loop .inv .0 .count) (at-loop .inv .0 .room) (at-loop .inv .0 .wrote)) (within-less _ _ _ _ _ _ _ _ _ (at-loop .inv .2) (omega arith) (omega arith))
 
 pub read-elements-spec : {M : Type 1} → statement M

@@ -1,24 +1,27 @@
--- `read_keys` stores the keys, and then their count.
+-- `read_keys` stores the keys, and then their count, where no two have the same name.
 use borrow.Author.Needs.{needs}
 use native.Mathlib.Omega.{arith}
-use Rattle.path_text.specs.Steps.{Within, stores, nothing}
-use Rattle.path_text.proofs.Storing.{Storing, storing-start, storing-long, storing-from, storing-none, storing-done, storing-turn, stored-to, stored-not, within-after, within-less, room-byte, room-end, room-after}
+use mathlib.Core.Path.{sym, ap, _∙_}
+use mathlib.Core.Bool.{not}
 use Prim.Native.Nat.{_+_, _*_, _-_, _≤_}
 use lib.ListN.{length-set}
 use Rattle.path.specs.Bytes.{keyBytes}
-use Rattle.path_text.specs.TextReader.{each, key}
+use Rattle.path_text.specs.TextReader.{each}
+use Rattle.path_text.specs.Steps.{goodKey, distinct, Within, stores, nothing}
+use Rattle.path_text.proofs.Storing.{Storing, storing-start, storing-long, storing-from, storing-none, storing-done, storing-turn, stored-to, stored-not, within-after, within-less, room-byte, room-end, room-after}
 use Rattle.path_text.proofs.Reading.{some-left, next-inside, each-turn, each-unread, each-done, wrote-counted}
+use Rattle.path_text.proofs.Judging.{pass-good, pass-bad, pass-none, keys-twice}
 use Rattle.path_text.proofs.reader.read_keys.Statement.{statement}
 use Rattle.path_text.proofs.reader.read_keys.Tie as tie
 
 abbrev Inv-loop : tie.InvT-loop
-Inv-loop text at out₀ to p₀ q₀ left₀ out p q left = Storing keyBytes out₀ (to + 1) (each 91 4 key text at) (4 - left) out q (each 91 left key text p) × (left ≤ 4) × Within (521 - 130 * left) 1 text at p to q
+Inv-loop text at out₀ to start p₀ q₀ left₀ out p q left = Storing keyBytes out₀ (to + 1) (each 91 4 goodKey text at) (4 - left) out q (each 91 left goodKey text p) × (left ≤ 4) × Within (521 - 130 * left) 1 text at p to q
 
 abbrev μ-loop : tie.MeasureT-loop
-μ-loop text at out₀ to p₀ q₀ left₀ out p q left = left
+μ-loop text at out₀ to start p₀ q₀ left₀ out p q left = left
 
-add-q : tie.Need-add-q Inv-loop μ-loop
-add-q c =
+add-start : tie.Need-add-start Inv-loop μ-loop
+add-start c =
     let at-start = c .before .before in
     omega (arith, room-byte _ _ _ _ _ _ (at-start .pre) (omega arith) (omega arith))
 
@@ -68,7 +71,7 @@ returns c =
     let at-byte-at = c .before .before .before .before .before .before .before .byte-at in
     let at-loop = c .before .before .before .before .before .before .before .before .loop in
     let at-start = c .before .before .before .before .before .before .before .before .before .before .before in
-    nothing (storing-none _ _ _ _ _ _ _ _ (at-loop .inv .0) (each-unread 91 (at-loop .left) (at-start .args .text .now) (at-loop .p) _ (at-byte-at .ensures) (at-if1 .taken) key (stored-not (at-read-key .ensures) (at-enum-told .given .1))))
+    nothing (pass-none distinct (storing-none _ _ _ _ _ _ _ _ (at-loop .inv .0) (each-unread 91 (at-loop .left) (at-start .args .text .now) (at-loop .p) _ (at-byte-at .ensures) (at-if1 .taken) goodKey (stored-not (at-read-key .ensures) (at-enum-told .given .1)))))
 
 sub-left : tie.Need-sub-left Inv-loop μ-loop
 sub-left c =
@@ -100,7 +103,7 @@ loop-again c =
     let o = storing-from _ _ _ _ _ _ _ _ (at-loop .inv .0) in
     let w = within-after (521 - 130 * at-loop .left) 1 130 1 (521 - 130 * (at-loop .left - 1)) 1 _ _ _ _ _ _ _ _ (at-loop .inv .2) (u .3) (omega (arith, z, at-loop .inv .1)) (omega (arith, z, at-loop .inv .1)) in
     let f = room-end _ _ _ _ _ _ (at-start .pre) (521 - 130 * (at-loop .left - 1)) 1 _ _ w (omega (arith, u .2 .ends)) (omega arith) (omega arith) in (
-      storing-turn _ _ _ _ _ _ _ _ (at-loop .inv .0) (u .0) _ _ _ _ (each-turn 91 (at-loop .left) (at-start .args .text .now) (at-loop .p) _ (at-byte-at .ensures) (at-if1 .taken) key (u .0) _ (u .1)) (u .2)
+      storing-turn _ _ _ _ _ _ _ _ (at-loop .inv .0) (u .0) _ _ _ _ (each-turn 91 (at-loop .left) (at-start .args .text .now) (at-loop .p) _ (at-byte-at .ensures) (at-if1 .taken) goodKey (u .0) _ (u .1)) (u .2)
           (omega (arith, u .2 .ends, f)) (omega (arith, z, at-loop .inv .1)),
       omega (arith, at-loop .inv .1),
       w,
@@ -111,27 +114,62 @@ sub-count c =
     let at-loop = c .before .before .loop in
     at-loop .inv .1
 
+sub-has-twice : tie.Need-sub-has-twice Inv-loop μ-loop
+sub-has-twice c =
+    let at-loop = c .before .before .loop in
+    storing-from _ _ _ _ _ _ _ _ (at-loop .inv .0)
+
+part-has-twice-start : tie.Need-part-has-twice-start Inv-loop μ-loop
+part-has-twice-start c =
+    let at-loop = c .before .before .before .loop in
+    storing-from _ _ _ _ _ _ _ _ (at-loop .inv .0)
+
+part-has-twice-end : tie.Need-part-has-twice-end Inv-loop μ-loop
+part-has-twice-end c =
+    let at-loop = c .before .before .before .loop in
+    omega (arith, at-loop .inv .0 .wrote .ends, at-loop .inv .0 .room, storing-long _ _ _ _ _ _ _ _ (at-loop .inv .0))
+
+has-twice-requires : tie.Need-has-twice-requires Inv-loop μ-loop
+has-twice-requires c κs = search needs
+
+same-length-2 : tie.Need-same-length-2 Inv-loop μ-loop
+same-length-2 c =
+    let at-loop = c .before .before .before .before .before .before .loop in
+    storing-long _ _ _ _ _ _ _ _ (at-loop .inv .0)
+
+returns-2 : tie.Need-returns-2 Inv-loop μ-loop
+returns-2 c =
+    let at-if2 = c .if2 in
+    let at-has-twice = c .before .has-twice in
+    let at-if1 = c .before .before .before .before .if1 in
+    let at-byte-at = c .before .before .before .before .before .byte-at in
+    let at-loop = c .before .before .before .before .before .before .loop in
+    let at-start = c .before .before .before .before .before .before .before .before .before in
+    nothing (pass-bad distinct (storing-done _ _ _ _ _ _ _ _ (at-loop .inv .0) _ (each-done 91 (at-loop .left) (at-start .args .text .now) (at-loop .p) _ (at-byte-at .ensures) (at-if1 .left) goodKey)) (ap not (sym (keys-twice _ _ _ _ _ _ _ (at-loop .inv .0 .wrote) (at-loop .inv .0 .room) (at-loop .inv .0 .count) (at-has-twice .ensures)) ∙ at-if2 .taken)))
+
 cast-out : tie.Need-cast-out Inv-loop μ-loop
 cast-out c = omega arith
 
 slice-write-out : tie.Need-slice-write-out Inv-loop μ-loop
 slice-write-out c =
-    let at-loop = c .before .before .loop in
-    let at-start = c .before .before .before .before .before in
+    let at-loop = c .before .before .before .before .before .before .loop in
+    let at-start = c .before .before .before .before .before .before .before .before .before in
     omega (arith, storing-long _ _ _ _ _ _ _ _ (at-loop .inv .0), room-byte _ _ _ _ _ _ (at-start .pre) (omega arith) (omega arith))
 
-same-length-2 : tie.Need-same-length-2 Inv-loop μ-loop
-same-length-2 c =
-    let at-loop = c .before .before .loop in
+same-length-3 : tie.Need-same-length-3 Inv-loop μ-loop
+same-length-3 c =
+    let at-loop = c .before .before .before .before .before .before .loop in
     simp length-set (storing-long _ _ _ _ _ _ _ _ (at-loop .inv .0))
 
-returns-2 : tie.Need-returns-2 Inv-loop μ-loop
-returns-2 c =
-    let at-if1 = c .if1 in
-    let at-byte-at = c .before .byte-at in
-    let at-loop = c .before .before .loop in
-    let at-start = c .before .before .before .before .before in
-    stores (storing-done _ _ _ _ _ _ _ _ (at-loop .inv .0) _ (each-done 91 (at-loop .left) (at-start .args .text .now) (at-loop .p) _ (at-byte-at .ensures) (at-if1 .left) key))
+returns-3 : tie.Need-returns-3 Inv-loop μ-loop
+returns-3 c =
+    let at-if2 = c .if2 in
+    let at-has-twice = c .before .has-twice in
+    let at-if1 = c .before .before .before .before .if1 in
+    let at-byte-at = c .before .before .before .before .before .byte-at in
+    let at-loop = c .before .before .before .before .before .before .loop in
+    let at-start = c .before .before .before .before .before .before .before .before .before in
+    stores (pass-good distinct (storing-done _ _ _ _ _ _ _ _ (at-loop .inv .0) _ (each-done 91 (at-loop .left) (at-start .args .text .now) (at-loop .p) _ (at-byte-at .ensures) (at-if1 .left) goodKey)) (ap not (sym (keys-twice _ _ _ _ _ _ _ (at-loop .inv .0 .wrote) (at-loop .inv .0 .room) (at-loop .inv .0 .count) (at-has-twice .ensures)) ∙ at-if2 .left)))
     (wrote-counted keyBytes _ _ _ _ _ _ (at-loop .inv .0 .count) (at-loop .inv .0 .room) (at-loop .inv .0 .wrote)) (within-less _ _ _ _ _ _ _ _ _ (at-loop .inv .2) (omega arith) (omega arith))
 
 pub read-keys-spec : {M : Type 1} → statement M
@@ -140,7 +178,7 @@ read-keys-spec =
     (tie.spec
     Inv-loop
     μ-loop
-    add-q
+    add-start
     loop-holds
     byte-at-requires
     add-read-key
@@ -153,7 +191,13 @@ read-keys-spec =
     loop-less
     loop-again
     sub-count
+    sub-has-twice
+    part-has-twice-start
+    part-has-twice-end
+    has-twice-requires
+    same-length-2
+    returns-2
     cast-out
     slice-write-out
-    same-length-2
-    returns-2)
+    same-length-3
+    returns-3)

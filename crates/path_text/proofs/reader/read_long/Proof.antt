@@ -8,7 +8,9 @@ slice-aggregate-read-apart : tie.Need-slice-aggregate-read-apart
 slice-aggregate-read-apart c = search needs
 
 read-apart-requires : tie.Need-read-apart-requires
-read-apart-requires c κs = record { starts = omega arith; fits = λ n f g. omega arith }
+read-apart-requires c κs =
+    let at-start = c .before .before .before .before in
+    (record { starts = omega arith; fits = λ n f g. omega arith }, at-start .pre)
 
 same-length : tie.Need-same-length
 same-length c = search needs

@@ -2,18 +2,20 @@ use borrow.Author.Needs.{needs}
 use native.Mathlib.Omega.{arith}
 use mathlib.Core.Path.{_≡_, refl, _∙_}
 use Prim.Native.Nat.{ℕ, _-_, _≤_, _<_, zero-le}
-use lib.ListN.{length, getD, length-set}
-use Rattle.place.specs.Place.{pathIn}
-use Rattle.bloom.specs.Bloom.{bits}
-use Rattle.judge.proofs.Stores.{stored}
+use lib.ListN.{length, getD}
+use Rattle.place.specs.Place.{pathIn, elemsIn}
+use Rattle.bloom.specs.declared.Filter.{Filter}
+use Rattle.bloom.specs.Bloom.{beyond}
+use Rattle.tree.specs.Tree.{filterOf}
+use Rattle.tree.proofs.Quads.{filtered}
 use Rattle.tree.proofs.filter.fill.Statement.{statement}
 use Rattle.tree.proofs.filter.fill.Tie as tie
 
 abbrev Inv-loop : tie.InvT-loop
-Inv-loop w f weights paths n filters₀ i₀ filters i = (i ≤ n) × (length filters ≡ length filters₀) × ((j : ℕ) → j < i → 255 < getD weights j 0 → getD filters j 0 ≡ bits w 0 (pathIn f (getD paths j 0)))
+Inv-loop s f weights paths n g p k filters₀ i₀ filters i = (i ≤ n) × (length filters ≡ length filters₀) × ((j : ℕ) → j < i → 255 < getD weights j 0 → filterOf filters j ≡ beyond s 0 (pathIn f (getD paths j 0)) (elemsIn k g p))
 
 abbrev μ-loop : tie.MeasureT-loop
-μ-loop w f weights paths n filters₀ i₀ filters i = n - i
+μ-loop s f weights paths n g p k filters₀ i₀ filters i = n - i
 
 loop-holds : tie.Need-loop-holds Inv-loop μ-loop
 loop-holds c = (zero-le, refl, λ i z. absurd (omega arith))
@@ -27,7 +29,7 @@ shared-slice-read-a c = search needs
 cast-a : tie.Need-cast-a Inv-loop μ-loop
 cast-a c =
     let at-loop = c .before .before .loop in
-    let at-shared-slice-known3 = c .before .before .before .before .shared-slice-known3 in
+    let at-shared-slice-known3 = c .before .before .before .before .before .shared-slice-known3 in
     omega (arith, at-shared-slice-known3 .given (at-loop .i))
 
 mul-filter-at : tie.Need-mul-filter-at Inv-loop μ-loop
@@ -39,14 +41,11 @@ shared-slice-read-filter-at c = search needs
 filter-at-requires : tie.Need-filter-at-requires Inv-loop μ-loop
 filter-at-requires c κs =
     let at-loop-test = c .before .before .loop-test in
-    let at-start = c .before .before .before .before .before .before .before .before in
-    (at-start .pre .0, at-start .pre .1 _ (at-loop-test .taken))
+    let at-start = c .before .before .before .before .before .before .before .before .before in
+    (at-start .pre .0, at-start .pre .1 _ (at-loop-test .taken), at-start .pre .4)
 
-mul-filters : tie.Need-mul-filters Inv-loop μ-loop
-mul-filters c = search needs
-
-slice-write-filters : tie.Need-slice-write-filters Inv-loop μ-loop
-slice-write-filters c = search needs
+store-requires : tie.Need-store-requires Inv-loop μ-loop
+store-requires c κs = omega arith
 
 add-i : tie.Need-add-i Inv-loop μ-loop
 add-i c = search needs
@@ -56,10 +55,11 @@ loop-less c = search needs
 
 loop-again : tie.Need-loop-again Inv-loop μ-loop
 loop-again c =
-    let at-filter-at = c .filter-at in
-    let at-loop = c .before .before .before .before .loop in
-    let at-start = c .before .before .before .before .before .before .before .before .before in
-    (omega arith, length-set (at-loop .filters) (at-loop .i) _ ∙ at-loop .inv .1, stored (λ (j v : ℕ). 255 < getD (at-start .args .weights .now) j 0 → v ≡ bits (at-start .args .w) 0 (pathIn (at-start .args .f .now) (getD (at-start .args .paths .now) j 0))) (at-loop .filters) (at-loop .i) (at-filter-at .result) (omega arith) (at-loop .inv .2) (at-filter-at .ensures))
+    let at-store = c .before .before .store in
+    let at-filter-at = c .before .before .before .before .filter-at in
+    let at-loop = c .before .before .before .before .before .before .before .before .loop in
+    let at-start = c .before .before .before .before .before .before .before .before .before .before .before .before .before .before in
+    (omega arith, at-store .ensures .0 ∙ at-loop .inv .1, filtered (λ (j : ℕ) (x : Filter). 255 < getD (at-start .args .weights .now) j 0 → x ≡ beyond (at-start .args .s) 0 (pathIn (at-start .args .f .now) (getD (at-start .args .paths .now) j 0)) (elemsIn (at-start .args .k) (at-start .args .g .now) (at-start .args .p))) (at-loop .filters) _ (at-loop .i) (at-filter-at .result) (at-store .ensures .1) (at-store .ensures .2) (at-loop .inv .2) (at-filter-at .ensures))
 
 same-length : tie.Need-same-length Inv-loop μ-loop
 same-length c = search needs
@@ -82,8 +82,7 @@ fill-spec =
     mul-filter-at
     shared-slice-read-filter-at
     filter-at-requires
-    mul-filters
-    slice-write-filters
+    store-requires
     add-i
     loop-less
     loop-again

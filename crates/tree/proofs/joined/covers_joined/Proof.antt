@@ -1,64 +1,63 @@
 use native.Mathlib.Omega.{arith}
-use mathlib.Core.Path.{_≡_, sym, ap, _∙_}
-use Prim.Native.Nat.{ℕ}
-use lib.Bits.{bitOr}
-use Rattle.place.specs.Place.{elemsIn}
+use mathlib.Core.Path.{_≡_, sym, ap₂, _∙_}
+use borrow.Author.Tests.{not-true}
 use Rattle.place.proofs.Cursor.{path-room}
+use Rattle.bloom.specs.Bloom.{join}
 use Rattle.bloom.proofs.Laws.{not-both}
 use Rattle.tree.proofs.joined.covers_joined.Statement.{statement}
 use Rattle.tree.proofs.joined.covers_joined.Tie as tie
 
+is-within-requires : tie.Need-is-within-requires
+is-within-requires c κs =
+    let at-start = c .before .before .before in
+    (at-start .pre .3, at-start .pre .4)
+
 returns : tie.Need-returns
 returns c =
     let at-if1 = c .if1 in
-    let at-start = c .before .before .before in
-    sym (not-both 26 _ _ _ (at-start .args .u) (at-start .pre .5) (λ e. at-if1 .taken (ap (λ (z : ℕ). bitOr z (at-start .args .u)) (at-start .pre .3) ∙ e)))
-
-returns-2 : tie.Need-returns-2
-returns-2 c =
-    let at-if2 = c .if2 in
-    let at-start = c .before .before .before .before in
-    sym (not-both 20 _ _ _ (at-start .args .v) (at-start .pre .6) (λ e. at-if2 .taken (ap (λ (z : ℕ). bitOr z (at-start .args .v)) (at-start .pre .4) ∙ e)))
+    let at-is-within = c .before .is-within in
+    let at-start = c .before .before .before .before .before in
+    let h = at-start .pre .5 in sym (not-both (h .0) _ _ _ (λ e. at-is-within .ensures (not-true _ (at-if1 .taken)) (ap₂ join (h .1) (h .2) ∙ e ∙ sym (h .2))))
 
 shared-slice-read-n : tie.Need-shared-slice-read-n
 shared-slice-read-n c =
-    let at-start = c .before .before .before .before .before in
+    let at-start = c .before .before .before .before .before .before in
     path-room (at-start .args .f .now) (at-start .args .a) (at-start .pre .0)
 
 cast-n : tie.Need-cast-n
 cast-n c =
-    let at-shared-slice-known = c .before .before .before .before .shared-slice-known in
-    let at-start = c .before .before .before .before .before in
+    let at-shared-slice-known = c .before .before .before .before .before .shared-slice-known in
+    let at-start = c .before .before .before .before .before .before in
     omega (arith, at-shared-slice-known .given (at-start .args .a))
 
 shared-slice-read-m : tie.Need-shared-slice-read-m
 shared-slice-read-m c =
-    let at-start = c .before .before .before .before .before .before in
+    let at-start = c .before .before .before .before .before .before .before in
     path-room (at-start .args .f .now) (at-start .args .r) (at-start .pre .1)
 
 cast-m : tie.Need-cast-m
 cast-m c =
-    let at-shared-slice-known = c .before .before .before .before .before .shared-slice-known in
-    let at-start = c .before .before .before .before .before .before in
+    let at-shared-slice-known = c .before .before .before .before .before .before .shared-slice-known in
+    let at-start = c .before .before .before .before .before .before .before in
     omega (arith, at-shared-slice-known .given (at-start .args .r))
 
 add-covers-both : tie.Need-add-covers-both
 add-covers-both c =
-    let at-start = c .before .before .before .before .before .before in
+    let at-start = c .before .before .before .before .before .before .before in
     let e = path-room (at-start .args .f .now) (at-start .args .a) (at-start .pre .0) in omega arith
 
 add-covers-both-2 : tie.Need-add-covers-both-2
 add-covers-both-2 c =
-    let at-start = c .before .before .before .before .before .before in
+    let at-start = c .before .before .before .before .before .before .before in
     let e = path-room (at-start .args .f .now) (at-start .args .r) (at-start .pre .1) in omega arith
 
 covers-both-requires : tie.Need-covers-both-requires
 covers-both-requires c κs =
-    let at-start = c .before .before .before .before .before .before in
+    let at-start = c .before .before .before .before .before .before .before in
     (at-start .pre .0, at-start .pre .1, at-start .pre .2)
 
-returns-3 : tie.Need-returns-3
-returns-3 c =
+returns-2 : tie.Need-returns-2
+returns-2 c =
     let at-covers-both = c .covers-both in
     at-covers-both .ensures
 
@@ -66,8 +65,8 @@ pub covers-joined-spec : {M : Type 1} → statement M
 covers-joined-spec =
     tie.close
     (tie.spec
+    is-within-requires
     returns
-    returns-2
     shared-slice-read-n
     cast-n
     shared-slice-read-m
@@ -75,4 +74,4 @@ covers-joined-spec =
     add-covers-both
     add-covers-both-2
     covers-both-requires
-    returns-3)
+    returns-2)

@@ -1,10 +1,8 @@
 use native.Mathlib.Omega.{arith}
-use mathlib.Core.Path.{_≡_, sym, ap₂, _∙_}
+use mathlib.Core.Path.{_≡_, sym, _∙_}
 use mathlib.Core.Bool.{false}
 use Prim.Native.Nat.{ℕ, _%_, _<_}
-use lib.Bits.{bitOr}
 use lib.ListN.{getD}
-use borrow.Author.Tests.{not-true, not-false}
 use Rattle.verdict.specs.Join.{coversBoth}
 use Rattle.place.specs.Place.{elemsIn, pathIn}
 use Rattle.tree.proofs.Walk.{below-less, at-below, past-start, past-next, found}
@@ -13,10 +11,10 @@ use Rattle.tree.proofs.joined.decide_joined.Statement.{statement}
 use Rattle.tree.proofs.joined.decide_joined.Tie as tie
 
 abbrev Inv-loop : tie.InvT-loop
-Inv-loop i f weights paths next low high n first g p k u v r own both also x₀ x = (0 < x → (x % 256 < n) × (getD weights (x % 256) 0 ≡ x)) × ((j : ℕ) → j < n → x < getD weights j 0 → coversBoth (pathIn f (getD paths j 0)) (pathIn f (getD paths i 0)) (elemsIn k g p) ≡ false)
+Inv-loop i f weights paths next filters n first g p k r own x₀ x = (0 < x → (x % 256 < n) × (getD weights (x % 256) 0 ≡ x)) × ((j : ℕ) → j < n → x < getD weights j 0 → coversBoth (pathIn f (getD paths j 0)) (pathIn f (getD paths i 0)) (elemsIn k g p) ≡ false)
 
 abbrev μ-loop : tie.MeasureT-loop
-μ-loop i f weights paths next low high n first g p k u v r own both also x₀ x = x
+μ-loop i f weights paths next filters n first g p k r own x₀ x = x
 
 mul-r : tie.Need-mul-r Inv-loop μ-loop
 mul-r c = omega arith
@@ -26,9 +24,9 @@ shared-slice-read-r c = omega arith
 
 cast-r : tie.Need-cast-r Inv-loop μ-loop
 cast-r c =
-    let at-shared-slice-known8 = c .shared-slice-known8 in
-    let at-start = c .before .before .before .before .before .before .before .before in
-    omega (arith, at-shared-slice-known8 .given (at-start .args .i))
+    let at-shared-slice-known7 = c .shared-slice-known7 in
+    let at-start = c .before .before .before .before .before .before .before in
+    omega (arith, at-shared-slice-known7 .given (at-start .args .i))
 
 mul-own : tie.Need-mul-own Inv-loop μ-loop
 mul-own c = omega arith
@@ -36,21 +34,9 @@ mul-own c = omega arith
 shared-slice-read-own : tie.Need-shared-slice-read-own Inv-loop μ-loop
 shared-slice-read-own c = omega arith
 
-mul-both : tie.Need-mul-both Inv-loop μ-loop
-mul-both c = omega arith
-
-shared-slice-read-both : tie.Need-shared-slice-read-both Inv-loop μ-loop
-shared-slice-read-both c = omega arith
-
-mul-also : tie.Need-mul-also Inv-loop μ-loop
-mul-also c = omega arith
-
-shared-slice-read-also : tie.Need-shared-slice-read-also Inv-loop μ-loop
-shared-slice-read-also c = omega arith
-
 loop-holds : tie.Need-loop-holds Inv-loop μ-loop
 loop-holds c =
-    let at-start = c .before .before .before .before .before .before .before .before .before .before .before in
+    let at-start = c .before .before .before .before .before .before .before .before in
     (at-below _ _ (at-start .pre .2 .packed) _ _ (at-start .pre .2 .start), past-start _ _ (at-start .pre .2 .packed) (at-start .args .f .now) (at-start .args .paths .now) _ (at-start .args .i) _ (at-start .pre .2 .start))
 
 mul-a : tie.Need-mul-a Inv-loop μ-loop
@@ -63,38 +49,22 @@ shared-slice-read-a c =
 
 cast-a : tie.Need-cast-a Inv-loop μ-loop
 cast-a c =
-    let at-shared-slice-known12 = c .shared-slice-known12 in
+    let at-shared-slice-known9 = c .shared-slice-known9 in
     let at-loop = c .before .before .loop in
-    omega (arith, at-shared-slice-known12 .given (at-loop .x % 256))
-
-mul-covers-joined : tie.Need-mul-covers-joined Inv-loop μ-loop
-mul-covers-joined c = omega arith
-
-shared-slice-read-covers-joined : tie.Need-shared-slice-read-covers-joined Inv-loop μ-loop
-shared-slice-read-covers-joined c =
-    let at-loop = c .before .before .before .loop in
-    let e = at-loop .inv .0 (omega arith) in omega arith
-
-mul-covers-joined-2 : tie.Need-mul-covers-joined-2 Inv-loop μ-loop
-mul-covers-joined-2 c = omega arith
-
-shared-slice-read-covers-joined-2 : tie.Need-shared-slice-read-covers-joined-2 Inv-loop μ-loop
-shared-slice-read-covers-joined-2 c =
-    let at-loop = c .before .before .before .before .loop in
-    let e = at-loop .inv .0 (omega arith) in omega arith
+    omega (arith, at-shared-slice-known9 .given (at-loop .x % 256))
 
 covers-joined-requires : tie.Need-covers-joined-requires Inv-loop μ-loop
 covers-joined-requires c κs =
-    let at-loop = c .before .before .before .before .loop in
-    let at-start = c .before .before .before .before .before .before .before .before .before .before .before .before .before .before .before .before in
-    let e = at-loop .inv .0 (omega arith) in (at-start .pre .2 .laid _ (e .0), at-start .pre .2 .laid _ (at-start .pre .0), at-start .pre .8, at-start .pre .2 .lows _ (e .0) (omega arith), at-start .pre .2 .highs _ (e .0) (omega arith), ap₂ bitOr (at-start .pre .2 .lows _ (at-start .pre .0) (at-start .pre .1)) (at-start .pre .9), ap₂ bitOr (at-start .pre .2 .highs _ (at-start .pre .0) (at-start .pre .1)) (at-start .pre .10))
+    let at-loop = c .before .before .loop in
+    let at-start = c .before .before .before .before .before .before .before .before .before .before .before in
+    let e = at-loop .inv .0 (omega arith) in let h = at-start .pre .2 .filtered in (at-start .pre .2 .laid _ (e .0), at-start .pre .2 .laid _ (at-start .pre .0), at-start .pre .7, omega arith, omega arith, (h .0, h .1 _ (e .0) (omega arith), h .1 _ (at-start .pre .0) (at-start .pre .1)))
 
 returns : tie.Need-returns Inv-loop μ-loop
 returns c =
     let at-if1 = c .if1 in
     let at-covers-joined = c .before .covers-joined in
-    let at-loop = c .before .before .before .before .before .before .loop in
-    let at-start = c .before .before .before .before .before .before .before .before .before .before .before .before .before .before .before .before .before .before in
+    let at-loop = c .before .before .before .before .loop in
+    let at-start = c .before .before .before .before .before .before .before .before .before .before .before .before .before in
     let e = at-loop .inv .0 (omega arith) in found _ _ (at-start .pre .2 .packed) _ _ _ _ _ (at-loop .x) (e .0) (omega arith) (sym (at-covers-joined .ensures) ∙ at-if1 .taken) (omega arith) (at-loop .inv .1)
 
 mul-x : tie.Need-mul-x Inv-loop μ-loop
@@ -102,27 +72,27 @@ mul-x c = omega arith
 
 shared-slice-read-x : tie.Need-shared-slice-read-x Inv-loop μ-loop
 shared-slice-read-x c =
-    let at-loop = c .before .before .before .before .before .before .before .loop in
+    let at-loop = c .before .before .before .before .before .loop in
     let e = at-loop .inv .0 (omega arith) in omega arith
 
 loop-less : tie.Need-loop-less Inv-loop μ-loop
 loop-less c =
-    let at-loop = c .before .before .before .before .before .before .before .loop in
-    let at-start = c .before .before .before .before .before .before .before .before .before .before .before .before .before .before .before .before .before .before .before in
+    let at-loop = c .before .before .before .before .before .loop in
+    let at-start = c .before .before .before .before .before .before .before .before .before .before .before .before .before .before in
     let e = at-loop .inv .0 (omega arith) in let b = below-less _ _ _ _ (at-start .pre .2 .nexts _ (e .0) (omega arith)) (omega arith) in omega arith
 
 loop-again : tie.Need-loop-again Inv-loop μ-loop
 loop-again c =
     let at-if1 = c .before .if1 in
     let at-covers-joined = c .before .before .covers-joined in
-    let at-loop = c .before .before .before .before .before .before .before .loop in
-    let at-start = c .before .before .before .before .before .before .before .before .before .before .before .before .before .before .before .before .before .before .before in
+    let at-loop = c .before .before .before .before .before .loop in
+    let at-start = c .before .before .before .before .before .before .before .before .before .before .before .before .before .before in
     let e = at-loop .inv .0 (omega arith) in let b = at-start .pre .2 .nexts _ (e .0) (omega arith) in (at-below _ _ (at-start .pre .2 .packed) _ _ b, past-next _ _ (at-start .pre .2 .packed) (at-start .args .f .now) (at-start .args .paths .now) _ (at-start .args .i) (at-loop .x) _ (at-loop .inv .0) (omega arith) (at-loop .inv .1) (sym (at-covers-joined .ensures) ∙ at-if1 .left) b)
 
 returns-2 : tie.Need-returns-2 Inv-loop μ-loop
 returns-2 c =
     let at-loop = c .before .loop in
-    let at-start = c .before .before .before .before .before .before .before .before .before .before .before .before .before in
+    let at-start = c .before .before .before .before .before .before .before .before .before .before in
     found _ _ (at-start .pre .2 .packed) _ _ _ _ _ (at-loop .x) (at-start .pre .0) (at-start .pre .1) (own-join _ _) (omega arith) (at-loop .inv .1)
 
 pub decide-joined-spec : {M : Type 1} → statement M
@@ -136,18 +106,10 @@ decide-joined-spec =
     cast-r
     mul-own
     shared-slice-read-own
-    mul-both
-    shared-slice-read-both
-    mul-also
-    shared-slice-read-also
     loop-holds
     mul-a
     shared-slice-read-a
     cast-a
-    mul-covers-joined
-    shared-slice-read-covers-joined
-    mul-covers-joined-2
-    shared-slice-read-covers-joined-2
     covers-joined-requires
     returns
     mul-x

@@ -13,27 +13,17 @@ slice-aggregate-link c = search needs
 link-requires : tie.Need-link-requires
 link-requires c κs = search needs
 
+draw-requires : tie.Need-draw-requires
+draw-requires c κs = search needs
+
 slice-aggregate-fill : tie.Need-slice-aggregate-fill
 slice-aggregate-fill c = search needs
 
 fill-requires : tie.Need-fill-requires
 fill-requires c κs =
-    let at-start = c .before .before .before .before .before .before .before .before .before .before in
-    let e = at-start .pre .4 in (omega arith, paths-laid (at-start .args .f .now) (at-start .args .starts .now) (at-start .args .paths .now) (at-start .args .n) (at-start .pre .2) (at-start .pre .1), at-start .pre .6, at-start .pre .7, omega arith)
-
-slice-aggregate-fill-2 : tie.Need-slice-aggregate-fill-2
-slice-aggregate-fill-2 c = search needs
-
-fill-requires-2 : tie.Need-fill-requires-2
-fill-requires-2 c κs =
-    let at-start = c .before .before .before .before .before .before .before .before .before .before .before .before .before in
-    let e = at-start .pre .4 in (omega arith, paths-laid (at-start .args .f .now) (at-start .args .starts .now) (at-start .args .paths .now) (at-start .args .n) (at-start .pre .2) (at-start .pre .1), at-start .pre .6, at-start .pre .7, omega arith)
-
-path-bits-requires : tie.Need-path-bits-requires
-path-bits-requires c κs = search needs
-
-path-bits-requires-2 : tie.Need-path-bits-requires-2
-path-bits-requires-2 c κs = search needs
+    let at-draw = c .before .draw in
+    let at-start = c .before .before .before .before .before .before .before .before .before .before .before in
+    let e = at-start .pre .4 in (at-draw .ensures, paths-laid (at-start .args .f .now) (at-start .args .starts .now) (at-start .args .paths .now) (at-start .args .n) (at-start .pre .2) (at-start .pre .1), at-start .pre .6, at-start .pre .7, at-start .pre .9, omega arith)
 
 slice-aggregate-search : tie.Need-slice-aggregate-search
 slice-aggregate-search c = search needs
@@ -41,19 +31,14 @@ slice-aggregate-search c = search needs
 slice-aggregate-search-2 : tie.Need-slice-aggregate-search-2
 slice-aggregate-search-2 c = search needs
 
-slice-aggregate-search-3 : tie.Need-slice-aggregate-search-3
-slice-aggregate-search-3 c = search needs
-
 search-requires : tie.Need-search-requires
 search-requires c κs =
-    let at-path-bits2 = c .before .before .before .path-bits2 in
-    let at-path-bits = c .before .before .before .before .path-bits in
-    let at-fill2 = c .before .before .before .before .before .before .fill2 in
-    let at-fill = c .before .before .before .before .before .before .before .before .before .fill in
-    let at-link = c .before .before .before .before .before .before .before .before .before .before .before .before .link in
-    let at-below = c .before .before .before .before .before .before .before .before .before .before .before .before .before .before .below in
-    let at-start = c .before .before .before .before .before .before .before .before .before .before .before .before .before .before .before .before .before .before .before .before in
-    let e = at-start .pre .4 in (record { few = at-start .pre .4; laid = paths-laid (at-start .args .f .now) (at-start .args .starts .now) (at-start .args .paths .now) (at-start .args .n) (at-start .pre .2) (at-start .pre .1); packed = at-start .pre .0; start = at-below .ensures; nexts = at-link .ensures .1; lows = at-fill .ensures .1; highs = at-fill2 .ensures .1 }, at-start .pre .1, at-start .pre .2, at-start .pre .3, at-start .pre .5, at-start .pre .6, at-start .pre .7, omega arith, omega arith, omega arith, at-start .pre .9, at-path-bits .ensures, at-path-bits2 .ensures)
+    let at-fill = c .before .before .before .fill in
+    let at-draw = c .before .before .before .before .before .draw in
+    let at-link = c .before .before .before .before .before .before .before .link in
+    let at-below = c .before .before .before .before .before .before .before .before .before .below in
+    let at-start = c .before .before .before .before .before .before .before .before .before .before .before .before .before .before .before in
+    let e = at-start .pre .4 in (record { few = at-start .pre .4; laid = paths-laid (at-start .args .f .now) (at-start .args .starts .now) (at-start .args .paths .now) (at-start .args .n) (at-start .pre .2) (at-start .pre .1); packed = at-start .pre .0; start = at-below .ensures; nexts = at-link .ensures .1; filtered = (at-draw .result, at-fill .ensures .1) }, at-start .pre .1, at-start .pre .2, at-start .pre .3, at-start .pre .5, at-start .pre .6, at-start .pre .7, omega arith, omega arith, at-start .pre .9)
 
 returns : tie.Need-returns
 returns c = search needs
@@ -65,14 +50,10 @@ witness-spec =
     below-requires
     slice-aggregate-link
     link-requires
+    draw-requires
     slice-aggregate-fill
     fill-requires
-    slice-aggregate-fill-2
-    fill-requires-2
-    path-bits-requires
-    path-bits-requires-2
     slice-aggregate-search
     slice-aggregate-search-2
-    slice-aggregate-search-3
     search-requires
     returns)

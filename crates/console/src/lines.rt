@@ -1,0 +1,89 @@
+// The lines of a text.
+ghost use Prim.Native.Nat.{_≤_, _<_};
+ghost use lib.ListN.{length};
+
+// Where the line after the one at `at` begins.
+pub fn next(text: &[u8], at: usize) -> usize
+    requires { ⌜ at < length (now text) ⌝ }
+    ensures { λ r. ⌜ (at < r) × (r ≤ length (now (text .entry))) ⌝ }
+{
+    let end = path_text::reader::find(text, at, 10, 10);
+    if end < text.len() { end + 1 } else { end }
+}
+
+// Where line n begins, counted from 1.
+fn start(text: &[u8], n: usize) -> usize
+    ensures { λ r. ⌜ r ≤ length (now (text .entry)) ⌝ }
+{
+    let mut at = 0;
+    let mut left = n;
+    while 1 < left {
+        if text.len() <= at {
+            return at;
+        }
+        at = next(text, at);
+        left -= 1;
+    }
+    at
+}
+
+// Prints the line at `at` without its LF; bytes that do not print in hex, after \x.
+fn quote_at(text: &[u8], at: usize)
+    requires { ⌜ at ≤ length (now text) ⌝ }
+{
+    let end = path_text::reader::find(text, at, 10, 10);
+    crate::say::quote(&text[at..end]);
+}
+
+// Prints line n.
+pub fn quote(text: &[u8], n: usize) {
+    quote_at(text, start(text, n));
+}
+
+// Prints what follows `key` in the line at `at`, if that begins with it.
+fn entry_at(text: &[u8], at: usize, key: &[u8]) -> bool
+    requires { ⌜ at ≤ length (now text) ⌝ }
+{
+    if text.len() - at < key.len() {
+        return false;
+    }
+    let rest = at + key.len();
+    if !text::string::is_same(&text[at..rest], key) {
+        return false;
+    }
+    quote_at(text, rest);
+    true
+}
+
+// Prints what follows `key` in the first line that begins with it.
+pub fn entry(text: &[u8], key: &[u8]) {
+    let mut at = 0;
+    while at < text.len() {
+        if entry_at(text, at, key) {
+            return;
+        }
+        at = next(text, at);
+    }
+}
+
+// Whether the line at `at` is `word`.
+fn is_line(text: &[u8], at: usize, word: &[u8]) -> bool
+    requires { ⌜ at ≤ length (now text) ⌝ }
+{
+    let end = path_text::reader::find(text, at, 10, 10);
+    text::string::is_same(&text[at..end], word)
+}
+
+// The number of the first line that is `word`, counted from 1; 0 where none is.
+pub fn place(text: &[u8], word: &[u8]) -> usize {
+    let mut n = 0;
+    let mut at = 0;
+    while at < text.len() {
+        n += 1;
+        if is_line(text, at, word) {
+            return n;
+        }
+        at = next(text, at);
+    }
+    0
+}

@@ -1,0 +1,73 @@
+-- Names that are copied out of a loaded table.
+use mathlib.Core.Path.{_≡_, refl, sym, ap, _∙_}
+use mathlib.Core.Bool.{true, false}
+use mathlib.Core.List.{List, [], _∷_}
+use Prim.Native.Nat.{ℕ, zero, suc, _+_, _-_, _≤_, _<_}
+use native.Mathlib.Omega.{arith}
+use borrow.Author.Tests.{lt-ltb, le-ltb}
+use lib.Dec.{ltb}
+use lib.ListN.{length, take, drop, getD, length-drop}
+use lib.Seq.{length-take-le}
+use Rattle.text.specs.Test.{if_then_else_}
+use Rattle.text.specs.String.{Str}
+use Rattle.text.specs.Fill.{put, Wrote}
+use Rattle.text.proofs.Tests.{by}
+use Rattle.text.proofs.Filling.{wrote-nothing}
+use Rattle.place.specs.Place.{strEnd, strIn}
+use Rattle.rows.specs.Strings.{stringsIn}
+use Rattle.rows.proofs.Grow.{strings-length, strings-at}
+use Rattle.table.specs.Text.{check, tableOf}
+use Rattle.table.specs.declared.GroupNumber.{GroupNumber}
+use Rattle.table.specs.declared.RuleNumber.{RuleNumber}
+use Rattle.load.specs.declared.row.Counts.{Counts}
+use Rattle.load.specs.Loaded.{Kept}
+use Rattle.facts.specs.declared.Row.the-variants.{Group, Rule}
+use Rattle.facts.specs.Facts.{nameOf, fitting}
+
+-- ---- storing
+
+pub wrote-none : (d : List ℕ) → Wrote d 0 (fitting d []) d 0
+unfolding fitting if_then_else_
+wrote-none d = by (ltb (length d) 0) (λ t. rw t (wrote-nothing d 0)) (λ t. rw t (wrote-nothing d 0))
+
+module _ (d : List ℕ) (s : Str) where
+  pub wrote-over : length d < length s → Wrote d 0 (fitting d s) d 0
+  unfolding fitting if_then_else_
+  wrote-over h = rw (lt-ltb _ _ h) (wrote-nothing d 0)
+
+  pub wrote-all : (d′ : List ℕ) (n : ℕ) → length s ≤ length d → n ≡ length s → d′ ≡ put d 0 s → Wrote d 0 (fitting d s) d′ n
+  unfolding fitting if_then_else_
+  wrote-all d′ n h e p = rw (le-ltb _ _ h) (record { ends = omega arith; same = p })
+
+-- ---- a string in bytes
+
+pub string-long : (f : List ℕ) (at : ℕ) → strEnd f at ≤ length f → length (strIn f at) ≡ getD f at 0
+unfolding strIn strEnd
+string-long f at h =
+    let e : at + 1 + getD f at 0 - (at + 1) ≡ getD f at 0 = omega arith in
+    length-take-le (at + 1 + getD f at 0 - (at + 1)) (drop (at + 1) f) (simp length-drop (omega arith)) ∙ e
+
+-- ---- number k of some strings
+
+beyond : (l : List Str) (k : ℕ) → length l ≤ k → getD l k [] ≡ []
+beyond [] k h = refl
+beyond (x ∷ l) zero h = absurd (omega arith)
+beyond (x ∷ l) (suc k) h = beyond l k (omega arith)
+
+module _ (f starts : List ℕ) (n k : ℕ) where
+  pub number-past : (d : List ℕ) → n ≤ k → Wrote d 0 (fitting d (getD (stringsIn f starts n 0) k [])) d 0
+  number-past d h = rw (beyond (stringsIn f starts n 0) k (omega (arith, strings-length f starts n))) (wrote-none d)
+
+  pub number-at : (d d′ : List ℕ) (r : ℕ) → k < n → Wrote d 0 (fitting d (strIn f (getD starts k 0))) d′ r → Wrote d 0 (fitting d (getD (stringsIn f starts n 0) k [])) d′ r
+  number-at d d′ r h w = rw (strings-at f starts n k h) w
+
+-- ---- of a loaded table
+
+module _ {text buf : List ℕ} {u : ℕ} {c : Counts} {groups users owners ids starts holders : List ℕ} (K : Kept text buf u c groups users owners ids starts holders) where
+  pub group-name : (g : GroupNumber) → getD (stringsIn (take u buf) groups (c .groups) 0) (g .0) [] ≡ nameOf (check text) (tableOf text) (Group g)
+  unfolding nameOf
+  group-name g = rw (K .accepts) (ap (λ (l : List Str). getD l (g .0) []) (sym (K .holds .groups-are)))
+
+  pub rule-id : (k : RuleNumber) → getD (stringsIn (take u buf) ids (c .rules) 0) (k .0) [] ≡ nameOf (check text) (tableOf text) (Rule k)
+  unfolding nameOf
+  rule-id k = rw (K .accepts) (ap (λ (l : List Str). getD l (k .0) []) (sym (K .holds .ids-are)))

@@ -1,0 +1,43 @@
+-- `copy_number` stores the string of that number.
+use borrow.Author.Needs.{needs}
+use native.Mathlib.Omega.{arith}
+use Rattle.facts.proofs.Names.{number-past, number-at}
+use Rattle.facts.proofs.copy_number.Statement.{statement}
+use Rattle.facts.proofs.copy_number.Tie as tie
+
+returns : tie.Need-returns
+returns c =
+    let at-if1 = c .if1 in
+    number-past _ _ _ _ _ (at-if1 .taken)
+
+mul-at : tie.Need-mul-at
+mul-at c = search needs
+
+shared-slice-read-at : tie.Need-shared-slice-read-at
+shared-slice-read-at c = search needs
+
+cast-at : tie.Need-cast-at
+cast-at c =
+    let at-shared-slice-known3 = c .shared-slice-known3 in
+    let at-start = c .before .before .before .before .before in
+    omega (arith, at-shared-slice-known3 .given (at-start .args .k))
+
+copy-at-requires : tie.Need-copy-at-requires
+copy-at-requires c κs =
+    let at-if1 = c .before .before .if1 in
+    let at-start = c .before .before .before .before .before .before in
+    at-start .pre .0 _ (at-if1 .left)
+
+same-length : tie.Need-same-length
+same-length c = search needs
+
+returns-2 : tie.Need-returns-2
+returns-2 c =
+    let at-copy-at = c .before .before .copy-at in
+    let at-if1 = c .before .before .before .before .before .if1 in
+    number-at _ _ _ _ _ _ _ (at-if1 .left) (at-copy-at .ensures)
+
+pub copy-number-spec : {M : Type 1} → statement M
+copy-number-spec =
+    tie.close
+    (tie.spec returns mul-at shared-slice-read-at cast-at copy-at-requires same-length returns-2)

@@ -1,0 +1,136 @@
+-- `name_of` stores the name of the row.
+use borrow.Author.Needs.{needs}
+use native.Mathlib.Omega.{arith}
+use mathlib.Core.Path.{_≡_, sym}
+use Rattle.groups.proofs.Calls.{outcome-refused, outcome-kept, front-is}
+use Rattle.facts.specs.Facts.{nameOf}
+use Rattle.facts.proofs.Names.{wrote-none, group-name, rule-id}
+use Rattle.facts.proofs.name_of.Statement.{statement}
+use Rattle.facts.proofs.name_of.Tie as tie
+
+slice-aggregate-load : tie.Need-slice-aggregate-load
+slice-aggregate-load c = search needs
+
+load-requires : tie.Need-load-requires
+load-requires c κs = search needs
+
+enum-known-l : tie.Need-enum-known-l
+enum-known-l c = search needs
+
+enum-told : tie.Need-enum-told
+enum-told c = search needs
+
+returns : tie.Need-returns
+unfolding nameOf
+returns c =
+    let at-enum-told = c .enum-told in
+    let at-load = c .before .before .before .load in
+    rw (← outcome-refused _ _ _ _ _ _ _ _ _ (at-load .ensures) _ _ (at-enum-told .given .1)) (wrote-none _)
+
+enum-known-row : tie.Need-enum-known-row
+enum-known-row c = search needs
+
+array-share-prefix-buf : tie.Need-array-share-prefix-buf
+array-share-prefix-buf c =
+    let at-l = c .before .before .before .before .l in
+    let at-load = c .before .before .before .before .before .before .before .load in
+    let k = (outcome-kept _ _ _ _ _ _ _ _ _ (at-load .ensures) _ _ (at-l .given .1)) .within in omega (arith, k .0, k .1)
+
+slice-aggregate-copy-number : tie.Need-slice-aggregate-copy-number
+slice-aggregate-copy-number c =
+    let at-l = c .before .before .before .before .before .l in
+    let at-load = c .before .before .before .before .before .before .before .before .load in
+    front-is (outcome-kept _ _ _ _ _ _ _ _ _ (at-load .ensures) _ _ (at-l .given .1))
+
+slice-aggregate-copy-number-2 : tie.Need-slice-aggregate-copy-number-2
+slice-aggregate-copy-number-2 c =
+    let at-l = c .before .before .before .before .before .before .l in
+    let at-load = c .before .before .before .before .before .before .before .before .before .load in
+    sym ((outcome-kept _ _ _ _ _ _ _ _ _ (at-load .ensures) _ _ (at-l .given .1)) .holds .long .0)
+
+cast-copy-number : tie.Need-cast-copy-number
+cast-copy-number c = search needs
+
+copy-number-requires : tie.Need-copy-number-requires
+copy-number-requires c κs =
+    let at-l = c .before .before .before .before .before .before .before .before .l in
+    let at-load = c .before .before .before .before .before .before .before .before .before .before .before .load in
+    let h = (outcome-kept _ _ _ _ _ _ _ _ _ (at-load .ensures) _ _ (at-l .given .1)) .holds in (h .groups-laid, omega (arith, h .long .0, h .few .0))
+
+enum-known-row-2 : tie.Need-enum-known-row-2
+enum-known-row-2 c = search needs
+
+array-share-prefix-buf-2 : tie.Need-array-share-prefix-buf-2
+array-share-prefix-buf-2 c =
+    let at-l = c .before .before .before .before .l in
+    let at-load = c .before .before .before .before .before .before .before .load in
+    let k = (outcome-kept _ _ _ _ _ _ _ _ _ (at-load .ensures) _ _ (at-l .given .1)) .within in omega (arith, k .0, k .1)
+
+slice-aggregate-copy-number-3 : tie.Need-slice-aggregate-copy-number-3
+slice-aggregate-copy-number-3 c =
+    let at-l = c .before .before .before .before .before .l in
+    let at-load = c .before .before .before .before .before .before .before .before .load in
+    front-is (outcome-kept _ _ _ _ _ _ _ _ _ (at-load .ensures) _ _ (at-l .given .1))
+
+slice-aggregate-copy-number-4 : tie.Need-slice-aggregate-copy-number-4
+slice-aggregate-copy-number-4 c =
+    let at-l = c .before .before .before .before .before .before .l in
+    let at-load = c .before .before .before .before .before .before .before .before .before .load in
+    sym ((outcome-kept _ _ _ _ _ _ _ _ _ (at-load .ensures) _ _ (at-l .given .1)) .holds .long .3)
+
+cast-copy-number-2 : tie.Need-cast-copy-number-2
+cast-copy-number-2 c = search needs
+
+copy-number-requires-2 : tie.Need-copy-number-requires-2
+copy-number-requires-2 c κs =
+    let at-l = c .before .before .before .before .before .before .before .before .l in
+    let at-load = c .before .before .before .before .before .before .before .before .before .before .before .load in
+    let h = (outcome-kept _ _ _ _ _ _ _ _ _ (at-load .ensures) _ _ (at-l .given .1)) .holds in (h .ids-laid, omega (arith, h .long .3, h .few .2))
+
+same-length : tie.Need-same-length
+same-length c = search needs
+
+returns-2 : tie.Need-returns-2
+returns-2 c =
+    let at-copy-number = c .before .before .copy-number in
+    let at-row = c .before .before .before .before .before .before .before .before .row in
+    let at-l = c .before .before .before .before .before .before .before .before .before .before .before .l in
+    let at-load = c .before .before .before .before .before .before .before .before .before .before .before .before .before .before .load in
+    rw (at-row .given .1, ← group-name (outcome-kept _ _ _ _ _ _ _ _ _ (at-load .ensures) _ _ (at-l .given .1)) _) (at-copy-number .ensures)
+
+same-length-2 : tie.Need-same-length-2
+same-length-2 c = search needs
+
+returns-3 : tie.Need-returns-3
+returns-3 c =
+    let at-copy-number2 = c .before .before .copy-number2 in
+    let at-row2 = c .before .before .before .before .before .before .before .before .row2 in
+    let at-l = c .before .before .before .before .before .before .before .before .before .before .before .l in
+    let at-load = c .before .before .before .before .before .before .before .before .before .before .before .before .before .before .load in
+    rw (at-row2 .given .1, ← rule-id (outcome-kept _ _ _ _ _ _ _ _ _ (at-load .ensures) _ _ (at-l .given .1)) _) (at-copy-number2 .ensures)
+
+pub name-of-spec : {M : Type 1} → statement M
+name-of-spec =
+    tie.close
+    (tie.spec
+    slice-aggregate-load
+    load-requires
+    enum-known-l
+    enum-told
+    returns
+    enum-known-row
+    array-share-prefix-buf
+    slice-aggregate-copy-number
+    slice-aggregate-copy-number-2
+    cast-copy-number
+    copy-number-requires
+    enum-known-row-2
+    array-share-prefix-buf-2
+    slice-aggregate-copy-number-3
+    slice-aggregate-copy-number-4
+    cast-copy-number-2
+    copy-number-requires-2
+    same-length
+    returns-2
+    same-length-2
+    returns-3)

@@ -1,0 +1,37 @@
+-- Facts about a table.
+use Prim.Native.Nat.{ℕ}
+use mathlib.Core.Bool.{Bool, false}
+use mathlib.Core.List.{List, []}
+use lib.Dec.{eqb, ltb}
+use lib.ListN.{length, getD}
+use Rattle.text.specs.Test.{any, if_then_else_}
+use Rattle.text.specs.String.{Str}
+use Rattle.table.specs.Table.{Table}
+use Rattle.table.specs.Group.{groupsOf}
+use Rattle.table.specs.declared.Checked.{Checked}
+use Rattle.table.specs.declared.Checked.the-variants as checked
+use Rattle.load.specs.Held.{idsOf}
+use Rattle.facts.specs.declared.Row.{Row}
+use Rattle.facts.specs.declared.Row.the-variants.{Group, Rule}
+use Rattle.facts.specs.declared.Rows.{Rows}
+use Rattle.facts.specs.declared.Rows.the-variants as rows
+
+-- "accepted (with counts of groups, members, rules ..)"
+unfoldable pub rowsOf : Checked → Table → Rows
+rowsOf (checked.Refused n l) t = rows.Refused n l
+rowsOf checked.Accepted t = rows.Count (length (t .groups)) (length (t .members)) (length (t .rules))
+
+-- the group of that number is one of those that list the user
+unfoldable pub isListed : Checked → Table → Str → ℕ → Bool
+isListed (checked.Refused n l) t user g = false
+isListed checked.Accepted t user g = any (eqb g) (groupsOf t user)
+
+-- "Rules and groups are numbered from 0 in text order."
+unfoldable pub nameOf : Checked → Table → Row → Str
+nameOf (checked.Refused n l) t row = []
+nameOf checked.Accepted t (Group g) = getD (t .groups) (g .0) []
+nameOf checked.Accepted t (Rule k) = getD (idsOf (t .rules)) (k .0) []
+
+-- what is stored of a name into d: nothing where it does not fit
+unfoldable pub fitting : List ℕ → Str → Str
+fitting d s = if ltb (length d) (length s) then [] else s

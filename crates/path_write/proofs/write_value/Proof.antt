@@ -1,0 +1,70 @@
+-- `write_value` stores the bytes of the value, one after another.
+use borrow.Author.Needs.{needs}
+use native.Mathlib.Omega.{arith}
+use Prim.Native.Nat.{_-_, _≤_}
+use lib.ListN.{length, drop}
+use Rattle.text.specs.String.{joined}
+use Rattle.text.proofs.Filling.{Pending, fill-start}
+use Rattle.path_text.specs.Text.{escaped}
+use Rattle.path_write.proofs.Writing.{value-room, value-turn, value-done}
+use Rattle.path_write.proofs.write_value.Statement.{statement}
+use Rattle.path_write.proofs.write_value.Tie as tie
+
+abbrev Inv-loop : tie.InvT-loop
+Inv-loop v out₀ at p₀ i₀ out p i = (i ≤ length v) × Pending out₀ at (joined escaped v) out p (joined escaped (drop i v))
+
+abbrev μ-loop : tie.MeasureT-loop
+μ-loop v out₀ at p₀ i₀ out p i = length v - i
+
+loop-holds : tie.Need-loop-holds Inv-loop μ-loop
+loop-holds c =
+    let at-start = c .before .before in
+    (search needs, fill-start _ _ _ (at-start .pre))
+
+shared-slice-read-write-byte : tie.Need-shared-slice-read-write-byte Inv-loop μ-loop
+shared-slice-read-write-byte c = search needs
+
+write-byte-requires : tie.Need-write-byte-requires Inv-loop μ-loop
+write-byte-requires c κs =
+    let at-loop-test = c .before .before .loop-test in
+    let at-loop = c .before .before .before .loop in
+    value-room _ _ _ _ _ _ _ (at-loop .inv .1) (at-loop-test .taken)
+
+add-i : tie.Need-add-i Inv-loop μ-loop
+add-i c = search needs
+
+loop-less : tie.Need-loop-less Inv-loop μ-loop
+loop-less c = search needs
+
+loop-again : tie.Need-loop-again Inv-loop μ-loop
+loop-again c =
+    let at-write-byte = c .before .before .write-byte in
+    let at-loop-test = c .before .before .before .before .before .loop-test in
+    let at-loop = c .before .before .before .before .before .before .loop in
+    (omega arith, value-turn _ _ _ _ _ _ _ (at-loop .inv .1) _ _ (at-loop-test .taken) (at-write-byte .ensures))
+
+same-length : tie.Need-same-length Inv-loop μ-loop
+same-length c =
+    let at-loop = c .before .loop in
+    at-loop .inv .1 .long
+
+returns : tie.Need-returns Inv-loop μ-loop
+returns c =
+    let at-loop-test = c .loop-test in
+    let at-loop = c .before .loop in
+    value-done _ _ _ _ _ _ _ (at-loop .inv .1) (at-loop-test .left)
+
+pub write-value-spec : {M : Type 1} → statement M
+write-value-spec =
+    tie.close
+    (tie.spec
+    Inv-loop
+    μ-loop
+    loop-holds
+    shared-slice-read-write-byte
+    write-byte-requires
+    add-i
+    loop-less
+    loop-again
+    same-length
+    returns)
