@@ -11,7 +11,7 @@ ghost use Rattle.text.specs.Frame.{stringBytes};
 ghost use Rattle.path.specs.Bytes.{counted, keyBytes, elemBytes};
 ghost use Rattle.path_text.specs.TextReader.{upTo, value};
 ghost use Rattle.path_text.specs.Calls.{answer, lent, bytesFor};
-ghost use Rattle.path_text.specs.Steps.{nameRun, goodName, goodKey, goodKeys, goodElement, goodElements, itemOf, Room, Stores, plainly, Transcribed};
+ghost use Rattle.path_text.specs.Steps.{nameRun, goodName, goodValue, goodKey, goodKeys, goodElement, goodElements, itemOf, Room, Stores, plainly, Transcribed};
 use crate::Filled;
 
 // Where reading goes on in the text, and storing in the buffer.
@@ -164,6 +164,25 @@ pub fn read_value(text: &[u8], at: usize, out: &mut [u8], to: usize) -> Stored
     }
 }
 
+// A good value with its length byte.
+fn read_good_value(text: &[u8], at: usize, out: &mut [u8], to: usize) -> Stored
+    requires { ⌜ Room 65 1 (now text) at (now out) to ⌝ }
+    ensures { λ r. ⌜ Stores 65 1 stringBytes goodValue (now (text .entry)) at (now (out .entry)) to (now (out .exit)) r ⌝ }
+{
+    let v = read_value(text, at, out, to);
+    let Stored::To { next, end } = v else {
+        return Stored::Unread;
+    };
+    let start = to + 1;
+    if path::fault::value_fault(&out[start..end]) != 255 {
+        return Stored::Unread;
+    }
+    Stored::To {
+        next: next,
+        end: end,
+    }
+}
+
 // name=value], after its [.
 fn read_key(text: &[u8], at: usize, out: &mut [u8], to: usize) -> Stored
     requires { ⌜ Room 130 1 (now text) at (now out) to ⌝ }
@@ -176,22 +195,7 @@ fn read_key(text: &[u8], at: usize, out: &mut [u8], to: usize) -> Stored
     if byte_at(text, next) != 61 {
         return Stored::Unread;
     }
-    let v = read_value(text, next + 1, out, end);
-    let Stored::To {
-        next: after,
-        end: last,
-    } = v
-    else {
-        return Stored::Unread;
-    };
-    let start = end + 1;
-    if path::fault::value_fault(&out[start..last]) != 255 {
-        return Stored::Unread;
-    }
-    Stored::To {
-        next: after,
-        end: last,
-    }
+    read_good_value(text, next + 1, out, end)
 }
 
 // The keys of an element, after their count.
