@@ -50,6 +50,16 @@ pub fn find(text: &[u8], at: usize, a: u8, b: u8) -> usize
     i
 }
 
+// Most bytes of names are small letters, which one test tells.
+fn is_name(b: u8) -> bool
+    ensures { λ r. ⌜ r ≡ isName b ⌝ }
+{
+    if (97 <= b) & (b <= 122) {
+        return true;
+    }
+    text::byte::is_name(b)
+}
+
 // Where the name from `at` on ends.
 fn name_end(text: &[u8], at: usize) -> usize
     requires { ⌜ at ≤ length (now text) ⌝ }
@@ -57,7 +67,7 @@ fn name_end(text: &[u8], at: usize) -> usize
 {
     let mut i = at;
     while i < text.len() {
-        if !text::byte::is_name(text[i]) {
+        if !is_name(text[i]) {
             return i;
         }
         i += 1;
@@ -233,8 +243,7 @@ fn read_element(text: &[u8], at: usize, out: &mut [u8], to: usize) -> Stored
     let Stored::To { next, end } = n else {
         return Stored::Unread;
     };
-    let dots = [46u8, 46, 46];
-    if text::string::is_same(&text[at..next], &dots) {
+    if path::fault::is_dots(&text[at..next]) {
         return Stored::Unread;
     }
     read_keys(text, next, out, end)
@@ -331,8 +340,7 @@ fn read_root(out: &mut [u8]) -> Filled
 pub fn read_text(text: &[u8], out: &mut [u8]) -> Filled
     ensures { λ r. ⌜ (r ≡ answer (now (out .entry)) (bytesFor (now (text .entry)))) × (now (out .exit) ≡ lent (now (out .entry)) (bytesFor (now (text .entry)))) ⌝ }
 {
-    let root = [47u8];
-    if text::string::is_same(text, &root) {
+    if path::fault::is_byte(text, 47) {
         return read_root(out);
     }
     if text.len() <= 239 {
