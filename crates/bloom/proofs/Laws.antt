@@ -14,8 +14,9 @@ use Rattle.path.specs.Path.{Key, Elem, Path}
 use Rattle.verdict.specs.Cover.{wild, given, definite, sameKey, holds, meets, covers}
 use Rattle.verdict.specs.Join.{meetsBoth, coversBoth}
 use Rattle.bloom.specs.declared.Filter.{Filter}
-use Rattle.bloom.specs.declared.seed.Seed.{Seed}
-use Rattle.bloom.specs.Bloom.{none, join, hash, digits, keyDigits, keysDigits, elemDigits, pathDigits, beyond}
+use Rattle.rows.specs.declared.mix.Seed.{Seed}
+use Rattle.rows.specs.Mix.{mix}
+use Rattle.bloom.specs.Bloom.{none, join, digits, keyDigits, keysDigits, elemDigits, pathDigits, beyond}
 
 -- ---- the digits of two numbers together
 
@@ -139,9 +140,9 @@ module _ (s : Seed) (d : ℕ) where
   unfolding meets elemDigits definite
   elem-meets p e h =
       let n : p .name ≡ e .name = same→≡ _ _ (and-l _ _ h) in
-      let x : Filter = digits (hash s d (e .name)) in
+      let x : Filter = digits (mix s d (e .name)) in
       let y : Filter = keysDigits s d [] (e .keys) in
-      either {x = digits (hash s d (p .name))} {y = keysDigits s d [] (p .keys)} {m = join x y}
+      either {x = digits (mix s d (p .name))} {y = keysDigits s d [] (p .keys)} {m = join x y}
       (rw n (first x y))
       (onward {y = y} (keys-within s d [] (holds (given (e .keys))) y (key-held s d [] (e .keys)) (p .keys) (and-r _ _ h)) (second x y))
 

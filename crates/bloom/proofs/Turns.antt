@@ -3,48 +3,22 @@ use mathlib.Core.Path.{_≡_, refl, sym, ap, _∙_}
 use mathlib.Core.Bool.{true, false}
 use mathlib.Core.List.{List, [], _∷_}
 use Prim.Native.Nat.{ℕ, zero, suc, _+_, _-_, _*_, _/_, _%_, _^_, _≤_, _<_}
-use native.Mathlib.Nat.{mod-lt, one-mul, mul-le-mul}
-use native.Mathlib.Numerals.{add-one}
+use native.Mathlib.Nat.{mod-lt, one-mul}
 use native.Mathlib.Omega.{arith}
-use lib.ListN.{length, drop, getD, drop-of-length-le}
-use lib.Seq.{drop-cons}
+use lib.ListN.{getD}
 use lib.Pow.{shl-exact}
 use Rattle.text.specs.Test.{_or_, if_then_else_}
-use Rattle.text.specs.String.{Str}
 use Rattle.path.specs.Path.{Key, Elem, Path}
 use Rattle.verdict.specs.Cover.{wild, holds}
 use Rattle.place.specs.Place.{strEnd, strIn, keyEnd, keyIn, keysIn, elemEnd, elemIn, elemsIn}
 use Rattle.place.proofs.Cursor.{keys-cons, keys-nil, elems-cons, elems-nil}
-use Rattle.text.proofs.Tests.{or-l, or-r}
 use Rattle.bloom.specs.declared.Filter.{Filter}
-use Rattle.bloom.specs.declared.seed.Seed.{Seed}
-use Rattle.bloom.specs.Bloom.{none, join, hashFrom, hash, digits, keyDigits, keysDigits, elemDigits, pathDigits, beyond}
+use Rattle.rows.specs.declared.mix.Seed.{Seed}
+use Rattle.rows.specs.Mix.{mix}
+use Rattle.bloom.specs.Bloom.{none, join, digits, keyDigits, keysDigits, elemDigits, pathDigits, beyond}
 use Rattle.bloom.proofs.Laws.{join-assoc, join-none}
 
--- ---- the hash
-
--- no product passes 64 bits
-pub product : (x m : ℕ) → x < 8589934592 → m < 2147483648 → x * m < 18446744073709551616
-product x m h l = omega (arith, mul-le-mul {n₁ = x} {m₁ = m} {n₂ = 8589934591} {m₂ = 2147483647} (omega arith) (omega arith))
-
-module _ (s : Seed) (t : List ℕ) (i x y : ℕ) where
-  pub hash-turn : (w b : ℕ) → i < length t → b ≡ getD t i 0 → w ≡ hashFrom s x y (drop i t)
-      → w ≡ hashFrom s ((x + b) * s .first % 4294967296) ((y + (x + b) * s .first % 4294967296) * s .second % 4294967296) (drop (i + 1) t)
-  unfolding hashFrom
-  hash-turn w b l e g = g ∙ rw (add-one, drop-cons t i 0 l, e)
-
-  pub hash-end : (w : ℕ) → length t ≤ i → w ≡ hashFrom s x y (drop i t) → y ≡ w
-  unfolding hashFrom
-  hash-end w l g = sym (g ∙ rw (drop-of-length-le t l))
-
-from-small : (s : Seed) (t : Str) (x y : ℕ) → y < 4294967296 → hashFrom s x y t < 4294967296
-unfolding hashFrom
-from-small s [] x y l = l
-from-small s (b ∷ t) x y l = from-small s t _ _ (mod-lt ((y + (x + b) * s .first % 4294967296) * s .second) (omega arith))
-
-pub hash-small : (s : Seed) (h : ℕ) (t : Str) → hash s h t < 4294967296
-unfolding hash
-hash-small s h t = from-small s t h 0 (omega arith)
+-- ---- digits
 
 digit : (w h : ℕ) → (1 * 2 ^ (h / 2 ^ w % 64)) % 2 ^ 64 ≡ 2 ^ (h / 2 ^ w % 64)
 digit w h =
@@ -62,7 +36,7 @@ digits-are h = rw (digit 26 h, digit 20 h, digit 14 h, digit 8 h)
 
 module _ (s : Seed) (d : ℕ) (asked : List Key) (f : List ℕ) where
   pub key-is : (q v : ℕ) → v ≡ strEnd f q → wild (keyIn f q) ≡ false → holds asked (keyIn f q) ≡ false
-      → digits (hash s (hash s d (strIn f q) + 256) (strIn f v)) ≡ keyDigits s d asked (keyIn f q)
+      → digits (mix s (mix s d (strIn f q) + 256) (strIn f v)) ≡ keyDigits s d asked (keyIn f q)
   unfolding keyDigits keyIn if_then_else_ _or_
   key-is q v i e n = rw (e, n, i)
 
@@ -80,7 +54,7 @@ module _ (s : Seed) (d : ℕ) (asked : List Key) (f : List ℕ) where
   keys-end k q x t z e = sym (e ∙ rw (keys-nil f k q z) (join-none x))
 
 module _ (s : Seed) (d : ℕ) (f : List ℕ) where
-  pub elem-is : (q a : ℕ) (x c : Filter) → a ≡ strEnd f q → x ≡ digits (hash s d (strIn f q)) → c ≡ keysDigits s d [] (keysIn (getD f a 0) f (a + 1))
+  pub elem-is : (q a : ℕ) (x c : Filter) → a ≡ strEnd f q → x ≡ digits (mix s d (strIn f q)) → c ≡ keysDigits s d [] (keysIn (getD f a 0) f (a + 1))
       → join x c ≡ elemDigits s d (elemIn f q)
   unfolding elemDigits elemIn
   elem-is q a x c i h j = rw (j, h, i)

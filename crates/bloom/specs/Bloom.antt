@@ -1,15 +1,15 @@
 -- A Bloom filter of a path: four numbers, each with a binary digit for each of its names and one for each of its definite keys, found by a
 -- hash. Names and keys that the asked path has are left out. A path that covers the joined path of another and the asked one has no digit that
 -- the other lacks (proofs/Laws), whatever the seed of the hash is. So most comparisons can be left out.
-use Prim.Native.Nat.{ℕ, _+_, _*_, _/_, _%_, _^_, _<_}
+use Prim.Native.Nat.{ℕ, _+_, _/_, _%_, _^_}
 use mathlib.Core.List.{List, [], _∷_}
 use lib.Bits.{bitOr}
 use Rattle.text.specs.Test.{_or_, if_then_else_}
-use Rattle.text.specs.String.{Str}
 use Rattle.path.specs.Path.{Key, Elem, Path}
 use Rattle.verdict.specs.Cover.{wild, holds}
 use Rattle.bloom.specs.declared.Filter.{Filter}
-use Rattle.bloom.specs.declared.seed.Seed.{Seed}
+use Rattle.rows.specs.declared.mix.Seed.{Seed}
+use Rattle.rows.specs.Mix.{mix}
 
 -- ---- filters
 
@@ -18,20 +18,6 @@ join x y = record { a = bitOr (x .a) (y .a); b = bitOr (x .b) (y .b); c = bitOr 
 
 abbrev pub none : Filter
 none = record { a = 0; b = 0; c = 0; d = 0 }
-
--- ---- the hash
-
-abbrev pub Small : Seed → Type 0
-Small s = (s .first < 2147483648) × (s .second < 2147483648)
-
--- a number that equal strings share, from x and y on
-unfoldable pub hashFrom : Seed → ℕ → ℕ → Str → ℕ
-hashFrom s x y [] = y
-hashFrom s x y (b ∷ t) =
-    hashFrom s ((x + b) * s .first % 4294967296) ((y + (x + b) * s .first % 4294967296) * s .second % 4294967296) t
-
-unfoldable pub hash : Seed → ℕ → Str → ℕ
-hash s h t = hashFrom s h 0 t
 
 -- in each number one digit of 64, by six bits of the hash
 unfoldable pub digits : ℕ → Filter
@@ -46,7 +32,7 @@ digits h = record {
 
 -- a key, unless it is a wildcard or among the asked ones
 unfoldable pub keyDigits : Seed → ℕ → List Key → Key → Filter
-keyDigits s d asked k = if wild k or holds asked k then none else digits (hash s (hash s d (k .name) + 256) (k .value))
+keyDigits s d asked k = if wild k or holds asked k then none else digits (mix s (mix s d (k .name) + 256) (k .value))
 
 unfoldable pub keysDigits : Seed → ℕ → List Key → List Key → Filter
 keysDigits s d asked [] = none
@@ -54,7 +40,7 @@ keysDigits s d asked (k ∷ ks) = join (keyDigits s d asked k) (keysDigits s d a
 
 -- an element where nothing is asked
 unfoldable pub elemDigits : Seed → ℕ → Elem → Filter
-elemDigits s d e = join (digits (hash s d (e .name))) (keysDigits s d [] (e .keys))
+elemDigits s d e = join (digits (mix s d (e .name))) (keysDigits s d [] (e .keys))
 
 unfoldable pub pathDigits : Seed → ℕ → Path → Filter
 pathDigits s d [] = none

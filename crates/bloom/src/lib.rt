@@ -4,9 +4,10 @@ pub mod seed;
 ghost use mathlib.Core.Path.{_≡_};
 ghost use Prim.Native.Nat.{_+_, _*_, _≤_, _<_};
 ghost use lib.ListN.{length};
+ghost use Rattle.rows.specs.Mix.{Small, mix};
 ghost use Rattle.place.specs.Place.{strEnd, strIn, keyEnd, keyIn, keysEnd, keysIn, elemEnd, elemIn, elemsEnd, elemsIn};
-ghost use Rattle.bloom.specs.Bloom.{Small, none, hash, digits, join, keyDigits, keysDigits, elemDigits, pathDigits, beyond};
-use seed::Seed;
+ghost use Rattle.bloom.specs.Bloom.{none, digits, join, keyDigits, keysDigits, elemDigits, pathDigits, beyond};
+use rows::mix::Seed;
 
 // Four numbers, each with binary digits.
 pub struct Filter {
@@ -39,30 +40,14 @@ pub fn join(x: Filter, y: Filter) -> Filter
     }
 }
 
-pub fn hash(s: Seed, h: usize, t: &[u8]) -> usize
-    requires { ⌜ Small s × (h < 4294967552) ⌝ }
-    ensures { λ r. ⌜ r ≡ hash s h (now (t .entry)) ⌝ }
-{
-    let mut x = h;
-    let mut y = 0;
-    let mut i = 0;
-    while i < t.len() {
-        let b = t[i] as usize;
-        x = (x + b) * s.first % 4294967296;
-        y = (y + x) * s.second % 4294967296;
-        i += 1;
-    }
-    y
-}
-
 // The hash of the string at a position.
 pub fn hash_at(s: Seed, h: usize, f: &[u8], at: usize) -> usize
     requires { ⌜ Small s × (h < 4294967552) × (strEnd (now f) at ≤ length (now f)) ⌝ }
-    ensures { λ r. ⌜ r ≡ hash s h (strIn (now (f .entry)) at) ⌝ }
+    ensures { λ r. ⌜ r ≡ mix s h (strIn (now (f .entry)) at) ⌝ }
 {
     let a = at + 1;
     let e = place::str_end(f, at);
-    hash(s, h, &f[a..e])
+    rows::mix::mix(s, h, &f[a..e])
 }
 
 pub fn digits(h: usize) -> Filter

@@ -1,13 +1,8 @@
-// What the hash of a table's filters starts from.
+// The factors of a table's hash.
 ghost use Prim.Native.Nat.{_+_, _≤_, _<_};
 ghost use lib.ListN.{length};
-ghost use Rattle.bloom.specs.Bloom.{Small};
-
-// The factors of the hash, odd numbers.
-pub struct Seed {
-    pub first: usize,
-    pub second: usize,
-}
+ghost use Rattle.rows.specs.Mix.{Small};
+use rows::mix::Seed;
 
 // Four bytes as a number.
 fn word(f: &[u8], i: usize) -> usize

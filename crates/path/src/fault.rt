@@ -1,9 +1,11 @@
 // What the strings of a path may not hold: refusal numbers 5 to 8, the smallest first, and 255 for none.
 ghost use mathlib.Core.Path.{_≡_};
 ghost use mathlib.Core.Bool.{true};
+ghost use mathlib.Core.List.{[], _∷_};
 ghost use Prim.Native.Nat.{min};
 ghost use Rattle.text.specs.Byte.{isStar};
 ghost use Rattle.text.specs.Test.{any, if_then_else_};
+ghost use Rattle.text.specs.String.{bytes, same};
 ghost use Rattle.path.specs.Faults.{outsideName, outsideValue};
 ghost use Rattle.path.specs.Walk.{nameGrade, elemNameGrade, valueGrade};
 
@@ -65,6 +67,25 @@ fn is_unsized(n: usize) -> bool
     (n == 0) | (64 < n)
 }
 
+// The byte b, and nothing more.
+pub fn is_byte(s: &[u8], b: u8) -> bool
+    ensures { λ r. ⌜ r ≡ same (now (s .entry)) (b ∷ []) ⌝ }
+{
+    if s.len() != 1 {
+        return false;
+    }
+    s[0] == b
+}
+
+pub fn is_dots(s: &[u8]) -> bool
+    ensures { λ r. ⌜ r ≡ same (now (s .entry)) (bytes "...") ⌝ }
+{
+    if s.len() != 3 {
+        return false;
+    }
+    (s[0] == 46) & (s[1] == 46) & (s[2] == 46)
+}
+
 // A key's name.
 pub fn name_fault(s: &[u8]) -> u8
     ensures { λ r. ⌜ r ≡ nameGrade (now (s .entry)) ⌝ }
@@ -77,21 +98,19 @@ pub fn elem_name_fault(s: &[u8]) -> u8
     ensures { λ r. ⌜ r ≡ elemNameGrade (now (s .entry)) ⌝ }
 {
     let seen = scan(s, true);
-    let dots = [46u8, 46, 46];
-    let is_dots = text::string::is_same(s, &dots);
-    grade(is_unsized(s.len()), seen.stray, seen.star | is_dots, false)
+    let dots = is_dots(s);
+    grade(is_unsized(s.len()), seen.stray, seen.star | dots, false)
 }
 
 pub fn value_fault(s: &[u8]) -> u8
     ensures { λ r. ⌜ r ≡ valueGrade (now (s .entry)) ⌝ }
 {
     let seen = scan(s, false);
-    let wildcard = [42u8];
-    let is_wildcard = text::string::is_same(s, &wildcard);
+    let wildcard = is_byte(s, 42);
     grade(
         is_unsized(s.len()),
         seen.stray,
-        seen.star & !is_wildcard,
+        seen.star & !wildcard,
         false,
     )
 }

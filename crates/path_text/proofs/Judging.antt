@@ -6,8 +6,8 @@ use mathlib.Core.Option.{none}
 use Prim.Native.Nat.{ℕ, zero, suc, _+_, _-_, _≤_, _<_}
 use native.Mathlib.Numerals.{add-one}
 use native.Mathlib.Omega.{arith}
-use borrow.Author.Tests.{eqb-true, ltb-true, ltb-false, lt-ltb, le-ltb}
-use lib.Dec.{eqb, ltb}
+use borrow.Author.Tests.{eqb-true, ltb-true, ltb-false, lt-ltb, le-ltb, eq-eqb, ne-eqb}
+use lib.Dec.{eqb, leb, ltb}
 use lib.ListN.{length, take, drop, getD, length-drop, drop-of-length-le}
 use lib.Seq.{drop-cons, getD-drop}
 use Rattle.text.specs.Test.{_and_, _or_, if_then_else_, all, any, twice}
@@ -15,7 +15,7 @@ use Rattle.text.specs.Byte.{isName}
 use Rattle.text.specs.String.{Str, bytes, same, joined}
 use Rattle.text.specs.Frame.{Parsed, got, unread, andThen, Reader, _>>=_, ret, part, stringBytes, times}
 use Rattle.text.specs.Fill.{Wrote}
-use Rattle.text.proofs.Filling.{wrote-long, wrote-more}
+use Rattle.text.proofs.Filling.{wrote-long}
 use Rattle.text.proofs.Tests.{by, clash, and-l, and-r, both, and-left, and-right}
 use Rattle.text.proofs.Codec.{never-got, then-got, got-move}
 use Rattle.path.specs.Path.{Key, Elem, Path}
@@ -28,12 +28,12 @@ use Rattle.path.proofs.Bytes.{twice-bytes}
 use Rattle.path.proofs.Classes.{size}
 use Rattle.path.proofs.Grades.{strange, name-good, elem-name-good, key-good, keys-good, elem-good, path-good}
 use Rattle.path_text.specs.TextReader.{literal, upTo, name, value, each, key, element}
-use Rattle.path_text.specs.Steps.{nameRun, pass, passing, goodName, goodKey, distinct, goodKeys, goodElement, goodElements, Within, Room, Stores, stores, nothing}
+use Rattle.path_text.specs.Steps.{nameRun, pass, passing, goodName, goodValue, goodKey, distinct, goodKeys, goodElement, goodElements, Within, Room, Stores, stores, nothing}
 use Rattle.path_text.specs.declared.reader.Stored.{Stored}
 use Rattle.path_text.specs.declared.reader.Stored.the-variants.{To, Unread}
 use Rattle.path_text.proofs.Complete.{each-open, each-end, each-none}
-use Rattle.path_text.proofs.Storing.{stored-to, stored-not, within-after, room-end, stored-rest, stored-string, string-longer}
-use Rattle.path_text.proofs.Reading.{part-length}
+use Rattle.path_text.proofs.Storing.{stored-to, stores-after, room-end, stored-rest, stored-string, string-longer}
+use Rattle.path_text.proofs.Reading.{part-length, key-unequal, key-open}
 
 -- ---- what passes
 
@@ -73,6 +73,19 @@ module _ {A : Type 0} (ok : A → Bool) where
           (λ f. let e′ = rw (h a p b t i f) at e in never-got e′ refl)
           (λ f. rw f)
 
+  -- a part that passes where the whole does
+  pub pass-then : {B : Type 0} (fine : B → Bool) (make : A → B) (x : Parsed A) → ((a : A) (t : ℕ) → x ≡ got a t → fine (make a) ≡ ok a)
+      → pass fine (andThen x (λ a t. got (make a) t)) ≡ andThen (pass ok x) (λ a t. got (make a) t)
+  unfolding pass if_then_else_
+  pass-then fine make (got a t) h = rw (h a t refl) (by (ok a) (λ k. rw k) (λ k. rw k))
+  pass-then fine make unread h = refl
+
+  -- one test after another
+  pass-both : (also : A → Bool) (x : Parsed A) → pass (λ a. ok a and also a) x ≡ pass also (pass ok x)
+  unfolding pass if_then_else_ _and_
+  pass-both also (got a t) = by (ok a) (λ k. rw k) (λ k. rw k)
+  pass-both also unread = refl
+
   pass-list : (x : A) (y : Parsed (List A)) → pass (all ok) (andThen y (λ xs t. got (x ∷ xs) t)) ≡ (if ok x then andThen (pass (all ok) y) (λ xs t. got (x ∷ xs) t) else unread)
   unfolding pass all if_then_else_ _and_
   pass-list x (got xs t) = by (ok x) (λ h. by (all ok xs) (λ k. rw (h, k)) (λ k. rw (h, k))) (λ h. rw h)
@@ -111,7 +124,10 @@ each-few b (suc n) r s at xs t e =
     got-move (λ ys q. length ys ≤ suc n) (g .3) (omega (arith, each-few b n r s (f .1) (g .0) (g .1) (g .2))))
     (λ h. got-move (λ ys q. length ys ≤ suc n) (sym (each-end b (suc n) r s at h) ∙ e) (omega arith))
 
--- ---- name_end
+-- ---- is_name, name_end
+
+pub small-letter : (b : ℕ) → (leb 97 b && leb b 122) ≡ true → true ≡ isName b
+small-letter b e = rw e (by (leb 65 b && leb b 90) (λ u. rw u) (λ u. rw u))
 
 module _ (s : Str) (i : ℕ) where
   pub run-stops : i < length s → isName (getD s i 0) ≡ false → nameRun (drop i s) ≡ 0
@@ -229,6 +245,29 @@ few-bytes n t = ltb-false 64 n (by (ltb 64 n) (λ u. clash (ors (eqb n 0) (ltb 6
     ors true t e = refl
     ors false t e = e
 
+-- ---- read_good_value
+
+-- the value was stored, and f is its number
+module _ {s : Str} {at : ℕ} {d : List ℕ} {to : ℕ} {d′ : List ℕ} {r : Stored} {t end : ℕ} (k : Room 65 1 s at d to) (x : Stores 65 1 stringBytes (value 64) s at d to d′ r) (e : r ≡ To t end) where
+  pub value-starts : to + 1 ≤ end
+  value-starts = let u = stored-to x e in string-longer d to (u .0) d′ end (u .2)
+
+  value-room : end ≤ length d
+  value-room = let u = stored-to x e in room-end 65 1 s at d to k 65 1 t end (u .3) (omega (arith, value-starts)) (omega arith) (omega arith)
+
+  pub value-ends : end ≤ length d′
+  value-ends = let u = stored-to x e in omega (arith, value-room, wrote-long d to (stringBytes (u .0)) d′ end (u .2) (omega (arith, value-room, u .2 .ends)))
+
+  module _ (f : ℕ) (i : f ≡ valueGrade (part d′ (to + 1) end)) where
+    graded : f ≡ valueGrade (stored-to x e .0)
+    graded = let u = stored-to x e in i ∙ ap valueGrade (stored-string d to (u .0) d′ end (u .2) value-room)
+
+    pub value-bad : (f ≡ 255 → ⊥) → Stores 65 1 stringBytes goodValue s at d to d′ Unread
+    value-bad h = nothing (pass-bad (good valueGrade) (stored-to x e .1) (ne-eqb _ 255 (λ z. h (graded ∙ z))))
+
+    pub value-stores : f ≡ 255 → Stores 65 1 stringBytes goodValue s at d to d′ (To t end)
+    value-stores h = let u = stored-to x e in stores (pass-good (good valueGrade) (u .1) (eq-eqb _ 255 (sym graded ∙ h))) (u .2) (u .3)
+
 -- ---- read_key
 
 module _ (s : Str) (at : ℕ) where
@@ -244,28 +283,25 @@ module _ (s : Str) (at : ℕ) where
       named : (n : Str) (k : Key) → k .name ≡ n → good aloneGrade k ≡ true → good nameGrade n ≡ true
       named n k i f = rw i at (and-l _ _ (sym (key-good k) ∙ f))
 
-  module _ (n v : Str) (t : ℕ) (e : key s at ≡ got (record { name = n; value = v }) t) where
-    pub key-passes : good nameGrade n ≡ true → good valueGrade v ≡ true → goodKey s at ≡ got (record { name = n; value = v }) t
-    key-passes f g = pass-good (good aloneGrade) e (key-good _ ∙ both _ _ f g)
+  module _ (n : Str) (m : ℕ) (e : goodName 61 61 s at ≡ got n m) where
+    key-named : (name 61 61 s at ≡ got n m) × (good nameGrade n ≡ true)
+    key-named = pass-got (good nameGrade) (name 61 61 s at) e
 
-    pub key-misvalued : good valueGrade v ≡ false → goodKey s at ≡ unread
-    unfolding _and_
-    key-misvalued g = pass-bad (good aloneGrade) e (key-good _ ∙ rw g (by (good nameGrade n) (λ u. rw u) (λ u. rw u)))
+    pub key-ends : (getD s m 0 ≡ 61 → ⊥) → goodKey s at ≡ unread
+    key-ends h = pass-none (good aloneGrade) (key-unequal s at n m (key-named .0) h)
 
--- the value was stored, and f is its number
-module _ {s : Str} {at : ℕ} {d : List ℕ} {to : ℕ} {d′ : List ℕ} {r : Stored} {t end : ℕ} (x : Stores 65 1 stringBytes (value 64) s at d to d′ r) (e : r ≡ To t end) where
-  pub value-starts : to + 1 ≤ end
-  value-starts = let u = stored-to x e in string-longer d to (u .0) d′ end (u .2)
+    module _ (h : getD s m 0 ≡ 61) where
+      key-is : goodKey s at ≡ andThen (goodValue s (m + 1)) (λ v t. got (record { name = n; value = v }) t)
+      unfolding _and_
+      key-is =
+          rw (key-open s at n m (key-named .0) h)
+          (pass-then (good valueGrade) (good aloneGrade) (λ v. record { name = n; value = v }) (value 64 s (m + 1)) (λ v t i. key-good _ ∙ rw (key-named .1)))
 
-  module _ (k : Room 65 1 s at d to) where
-    value-room : end ≤ length d
-    value-room = let u = stored-to x e in room-end 65 1 s at d to k 65 1 t end (u .3) (omega (arith, value-starts)) (omega arith) (omega arith)
-
-    pub value-ends : end ≤ length d′
-    value-ends = let u = stored-to x e in omega (arith, value-room, wrote-long d to (stringBytes (u .0)) d′ end (u .2) (omega (arith, value-room, u .2 .ends)))
-
-    pub value-graded : (f : ℕ) → f ≡ valueGrade (part d′ (to + 1) end) → f ≡ valueGrade (stored-to x e .0)
-    value-graded f i = let u = stored-to x e in i ∙ ap valueGrade (stored-string d to (u .0) d′ end (u .2) value-room)
+      pub key-stores : (d : List ℕ) (to : ℕ) (d′ : List ℕ) (end : ℕ) (d″ : List ℕ) (r : Stored) → Wrote d to (stringBytes n) d′ end → Within 65 1 s at m to end → end ≤ length d
+          → Stores 65 1 stringBytes goodValue s (m + 1) d′ end d″ r → Stores 130 1 keyBytes goodKey s at d to d″ r
+      unfolding keyBytes
+      key-stores d to d′ end d″ r w b room x =
+          stores-after (λ v. record { name = n; value = v }) (stringBytes n) 65 1 65 1 130 1 s at m (m + 1) d to d′ end d″ r key-is (λ v. refl) w b room (omega arith) (omega arith) x
 
 -- ---- read_keys
 
@@ -311,35 +347,17 @@ module _ (s : Str) (at : ℕ) where
     unfolding _and_
     judged ks l = elem-good _ ∙ rw (named, le-ltb 4 (length ks) l) (keys-good ks)
 
-    passed : (y : Parsed (List Key)) → each 91 4 key s m ≡ y
-        → pass (good elemGrade) (andThen y (λ ks u. got (record { name = n; keys = ks }) u)) ≡ andThen (pass distinct (pass (all (good aloneGrade)) y)) (λ ks u. got (record { name = n; keys = ks }) u)
-    unfolding pass if_then_else_ _and_
-    passed (got ks u) g =
-        rw (judged ks (each-few 91 4 key s m ks u g))
-        (by (all (good aloneGrade) ks) (λ x. by (distinct ks) (λ y. rw (x, y)) (λ y. rw (x, y))) (λ x. rw x))
-    passed unread g = refl
-
     pub element-is : goodElement s at ≡ andThen (goodKeys s m) (λ ks u. got (record { name = n; keys = ks }) u)
     unfolding element _>>=_ ret
-    element-is = rw (e, ← each-pass (good aloneGrade) 91 4 key s m) (passed (each 91 4 key s m) refl)
-
-    keys-read : (ks : List Key) (t : ℕ) → goodKeys s m ≡ got ks t → goodElement s at ≡ got (record { name = n; keys = ks }) t
-    keys-read ks t g = element-is ∙ rw g
-
-    keys-none : goodKeys s m ≡ unread → goodElement s at ≡ unread
-    keys-none g = element-is ∙ rw g
+    element-is =
+        rw (e, ← each-pass (good aloneGrade) 91 4 key s m, ← pass-both (all (good aloneGrade)) distinct (each 91 4 key s m))
+        (pass-then (λ ks. all (good aloneGrade) ks and distinct ks) (good elemGrade) (λ ks. record { name = n; keys = ks }) (each 91 4 key s m) (λ ks u g. judged ks (each-few 91 4 key s m ks u g)))
 
     pub element-stores : (d : List ℕ) (to : ℕ) (d′ : List ℕ) (end : ℕ) (d″ : List ℕ) (r : Stored) → Wrote d to (stringBytes n) d′ end → Within 65 1 s at m to end → end ≤ length d
         → Stores 521 1 (counted keyBytes) goodKeys s m d′ end d″ r → Stores 586 2 elemBytes goodElement s at d to d″ r
     unfolding elemBytes
-    element-stores d to d′ end d″ r w b room x = go r x
-      where
-        go : (q : Stored) → Stores 521 1 (counted keyBytes) goodKeys s m d′ end d″ q → Stores 586 2 elemBytes goodElement s at d to d″ q
-        go (To t last) y =
-            let u = stored-to y refl in
-            stores (keys-read (u .0) t (u .1)) (wrote-more d to (stringBytes n) d′ end w (omega (arith, w .ends)) (counted keyBytes (u .0)) d″ last (u .2))
-            (within-after 65 1 521 1 586 2 s at m m t to end last b (u .3) (omega arith) (omega arith))
-        go Unread y = nothing (keys-none (stored-not y refl))
+    element-stores d to d′ end d″ r w b room x =
+        stores-after (λ ks. record { name = n; keys = ks }) (stringBytes n) 65 1 521 1 586 2 s at m m d to d′ end d″ r element-is (λ ks. refl) w b room (omega arith) (omega arith) x
 
 -- ---- transcribe
 

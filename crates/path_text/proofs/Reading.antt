@@ -212,26 +212,13 @@ wrote-value d to v d′ end h w =
 
 -- ---- read_key
 
-module _ (s : Str) (at : ℕ) where
-  module _ (n : Str) (m : ℕ) (e : name 61 61 s at ≡ got n m) where
-    pub key-unequal : (getD s m 0 ≡ 61 → ⊥) → key s at ≡ unread
-    unfolding key _>>=_ literal if_then_else_
-    key-unequal h = rw (e, ne-eqb _ 61 h)
+pub key-unequal : (s : Str) (at : ℕ) (n : Str) (m : ℕ) → name 61 61 s at ≡ got n m → (getD s m 0 ≡ 61 → ⊥) → key s at ≡ unread
+unfolding key _>>=_ literal if_then_else_
+key-unequal s at n m e h = rw (e, ne-eqb _ 61 h)
 
-    module _ (h : getD s m 0 ≡ 61) where
-      pub key-valueless : value 64 s (m + 1) ≡ unread → key s at ≡ unread
-      unfolding key _>>=_ literal if_then_else_
-      key-valueless i = rw (e, eq-eqb _ 61 h, i)
-
-      pub key-got : (v : Str) (t : ℕ) → value 64 s (m + 1) ≡ got v t → key s at ≡ got (record { name = n; value = v }) t
-      unfolding key _>>=_ literal ret if_then_else_
-      key-got v t i = rw (e, eq-eqb _ 61 h, i)
-
--- a name and a value, one after the other, are a key
-pub key-wrote : (d : List ℕ) (to : ℕ) (n d′ : List ℕ) (end : ℕ) (v d″ : List ℕ) (last : ℕ) → Wrote d to (stringBytes n) d′ end → end ≤ length d → Wrote d′ end (stringBytes v) d″ last
-    → Wrote d to (keyBytes (record { name = n; value = v })) d″ last
-unfolding keyBytes
-key-wrote d to n d′ end v d″ last w h x = wrote-more d to (stringBytes n) d′ end w (omega (arith, w .ends)) (stringBytes v) d″ last x
+pub key-open : (s : Str) (at : ℕ) (n : Str) (m : ℕ) → name 61 61 s at ≡ got n m → getD s m 0 ≡ 61 → key s at ≡ andThen (value 64 s (m + 1)) (λ v t. got (record { name = n; value = v }) t)
+unfolding key _>>=_ literal ret if_then_else_
+key-open s at n m e h = rw (e, eq-eqb _ 61 h)
 
 -- ---- read_keys, read_elements
 

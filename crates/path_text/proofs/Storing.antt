@@ -38,6 +38,21 @@ within-after m k m₁ k₁ m₂ k₂ s at p p₁ p′ to q q′ a b h i =
 pub within-less : (m k m₁ k₁ : ℕ) (s : Str) (at p to q : ℕ) → Within m k s at p to q → m ≤ m₁ → k ≤ k₁ → Within m₁ k₁ s at p to q
 within-less m k m₁ k₁ s at p to q a h i = record { few = omega (arith, a .few); near = omega (arith, a .near); inside = a .inside }
 
+-- v was stored, and then, as w₂ writes it, what makes the rest of the thing
+pub stores-after : {A B : Type 0} {w₂ : A → Str} {r₂ : Reader A} {w : B → Str} {r : Reader B} (make : A → B) (v : Str) (m₁ k₁ m₂ k₂ m k : ℕ) (s : Str) (at p p₁ : ℕ) (d : List ℕ) (to : ℕ)
+    (d′ : List ℕ) (end : ℕ) (d″ : List ℕ) (q : Stored) → r s at ≡ andThen (r₂ s p₁) (λ a t. got (make a) t) → ((a : A) → w (make a) ≡ v ++ w₂ a) → Wrote d to v d′ end
+    → Within m₁ k₁ s at p to end → end ≤ length d → m₁ + m₂ ≤ m → p + k₁ + k₂ ≤ p₁ + k → Stores m₂ k₂ w₂ r₂ s p₁ d′ end d″ q → Stores m k w r s at d to d″ q
+stores-after {w₂ = w₂} {r₂} {w} {r} make v m₁ k₁ m₂ k₂ m k s at p p₁ d to d′ end d″ q e f x b room h i y = go q y
+  where
+    go : (o : Stored) → Stores m₂ k₂ w₂ r₂ s p₁ d′ end d″ o → Stores m k w r s at d to d″ o
+    go (To t last) z =
+        let u = stored-to z refl in
+        let read : r s at ≡ got (make (u .0)) t = e ∙ rw (u .1) in
+        let both : Wrote d to (v ++ w₂ (u .0)) d″ last = wrote-more d to v d′ end x (omega (arith, x .ends)) (w₂ (u .0)) d″ last (u .2) in
+        let wrote : Wrote d to (w (make (u .0))) d″ last = rw (f (u .0)) both in
+        stores read wrote (within-after m₁ k₁ m₂ k₂ m k s at p p₁ t to end last b (u .3) h i)
+    go Unread z = nothing (let g = stored-not z refl in e ∙ rw g)
+
 module _ (m k : ℕ) (s : Str) (at : ℕ) (d : List ℕ) (to : ℕ) (r : Room m k s at d to) where
   pub room-start : to ≤ length d
   room-start = omega (arith, r .fits 0 (omega arith) (omega (arith, r .starts)))

@@ -13,8 +13,8 @@ use Rattle.text.specs.Frame.{Parsed, got, unread, Reader}
 use Rattle.text.specs.Fill.{put, Wrote}
 use Rattle.path.specs.Path.{Key, Elem, Path}
 use Rattle.path.specs.Faults.{sameName}
-use Rattle.path.specs.Walk.{nameGrade, aloneGrade, elemGrade, good}
-use Rattle.path_text.specs.TextReader.{name, item, each, key, element}
+use Rattle.path.specs.Walk.{nameGrade, valueGrade, aloneGrade, elemGrade, good}
+use Rattle.path_text.specs.TextReader.{name, item, value, each, key, element}
 use Rattle.path_text.specs.declared.reader.Stored.{Stored}
 use Rattle.path_text.specs.declared.reader.Stored.the-variants as stored
 use Rattle.path_text.specs.declared.reader.Item.{Item}
@@ -44,6 +44,9 @@ passing ok r s at = pass ok (r s at)
 -- the parts of a good path
 abbrev pub goodName : ℕ → ℕ → Reader Str
 goodName a b = passing (good nameGrade) (name a b)
+
+abbrev pub goodValue : Reader Str
+goodValue = passing (good valueGrade) (value 64)
 
 abbrev pub goodKey : Reader Key
 goodKey = passing (good aloneGrade) key

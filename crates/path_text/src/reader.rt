@@ -11,7 +11,7 @@ ghost use Rattle.text.specs.Frame.{stringBytes};
 ghost use Rattle.path.specs.Bytes.{counted, keyBytes, elemBytes};
 ghost use Rattle.path_text.specs.TextReader.{upTo, value};
 ghost use Rattle.path_text.specs.Calls.{answer, lent, bytesFor};
-ghost use Rattle.path_text.specs.Steps.{nameRun, goodName, goodKey, goodKeys, goodElement, goodElements, itemOf, Room, Stores, plainly, Transcribed};
+ghost use Rattle.path_text.specs.Steps.{nameRun, goodName, goodValue, goodKey, goodKeys, goodElement, goodElements, itemOf, Room, Stores, plainly, Transcribed};
 use crate::Filled;
 
 // Where reading goes on in the text, and storing in the buffer.
@@ -50,6 +50,16 @@ pub fn find(text: &[u8], at: usize, a: u8, b: u8) -> usize
     i
 }
 
+// Most bytes of names are small letters, which one test tells.
+fn is_name(b: u8) -> bool
+    ensures { λ r. ⌜ r ≡ isName b ⌝ }
+{
+    if (97 <= b) & (b <= 122) {
+        return true;
+    }
+    text::byte::is_name(b)
+}
+
 // Where the name from `at` on ends.
 fn name_end(text: &[u8], at: usize) -> usize
     requires { ⌜ at ≤ length (now text) ⌝ }
@@ -57,7 +67,7 @@ fn name_end(text: &[u8], at: usize) -> usize
 {
     let mut i = at;
     while i < text.len() {
-        if !text::byte::is_name(text[i]) {
+        if !is_name(text[i]) {
             return i;
         }
         i += 1;
@@ -164,6 +174,25 @@ pub fn read_value(text: &[u8], at: usize, out: &mut [u8], to: usize) -> Stored
     }
 }
 
+// A good value with its length byte.
+fn read_good_value(text: &[u8], at: usize, out: &mut [u8], to: usize) -> Stored
+    requires { ⌜ Room 65 1 (now text) at (now out) to ⌝ }
+    ensures { λ r. ⌜ Stores 65 1 stringBytes goodValue (now (text .entry)) at (now (out .entry)) to (now (out .exit)) r ⌝ }
+{
+    let v = read_value(text, at, out, to);
+    let Stored::To { next, end } = v else {
+        return Stored::Unread;
+    };
+    let start = to + 1;
+    if path::fault::value_fault(&out[start..end]) != 255 {
+        return Stored::Unread;
+    }
+    Stored::To {
+        next: next,
+        end: end,
+    }
+}
+
 // name=value], after its [.
 fn read_key(text: &[u8], at: usize, out: &mut [u8], to: usize) -> Stored
     requires { ⌜ Room 130 1 (now text) at (now out) to ⌝ }
@@ -176,22 +205,7 @@ fn read_key(text: &[u8], at: usize, out: &mut [u8], to: usize) -> Stored
     if byte_at(text, next) != 61 {
         return Stored::Unread;
     }
-    let v = read_value(text, next + 1, out, end);
-    let Stored::To {
-        next: after,
-        end: last,
-    } = v
-    else {
-        return Stored::Unread;
-    };
-    let start = end + 1;
-    if path::fault::value_fault(&out[start..last]) != 255 {
-        return Stored::Unread;
-    }
-    Stored::To {
-        next: after,
-        end: last,
-    }
+    read_good_value(text, next + 1, out, end)
 }
 
 // The keys of an element, after their count.
@@ -229,8 +243,7 @@ fn read_element(text: &[u8], at: usize, out: &mut [u8], to: usize) -> Stored
     let Stored::To { next, end } = n else {
         return Stored::Unread;
     };
-    let dots = [46u8, 46, 46];
-    if text::string::is_same(&text[at..next], &dots) {
+    if path::fault::is_dots(&text[at..next]) {
         return Stored::Unread;
     }
     read_keys(text, next, out, end)
@@ -327,8 +340,7 @@ fn read_root(out: &mut [u8]) -> Filled
 pub fn read_text(text: &[u8], out: &mut [u8]) -> Filled
     ensures { λ r. ⌜ (r ≡ answer (now (out .entry)) (bytesFor (now (text .entry)))) × (now (out .exit) ≡ lent (now (out .entry)) (bytesFor (now (text .entry)))) ⌝ }
 {
-    let root = [47u8];
-    if text::string::is_same(text, &root) {
+    if path::fault::is_byte(text, 47) {
         return read_root(out);
     }
     if text.len() <= 239 {

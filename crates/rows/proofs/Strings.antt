@@ -2,18 +2,17 @@
 use mathlib.Core.Path.{_≡_, refl, sym, ap, _∙_}
 use mathlib.Core.Bool.{Bool, true, false}
 use mathlib.Core.List.{List, [], _∷_, _++_}
-use Prim.Native.Nat.{ℕ, zero, suc, _+_, _-_, _*_, _%_, _≤_, _<_}
-use native.Mathlib.Nat.{mod-lt}
+use Prim.Native.Nat.{ℕ, zero, suc, _+_, _-_, _≤_, _<_}
 use native.Mathlib.Numerals.{add-one}
 use native.Mathlib.Omega.{arith}
 use lib.Dec.{eqb}
-use lib.ListN.{length, drop, getD, drop-of-length-le}
-use lib.Seq.{drop-cons}
+use lib.ListN.{length, getD}
 use borrow.Author.Tests.{ne-eqb, eq-eqb}
 use Rattle.text.specs.Test.{_and_, _or_, if_then_else_}
 use Rattle.text.specs.String.{Str, same}
 use Rattle.place.specs.Place.{strEnd, strIn}
-use Rattle.rows.specs.Strings.{stringsIn, place, isPair, hasPair, hashFrom}
+use Rattle.rows.specs.Strings.{stringsIn, place, isPair, hasPair, factors, hashFrom}
+use Rattle.rows.proofs.Mixing.{mix-small}
 
 -- where a string lies
 module _ (f : List ℕ) (at : ℕ) (h : strEnd f at ≤ length f) where
@@ -73,16 +72,6 @@ module _ (owner : ℕ) (name : Str) (f starts owners : List ℕ) (i : ℕ) where
 
 -- ---- hash
 
-module _ (s : List ℕ) (i h : ℕ) where
-  pub hash-turn : (w b : ℕ) → i < length s → b ≡ getD s i 0 → w ≡ hashFrom h (drop i s) → w ≡ hashFrom ((h * 33 + b) % 8192) (drop (i + 1) s)
-  unfolding hashFrom
-  hash-turn w b l e g = g ∙ rw (add-one, drop-cons s i 0 l, e)
-
-  pub hash-end : (w : ℕ) → length s ≤ i → w ≡ hashFrom h (drop i s) → h ≡ w
-  unfolding hashFrom
-  hash-end w l g = sym (g ∙ rw (drop-of-length-le s l))
-
 pub hash-small : (s : Str) (h : ℕ) → h < 8192 → hashFrom h s < 8192
 unfolding hashFrom
-hash-small [] h l = l
-hash-small (b ∷ s) h l = hash-small s ((h * 33 + b) % 8192) (mod-lt (h * 33 + b) (omega arith))
+hash-small s h l = omega (arith, mix-small factors h s)

@@ -1,1 +1,2 @@
+pub mod Mix
 pub mod Strings

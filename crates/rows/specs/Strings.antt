@@ -1,5 +1,5 @@
 -- Strings in decoded bytes, by the positions of their length bytes.
-use Prim.Native.Nat.{ℕ, zero, suc, _+_, _*_, _%_, _≤_, _<_}
+use Prim.Native.Nat.{ℕ, zero, suc, _/_, _≤_, _<_}
 use mathlib.Core.Path.{_≡_}
 use mathlib.Core.Bool.{Bool, false}
 use mathlib.Core.List.{List, [], _∷_}
@@ -8,6 +8,8 @@ use lib.ListN.{length, getD}
 use Rattle.text.specs.Test.{_and_, _or_, if_then_else_}
 use Rattle.text.specs.String.{Str, same}
 use Rattle.place.specs.Place.{strEnd, strIn}
+use Rattle.rows.specs.declared.mix.Seed.{Seed}
+use Rattle.rows.specs.Mix.{mix}
 
 -- n strings, from number i on
 unfoldable pub stringsIn : List ℕ → List ℕ → ℕ → ℕ → List Str
@@ -33,6 +35,8 @@ hasPair owner name f starts owners zero i = false
 hasPair owner name f starts owners (suc n) i = isPair owner name f starts owners i or hasPair owner name f starts owners n (suc i)
 
 -- a number that equal strings share
+abbrev pub factors : Seed
+factors = record { first = 1640531527; second = 2146121005 }
+
 unfoldable pub hashFrom : ℕ → Str → ℕ
-hashFrom h [] = h
-hashFrom h (b ∷ s) = hashFrom ((h * 33 + b) % 8192) s
+hashFrom seed s = mix factors seed s / 524288

@@ -1,4 +1,6 @@
 // Strings of decoded rows, found by an array of positions: lookups, and a hash for a filter that saves most of them.
+pub mod mix;
+
 ghost use mathlib.Core.Path.{_≡_};
 ghost use mathlib.Core.Bool.{false};
 ghost use Prim.Native.Nat.{_≤_, _<_};
@@ -7,6 +9,7 @@ ghost use Rattle.text.specs.Test.{twice};
 ghost use Rattle.text.specs.String.{same};
 ghost use Rattle.place.specs.Place.{strEnd, strIn};
 ghost use Rattle.rows.specs.Strings.{stringsIn, Laid, place, isPair, hasPair, hashFrom};
+use mix::Seed;
 
 // The string at `at` is the name.
 pub fn is_at(f: &[u8], at: usize, name: &[u8]) -> bool
@@ -89,12 +92,9 @@ pub fn hash(s: &[u8], seed: usize) -> usize
     requires { ⌜ seed < 8192 ⌝ }
     ensures { λ r. ⌜ r ≡ hashFrom seed (now (s .entry)) ⌝ }
 {
-    let mut h = seed;
-    let mut i = 0;
-    while i < s.len() {
-        let b = s[i] as usize;
-        h = (h * 33 + b) % 8192;
-        i += 1;
-    }
-    h
+    let factors = Seed {
+        first: 1640531527,
+        second: 2146121005,
+    };
+    mix::mix(factors, seed, s) / 524288
 }

@@ -349,12 +349,20 @@ fn lines_of_members(groups: &[String], members: &[(String, String)]) -> Vec<Line
     lines
 }
 
-/// Different names of one length and one hash: it takes 33 times the hash so far and
-/// adds the next byte, so `aA` and `` ` `` with `b` after it are the same to it.
+/// Different names of one length that have one hash, found by trial.
 fn colliding_names(count: usize) -> Vec<String> {
-    let pairs = count.next_power_of_two().trailing_zeros().max(1);
-    let pair = |n: usize, at: u32| if n >> at & 1 == 0 { "aA" } else { "`b" };
-    (0..count).map(|n| (0..pairs).map(|at| pair(n, at)).collect()).collect()
+    let name = |n: usize| (0..4).map(|at| char::from(b'0' + (n >> (6 * at) & 63) as u8)).collect::<String>();
+    let first = proved_hash(&name(0));
+    (0..).map(name).filter(|name| proved_hash(name) == first).take(count).collect()
+}
+
+/// The proved library's hash of a name.
+fn proved_hash(name: &str) -> u64 {
+    let turn = |(x, y), b| {
+        let x = (x + u64::from(b)) * 1_640_531_527 % (1 << 32);
+        (x, (y + x) * 2_146_121_005 % (1 << 32))
+    };
+    name.bytes().fold((0, 0), turn).1 >> 19
 }
 
 /// A rule line with a frame of exactly `size` bytes, which is 24 or more.

@@ -16,32 +16,32 @@ str-end-requires c κs =
     let at-start = c .before in
     at-start .pre .2
 
-sub-hash : tie.Need-sub-hash
-sub-hash c =
+sub-mix : tie.Need-sub-mix
+sub-mix c =
     let at-start = c .before .before in
     omega (arith, str-grows (at-start .args .f .now) (at-start .args .at))
 
-part-hash-start : tie.Need-part-hash-start
-part-hash-start c =
+part-mix-start : tie.Need-part-mix-start
+part-mix-start c =
     let at-start = c .before .before in
     omega (arith, str-grows (at-start .args .f .now) (at-start .args .at))
 
-part-hash-end : tie.Need-part-hash-end
-part-hash-end c = search needs
+part-mix-end : tie.Need-part-mix-end
+part-mix-end c = search needs
 
-hash-requires : tie.Need-hash-requires
-hash-requires c κs =
+mix-requires : tie.Need-mix-requires
+mix-requires c κs =
     let at-start = c .before .before .before in
     (at-start .pre .0, at-start .pre .1)
 
 returns : tie.Need-returns
 unfolding strIn
 returns c =
-    let at-hash = c .hash in
+    let at-mix = c .mix in
     let at-str-end = c .before .before .str-end in
-    rw (sym (at-str-end .ensures)) (at-hash .ensures)
+    rw (sym (at-str-end .ensures)) (at-mix .ensures)
 
 pub hash-at-spec : {M : Type 1} → statement M
 hash-at-spec =
     tie.close
-    (tie.spec add-a str-end-requires sub-hash part-hash-start part-hash-end hash-requires returns)
+    (tie.spec add-a str-end-requires sub-mix part-mix-start part-mix-end mix-requires returns)

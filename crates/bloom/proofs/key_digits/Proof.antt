@@ -5,7 +5,8 @@ use Rattle.text.proofs.Tests.{or-l, or-r}
 use Rattle.place.specs.Place.{strEnd, strIn}
 use Rattle.place.proofs.Cursor.{str-grows}
 use Rattle.compare.proofs.Keys.{wild-in}
-use Rattle.bloom.proofs.Turns.{hash-small, key-is, key-left}
+use Rattle.bloom.proofs.Turns.{key-is, key-left}
+use Rattle.rows.proofs.Mixing.{mix-small}
 use Rattle.bloom.proofs.key_digits.Statement.{statement}
 use Rattle.bloom.proofs.key_digits.Tie as tie
 
@@ -55,14 +56,14 @@ add-hash-at : tie.Need-add-hash-at
 add-hash-at c =
     let at-hash-at = c .hash-at in
     let at-start = c .before .before .before .before .before .before .before .before in
-    rw (at-hash-at .ensures) (omega (arith, hash-small (at-start .args .s) (at-start .args .d) (strIn (at-start .args .f .now) (at-start .args .at))))
+    rw (at-hash-at .ensures) (omega (arith, mix-small (at-start .args .s) (at-start .args .d) (strIn (at-start .args .f .now) (at-start .args .at))))
 
 hash-at-requires-2 : tie.Need-hash-at-requires-2
 hash-at-requires-2 c κs =
     let at-hash-at = c .hash-at in
     let at-str-end = c .before .before .before .before .before .str-end in
     let at-start = c .before .before .before .before .before .before .before .before in
-    (at-start .pre .0, rw (at-hash-at .ensures) (omega (arith, hash-small (at-start .args .s) (at-start .args .d) (strIn (at-start .args .f .now) (at-start .args .at)))), rw (at-str-end .ensures) (at-start .pre .2))
+    (at-start .pre .0, rw (at-hash-at .ensures) (omega (arith, mix-small (at-start .args .s) (at-start .args .d) (strIn (at-start .args .f .now) (at-start .args .at)))), rw (at-str-end .ensures) (at-start .pre .2))
 
 digits-requires : tie.Need-digits-requires
 digits-requires c κs = search needs

@@ -1,74 +1,16 @@
--- `hash` equals its definition. The invariant: the rest goes on from h.
-use borrow.Author.Needs.{needs}
 use native.Mathlib.Omega.{arith}
-use mathlib.Core.Path.{_≡_, refl, sym, ap, _∙_}
-use Prim.Native.Nat.{_-_, _≤_, _<_, _+_, _*_}
-use native.Mathlib.Nat.{mod-lt}
-use lib.ListN.{length, drop}
+use mathlib.Core.Path.{ap}
+use Prim.Native.Nat.{ℕ, _/_}
 use Rattle.rows.specs.Strings.{hashFrom}
-use Rattle.rows.proofs.Strings.{hash-turn, hash-end}
 use Rattle.rows.proofs.hash.Statement.{statement}
 use Rattle.rows.proofs.hash.Tie as tie
 
-abbrev Inv-loop : tie.InvT-loop
-Inv-loop s seed h₀ i₀ h i = (i ≤ length s) × (h < 8192) × (hashFrom seed s ≡ hashFrom h (drop i s))
+mix-requires : tie.Need-mix-requires
+mix-requires c κs = ((omega arith, omega arith), omega arith)
 
-abbrev μ-loop : tie.MeasureT-loop
-μ-loop s seed h₀ i₀ h i = length s - i
-
-loop-holds : tie.Need-loop-holds Inv-loop μ-loop
-loop-holds c =
-    let at-start = c in
-    (search needs, at-start .pre, refl)
-
-shared-slice-read-b : tie.Need-shared-slice-read-b Inv-loop μ-loop
-shared-slice-read-b c = search needs
-
-cast-b : tie.Need-cast-b Inv-loop μ-loop
-cast-b c =
-    let at-shared-slice-known = c .shared-slice-known in
-    let at-loop = c .before .before .loop in
-    omega (arith, at-shared-slice-known .given (at-loop .i))
-
-mul-h : tie.Need-mul-h Inv-loop μ-loop
-mul-h c = omega arith
-
-add-h : tie.Need-add-h Inv-loop μ-loop
-add-h c =
-    let at-shared-slice-known = c .shared-slice-known in
-    let at-loop = c .before .before .loop in
-    omega (arith, at-shared-slice-known .given (at-loop .i))
-
-add-i : tie.Need-add-i Inv-loop μ-loop
-add-i c = search needs
-
-loop-less : tie.Need-loop-less Inv-loop μ-loop
-loop-less c = search needs
-
-loop-again : tie.Need-loop-again Inv-loop μ-loop
-loop-again c =
-    let at-loop-test = c .before .loop-test in
-    let at-loop = c .before .before .loop in
-    (omega arith, mod-lt _ (omega arith), hash-turn _ _ _ _ _ (at-loop-test .taken) refl (at-loop .inv .2))
-
-returns : tie.Need-returns Inv-loop μ-loop
-returns c =
-    let at-loop-test = c .loop-test in
-    let at-loop = c .before .loop in
-    hash-end _ _ _ _ (at-loop-test .left) (at-loop .inv .2)
+returns : tie.Need-returns
+unfolding hashFrom
+returns c = ap (λ (z : ℕ). z / 524288) (c .mix .ensures)
 
 pub hash-spec : {M : Type 1} → statement M
-hash-spec =
-    tie.close
-    (tie.spec
-    Inv-loop
-    μ-loop
-    loop-holds
-    shared-slice-read-b
-    cast-b
-    mul-h
-    add-h
-    add-i
-    loop-less
-    loop-again
-    returns)
+hash-spec = tie.close (tie.spec mix-requires returns)

@@ -2,7 +2,7 @@ use borrow.Author.Needs.{needs}
 use native.Mathlib.Omega.{arith}
 use Prim.Native.Nat.{_+_, _*_, _%_, _≤_, _<_}
 use lib.ListN.{length}
-use Rattle.bloom.proofs.Turns.{product}
+use Rattle.rows.proofs.Mixing.{product}
 use Rattle.bloom.proofs.seed.draw.Statement.{statement}
 use Rattle.bloom.proofs.seed.draw.Tie as tie
 

@@ -29,32 +29,29 @@ returns c =
     let at-read-name = c .before .before .before .before .read-name in
     nothing (element-misnamed _ _ (stored-not (at-read-name .ensures) (at-enum-told .given .1)))
 
-sub-is-same : tie.Need-sub-is-same
-sub-is-same c =
+sub-is-dots : tie.Need-sub-is-dots
+sub-is-dots c =
     let at-n = c .before .n in
     let at-read-name = c .before .before .before .before .before .read-name in
     let u = stored-to (at-read-name .ensures) (at-n .given .1) in
     omega (arith, u .3 .near, string-longer _ _ _ _ _ (u .2))
 
-part-is-same-start : tie.Need-part-is-same-start
-part-is-same-start c =
+part-is-dots-start : tie.Need-part-is-dots-start
+part-is-dots-start c =
     let at-n = c .before .n in
     let at-read-name = c .before .before .before .before .before .read-name in
     let u = stored-to (at-read-name .ensures) (at-n .given .1) in
     omega (arith, u .3 .near, string-longer _ _ _ _ _ (u .2))
 
-part-is-same-end : tie.Need-part-is-same-end
-part-is-same-end c =
+part-is-dots-end : tie.Need-part-is-dots-end
+part-is-dots-end c =
     let at-n = c .before .n in
     let at-read-name = c .before .before .before .before .before .read-name in
     let u = stored-to (at-read-name .ensures) (at-n .given .1) in
     u .3 .inside
 
-slice-aggregate-is-same : tie.Need-slice-aggregate-is-same
-slice-aggregate-is-same c = search needs
-
-is-same-requires : tie.Need-is-same-requires
-is-same-requires c κs = search needs
+is-dots-requires : tie.Need-is-dots-requires
+is-dots-requires c κs = search needs
 
 same-length-2 : tie.Need-same-length-2
 same-length-2 c = search needs
@@ -62,18 +59,18 @@ same-length-2 c = search needs
 returns-2 : tie.Need-returns-2
 returns-2 c =
     let at-if1 = c .if1 in
-    let at-is-same = c .before .is-same in
-    let at-n = c .before .before .before .before .before .n in
-    let at-read-name = c .before .before .before .before .before .before .before .before .before .read-name in
+    let at-is-dots = c .before .is-dots in
+    let at-n = c .before .before .before .before .n in
+    let at-read-name = c .before .before .before .before .before .before .before .before .read-name in
     let u = stored-to (at-read-name .ensures) (at-n .given .1) in
     let g = pass-got (good nameGrade) _ (u .1) in
-    nothing (element-dots _ _ _ _ _ (g .0) (at-is-same .ensures) (at-if1 .taken))
+    nothing (element-dots _ _ _ _ _ (g .0) (at-is-dots .ensures) (at-if1 .taken))
 
 read-keys-requires : tie.Need-read-keys-requires
 read-keys-requires c κs =
-    let at-n = c .before .before .before .before .before .before .n in
-    let at-read-name = c .before .before .before .before .before .before .before .before .before .before .read-name in
-    let at-start = c .before .before .before .before .before .before .before .before .before .before .before .before .before .before in
+    let at-n = c .before .before .before .before .before .n in
+    let at-read-name = c .before .before .before .before .before .before .before .before .before .read-name in
+    let at-start = c .before .before .before .before .before .before .before .before .before .before .before .before .before in
     let u = stored-to (at-read-name .ensures) (at-n .given .1) in
     room-then _ _ _ _ _ _ (at-start .pre) 65 1 _ _ (u .3) (omega (arith, u .2 .ends)) 521 1 _ _ _ (u .2) (omega arith) (omega arith) (omega arith) (omega arith) (u .3 .inside)
 
@@ -84,13 +81,13 @@ returns-3 : tie.Need-returns-3
 returns-3 c =
     let at-read-keys = c .before .before .read-keys in
     let at-if1 = c .before .before .before .before .if1 in
-    let at-is-same = c .before .before .before .before .before .is-same in
-    let at-n = c .before .before .before .before .before .before .before .before .before .n in
-    let at-read-name = c .before .before .before .before .before .before .before .before .before .before .before .before .before .read-name in
-    let at-start = c .before .before .before .before .before .before .before .before .before .before .before .before .before .before .before .before .before in
+    let at-is-dots = c .before .before .before .before .before .is-dots in
+    let at-n = c .before .before .before .before .before .before .before .before .n in
+    let at-read-name = c .before .before .before .before .before .before .before .before .before .before .before .before .read-name in
+    let at-start = c .before .before .before .before .before .before .before .before .before .before .before .before .before .before .before .before in
     let u = stored-to (at-read-name .ensures) (at-n .given .1) in
     let g = pass-got (good nameGrade) _ (u .1) in
-    element-stores _ _ _ _ (g .0) (g .1) _ (at-is-same .ensures) (at-if1 .left) _ _ _ _ _ _ (u .2) (u .3) (room-end _ _ _ _ _ _ (at-start .pre) 65 1 _ _ (u .3) (omega (arith, u .2 .ends)) (omega arith) (omega arith)) (at-read-keys .ensures)
+    element-stores _ _ _ _ (g .0) (g .1) _ (at-is-dots .ensures) (at-if1 .left) _ _ _ _ _ _ (u .2) (u .3) (room-end _ _ _ _ _ _ (at-start .pre) 65 1 _ _ (u .3) (omega (arith, u .2 .ends)) (omega arith) (omega arith)) (at-read-keys .ensures)
 
 pub read-element-spec : {M : Type 1} → statement M
 read-element-spec =
@@ -101,11 +98,10 @@ read-element-spec =
     enum-told
     same-length
     returns
-    sub-is-same
-    part-is-same-start
-    part-is-same-end
-    slice-aggregate-is-same
-    is-same-requires
+    sub-is-dots
+    part-is-dots-start
+    part-is-dots-end
+    is-dots-requires
     same-length-2
     returns-2
     read-keys-requires

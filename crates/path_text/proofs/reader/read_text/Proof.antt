@@ -5,11 +5,8 @@ use Rattle.path_text.proofs.Answers.{root-bytes}
 use Rattle.path_text.proofs.reader.read_text.Statement.{statement}
 use Rattle.path_text.proofs.reader.read_text.Tie as tie
 
-slice-aggregate-is-same : tie.Need-slice-aggregate-is-same
-slice-aggregate-is-same c = search needs
-
-is-same-requires : tie.Need-is-same-requires
-is-same-requires c κs = search needs
+is-byte-requires : tie.Need-is-byte-requires
+is-byte-requires c κs = search needs
 
 read-root-requires : tie.Need-read-root-requires
 read-root-requires c κs = search needs
@@ -21,15 +18,15 @@ returns : tie.Need-returns
 returns c =
     let at-read-root = c .before .before .read-root in
     let at-if1 = c .before .before .before .before .if1 in
-    let at-is-same = c .before .before .before .before .before .is-same in
-    let e = root-bytes _ _ (at-is-same .ensures) (at-if1 .taken) in rw e (at-read-root .ensures)
+    let at-is-byte = c .before .before .before .before .before .is-byte in
+    let e = root-bytes _ _ (at-is-byte .ensures) (at-if1 .taken) in rw e (at-read-root .ensures)
 
 read-short-requires : tie.Need-read-short-requires
 read-short-requires c κs =
     let at-if2 = c .before .if2 in
     let at-if1 = c .before .before .if1 in
-    let at-is-same = c .before .before .before .is-same in
-    (at-if2 .taken, sym (at-is-same .ensures) ∙ at-if1 .left)
+    let at-is-byte = c .before .before .before .is-byte in
+    (at-if2 .taken, sym (at-is-byte .ensures) ∙ at-if1 .left)
 
 same-length-2 : tie.Need-same-length-2
 same-length-2 c = search needs
@@ -40,8 +37,8 @@ returns-2 c = search needs
 read-long-requires : tie.Need-read-long-requires
 read-long-requires c κs =
     let at-if1 = c .before .before .if1 in
-    let at-is-same = c .before .before .before .is-same in
-    sym (at-is-same .ensures) ∙ at-if1 .left
+    let at-is-byte = c .before .before .before .is-byte in
+    sym (at-is-byte .ensures) ∙ at-if1 .left
 
 same-length-3 : tie.Need-same-length-3
 same-length-3 c = search needs
@@ -53,8 +50,7 @@ pub read-text-spec : {M : Type 1} → statement M
 read-text-spec =
     tie.close
     (tie.spec
-    slice-aggregate-is-same
-    is-same-requires
+    is-byte-requires
     read-root-requires
     same-length
     returns

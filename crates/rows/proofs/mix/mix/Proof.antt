@@ -3,19 +3,19 @@ use native.Mathlib.Omega.{arith}
 use mathlib.Core.Path.{_≡_, refl}
 use Prim.Native.Nat.{_+_, _-_, _*_, _%_, _≤_, _<_}
 use lib.ListN.{length, drop, getD}
-use Rattle.bloom.specs.Bloom.{hashFrom, hash}
-use Rattle.bloom.proofs.Turns.{product, hash-turn, hash-end}
-use Rattle.bloom.proofs.hash.Statement.{statement}
-use Rattle.bloom.proofs.hash.Tie as tie
+use Rattle.rows.specs.Mix.{mixFrom, mix}
+use Rattle.rows.proofs.Mixing.{product, mix-turn, mix-end}
+use Rattle.rows.proofs.mix.mix.Statement.{statement}
+use Rattle.rows.proofs.mix.mix.Tie as tie
 
 abbrev Inv-loop : tie.InvT-loop
-Inv-loop s h t x₀ y₀ i₀ x y i = (i ≤ length t) × (x < 4294967552) × (y < 4294967296) × (hash s h t ≡ hashFrom s x y (drop i t))
+Inv-loop s h t x₀ y₀ i₀ x y i = (i ≤ length t) × (x < 4294967552) × (y < 4294967296) × (mix s h t ≡ mixFrom s x y (drop i t))
 
 abbrev μ-loop : tie.MeasureT-loop
 μ-loop s h t x₀ y₀ i₀ x y i = length t - i
 
 loop-holds : tie.Need-loop-holds Inv-loop μ-loop
-unfolding hash
+unfolding mix
 loop-holds c =
     let at-start = c in
     (search needs, at-start .pre .1, omega arith, refl)
@@ -61,16 +61,16 @@ loop-again : tie.Need-loop-again Inv-loop μ-loop
 loop-again c =
     let at-loop-test = c .before .before .before .loop-test in
     let at-loop = c .before .before .before .before .loop in
-    (omega arith, omega arith, omega arith, hash-turn _ _ _ _ _ _ _ (at-loop-test .taken) refl (at-loop .inv .3))
+    (omega arith, omega arith, omega arith, mix-turn _ _ _ _ _ _ _ (at-loop-test .taken) refl (at-loop .inv .3))
 
 returns : tie.Need-returns Inv-loop μ-loop
 returns c =
     let at-loop-test = c .loop-test in
     let at-loop = c .before .loop in
-    hash-end _ _ _ _ _ _ (at-loop-test .left) (at-loop .inv .3)
+    mix-end _ _ _ _ _ _ (at-loop-test .left) (at-loop .inv .3)
 
-pub hash-spec : {M : Type 1} → statement M
-hash-spec =
+pub mix-spec : {M : Type 1} → statement M
+mix-spec =
     tie.close
     (tie.spec
     Inv-loop

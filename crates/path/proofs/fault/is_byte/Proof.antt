@@ -1,0 +1,19 @@
+-- `is_byte` equals its definition: the length decides, and then the byte.
+use borrow.Author.Needs.{needs}
+use Rattle.path.proofs.Classes.{byte-not, byte-is}
+use Rattle.path.proofs.fault.is_byte.Statement.{statement}
+use Rattle.path.proofs.fault.is_byte.Tie as tie
+
+returns : tie.Need-returns
+returns c = byte-not _ _ (c .if1 .taken)
+
+shared-slice-read-result : tie.Need-shared-slice-read-result
+shared-slice-read-result c = search needs
+
+returns-2 : tie.Need-returns-2
+returns-2 c =
+    let at-if1 = c .before .if1 in
+    byte-is _ _ (at-if1 .left)
+
+pub is-byte-spec : {M : Type 1} → statement M
+is-byte-spec = tie.close (tie.spec returns shared-slice-read-result returns-2)
