@@ -6,6 +6,18 @@ ghost use Rattle.probe.specs.Rpc.{probeRpc, rpcProbeWord};
 ghost use Rattle.burgee.specs.Record.{recordOf};
 use rotation::Record;
 
+fn record_of(kind: u32, live_slot: u32, live_len: u32, rotating: u32, candidate_len: u32) -> Record
+    ensures { λ r. ⌜ r ≡ recordOf kind «live_slot» «live_len» rotating «candidate_len» ⌝ }
+{
+    Record {
+        kind: kind,
+        live_slot: live_slot,
+        live_len: live_len,
+        rotating: rotating,
+        candidate_len: candidate_len,
+    }
+}
+
 // The action for one path, and the deciding rule.
 #[no_mangle]
 pub extern "C" fn burgee_probe_path(
@@ -22,13 +34,7 @@ pub extern "C" fn burgee_probe_path(
 ) -> u64
     ensures { λ r. ⌜ r ≡ pathWord (probePath (recordOf kind «live_slot» «live_len» rotating «candidate_len») (now (store .entry)) (now (user .entry)) mode (now (origin .entry)) (now (path .entry))) ⌝ }
 {
-    let r = Record {
-        kind: kind,
-        live_slot: live_slot,
-        live_len: live_len,
-        rotating: rotating,
-        candidate_len: candidate_len,
-    };
+    let r = record_of(kind, live_slot, live_len, rotating, candidate_len);
     verdict_text::word::of_path(probe::probe_path(r, store, user, mode, origin, path))
 }
 
@@ -48,13 +54,7 @@ pub extern "C" fn burgee_probe_tree(
 ) -> u64
     ensures { λ r. ⌜ r ≡ treeWord (probeTree (recordOf kind «live_slot» «live_len» rotating «candidate_len») (now (store .entry)) (now (user .entry)) mode (now (origin .entry)) (now (path .entry))) ⌝ }
 {
-    let r = Record {
-        kind: kind,
-        live_slot: live_slot,
-        live_len: live_len,
-        rotating: rotating,
-        candidate_len: candidate_len,
-    };
+    let r = record_of(kind, live_slot, live_len, rotating, candidate_len);
     verdict_text::word::of_tree(probe::probe_tree(r, store, user, mode, origin, path))
 }
 
@@ -73,12 +73,6 @@ pub extern "C" fn burgee_probe_rpc(
 ) -> u64
     ensures { λ r. ⌜ r ≡ rpcProbeWord (probeRpc (recordOf kind «live_slot» «live_len» rotating «candidate_len») (now (store .entry)) (now (identity .entry)) (now (path .entry)) (now (headers .entry))) ⌝ }
 {
-    let r = Record {
-        kind: kind,
-        live_slot: live_slot,
-        live_len: live_len,
-        rotating: rotating,
-        candidate_len: candidate_len,
-    };
+    let r = record_of(kind, live_slot, live_len, rotating, candidate_len);
     probe::rpcs::of_rpc(probe::rpcs::probe_rpc(r, store, identity, path, headers))
 }

@@ -5,6 +5,9 @@ use Rattle.probe.specs.Rpc.{rpcProbeWord}
 use Rattle.burgee.proofs.probes.burgee_probe_rpc.Statement.{statement}
 use Rattle.burgee.proofs.probes.burgee_probe_rpc.Tie as tie
 
+record-of-requires : tie.Need-record-of-requires
+record-of-requires c κs = search needs
+
 probe-rpc-requires : tie.Need-probe-rpc-requires
 probe-rpc-requires c κs = search needs
 
@@ -15,7 +18,9 @@ returns : tie.Need-returns
 returns c =
     let at-of-rpc = c .of-rpc in
     let at-probe-rpc = c .before .probe-rpc in
-    at-of-rpc .ensures ∙ ap rpcProbeWord (at-probe-rpc .ensures)
+    let at-record-of = c .before .before .record-of in
+    let told = rw (at-record-of .ensures) at (at-probe-rpc .ensures) in
+    at-of-rpc .ensures ∙ ap rpcProbeWord told
 
 pub burgee-probe-rpc-spec : {M : Type 1} → statement M
-burgee-probe-rpc-spec = tie.close (tie.spec probe-rpc-requires of-rpc-requires returns)
+burgee-probe-rpc-spec = tie.close (tie.spec record-of-requires probe-rpc-requires of-rpc-requires returns)

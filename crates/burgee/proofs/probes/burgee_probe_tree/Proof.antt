@@ -5,6 +5,9 @@ use Rattle.verdict_text.specs.Calls.{treeWord}
 use Rattle.burgee.proofs.probes.burgee_probe_tree.Statement.{statement}
 use Rattle.burgee.proofs.probes.burgee_probe_tree.Tie as tie
 
+record-of-requires : tie.Need-record-of-requires
+record-of-requires c κs = search needs
+
 probe-tree-requires : tie.Need-probe-tree-requires
 probe-tree-requires c κs = search needs
 
@@ -15,7 +18,9 @@ returns : tie.Need-returns
 returns c =
     let at-of-tree = c .of-tree in
     let at-probe-tree = c .before .probe-tree in
-    at-of-tree .ensures ∙ ap treeWord (at-probe-tree .ensures)
+    let at-record-of = c .before .before .record-of in
+    let told = rw (at-record-of .ensures) at (at-probe-tree .ensures) in
+    at-of-tree .ensures ∙ ap treeWord told
 
 pub burgee-probe-tree-spec : {M : Type 1} → statement M
-burgee-probe-tree-spec = tie.close (tie.spec probe-tree-requires of-tree-requires returns)
+burgee-probe-tree-spec = tie.close (tie.spec record-of-requires probe-tree-requires of-tree-requires returns)
