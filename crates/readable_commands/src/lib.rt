@@ -24,7 +24,8 @@ fn answer(c: Converted, text: &[u8], made: &[u8]) {
 }
 
 pub fn show_table(text: &[u8]) {
-    let mut out = [0u8; 131072];
+    // enough for any table (crates/readable_laws)
+    let mut out = [0u8; 43532];
     let c = readable::show(text, &mut out);
     answer(c, text, &out);
 }
