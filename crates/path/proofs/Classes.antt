@@ -4,7 +4,7 @@ use mathlib.Core.Bool.{Bool, true, false, not, _&&_, _||_}
 use Prim.Native.Nat.{ℕ}
 use mathlib.Core.List.{[], _∷_}
 use native.Mathlib.Omega.{arith}
-use lib.Dec.{eqb, ltb}
+use lib.Dec.{eqb, ltb, leb}
 use lib.ListN.{length, getD}
 use Rattle.text.specs.Test.{_or_, _and_, if_then_else_, any}
 use Rattle.text.specs.Byte.{isName, isPrint, isStar}
@@ -80,3 +80,8 @@ dots-are (x ∷ []) h = absurd (omega arith)
 dots-are (x ∷ y ∷ []) h = absurd (omega arith)
 dots-are (x ∷ y ∷ z ∷ []) h = three (eqb x 46) (eqb y 46) (eqb z 46)
 dots-are (x ∷ y ∷ z ∷ w ∷ s) h = absurd (omega arith)
+
+-- ---- is_name
+
+pub small-letter : (b : ℕ) → (leb 97 b && leb b 122) ≡ true → true ≡ isName b
+small-letter b e = rw e (by (leb 65 b && leb b 90) (λ u. rw u) (λ u. rw u))

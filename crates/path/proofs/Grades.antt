@@ -12,7 +12,7 @@ use Rattle.text.specs.Test.{_and_, _or_, if_then_else_, all, any, twice}
 use Rattle.text.specs.Byte.{isName, isStar}
 use Rattle.text.specs.String.{Str, bytes, same}
 use Rattle.text.specs.Refusal.{_when_else_, clear}
-use Rattle.text.proofs.Tests.{by, or-assoc, or-none}
+use Rattle.text.proofs.Tests.{by, or-assoc, or-none, and-l, and-r, or-false-l, or-false-r}
 use Rattle.path.specs.Path.{Key, Elem, Path}
 use Rattle.path.specs.Faults.{unsized, keyOver, elemOver, overLimit, outsideName, outsideValue, keyStray, elemStray, strayByte, starred, halfWild, keyMisplaced, elemMisplaced, misplaced, sameName, keyTwice, grade, pathRefusal, goodPath}
 use Rattle.path.specs.Walk.{nameGrade, elemNameGrade, valueGrade, keyGrade, keysGrade, elemGrade, elemsGrade, aloneGrade, good}
@@ -227,6 +227,17 @@ any-either : (f g h : ℕ → Bool) → ((b : ℕ) → (f b or g b) ≡ h b) →
 unfolding any
 any-either f g h e [] = or-none false
 any-either f g h e (b ∷ s) = or-swap (f b) (any f s) (g b) (any g s) ∙ rw (e b, any-either f g h e s)
+
+plain-strange : (s : Str) → all isName s ≡ true → any strange s ≡ false
+unfolding all any _or_
+plain-strange [] e = refl
+plain-strange (b ∷ s) e = rw (and-l (isName b) _ e) (plain-strange s (and-r (isName b) _ e))
+
+-- what a scan of such bytes sees
+pub plain-seen : (s : Str) → all isName s ≡ true → (false ≡ any outsideName s) × (false ≡ any isStar s)
+plain-seen s e =
+    let h : (any outsideName s or any isStar s) ≡ false = any-either outsideName isStar strange strange-byte s ∙ plain-strange s e in
+    (sym (or-false-l _ _ h), sym (or-false-r (any outsideName s) _ h))
 
 -- a good name
 pub name-good : (s : Str) → good nameGrade s ≡ not (unsized s or any strange s)

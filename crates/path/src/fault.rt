@@ -3,8 +3,8 @@ ghost use mathlib.Core.Path.{_≡_};
 ghost use mathlib.Core.Bool.{true};
 ghost use mathlib.Core.List.{[], _∷_};
 ghost use Prim.Native.Nat.{min};
-ghost use Rattle.text.specs.Byte.{isStar};
-ghost use Rattle.text.specs.Test.{any, if_then_else_};
+ghost use Rattle.text.specs.Byte.{isName, isStar};
+ghost use Rattle.text.specs.Test.{all, any, if_then_else_};
 ghost use Rattle.text.specs.String.{bytes, same};
 ghost use Rattle.path.specs.Faults.{outsideName, outsideValue};
 ghost use Rattle.path.specs.Walk.{nameGrade, elemNameGrade, valueGrade};
@@ -67,6 +67,30 @@ fn is_unsized(n: usize) -> bool
     (n == 0) | (64 < n)
 }
 
+// Most bytes of names are small letters, which one test tells.
+pub fn is_name(b: u8) -> bool
+    ensures { λ r. ⌜ r ≡ isName b ⌝ }
+{
+    if (97 <= b) & (b <= 122) {
+        return true;
+    }
+    text::byte::is_name(b)
+}
+
+// No byte is outside a name's set, and none is a *. Most names are such, and need no scan.
+fn is_plain(s: &[u8]) -> bool
+    ensures { λ r. ⌜ r ≡ all isName (now (s .entry)) ⌝ }
+{
+    let mut i = 0;
+    while i < s.len() {
+        if !is_name(s[i]) {
+            return false;
+        }
+        i += 1;
+    }
+    true
+}
+
 // The byte b, and nothing more.
 pub fn is_byte(s: &[u8], b: u8) -> bool
     ensures { λ r. ⌜ r ≡ same (now (s .entry)) (b ∷ []) ⌝ }
@@ -90,6 +114,9 @@ pub fn is_dots(s: &[u8]) -> bool
 pub fn name_fault(s: &[u8]) -> u8
     ensures { λ r. ⌜ r ≡ nameGrade (now (s .entry)) ⌝ }
 {
+    if is_plain(s) {
+        return grade(is_unsized(s.len()), false, false, false);
+    }
     let seen = scan(s, true);
     grade(is_unsized(s.len()), seen.stray, seen.star, false)
 }
@@ -97,8 +124,11 @@ pub fn name_fault(s: &[u8]) -> u8
 pub fn elem_name_fault(s: &[u8]) -> u8
     ensures { λ r. ⌜ r ≡ elemNameGrade (now (s .entry)) ⌝ }
 {
-    let seen = scan(s, true);
     let dots = is_dots(s);
+    if is_plain(s) {
+        return grade(is_unsized(s.len()), false, dots, false);
+    }
+    let seen = scan(s, true);
     grade(is_unsized(s.len()), seen.stray, seen.star | dots, false)
 }
 

@@ -7,7 +7,7 @@ use Prim.Native.Nat.{ℕ, zero, suc, _+_, _-_, _≤_, _<_}
 use native.Mathlib.Numerals.{add-one}
 use native.Mathlib.Omega.{arith}
 use borrow.Author.Tests.{eqb-true, ltb-true, ltb-false, lt-ltb, le-ltb, eq-eqb, ne-eqb}
-use lib.Dec.{eqb, leb, ltb}
+use lib.Dec.{eqb, ltb}
 use lib.ListN.{length, take, drop, getD, length-drop, drop-of-length-le}
 use lib.Seq.{drop-cons, getD-drop}
 use Rattle.text.specs.Test.{_and_, _or_, if_then_else_, all, any, twice}
@@ -124,10 +124,7 @@ each-few b (suc n) r s at xs t e =
     got-move (λ ys q. length ys ≤ suc n) (g .3) (omega (arith, each-few b n r s (f .1) (g .0) (g .1) (g .2))))
     (λ h. got-move (λ ys q. length ys ≤ suc n) (sym (each-end b (suc n) r s at h) ∙ e) (omega arith))
 
--- ---- is_name, name_end
-
-pub small-letter : (b : ℕ) → (leb 97 b && leb b 122) ≡ true → true ≡ isName b
-small-letter b e = rw e (by (leb 65 b && leb b 90) (λ u. rw u) (λ u. rw u))
+-- ---- name_end
 
 module _ (s : Str) (i : ℕ) where
   pub run-stops : i < length s → isName (getD s i 0) ≡ false → nameRun (drop i s) ≡ 0

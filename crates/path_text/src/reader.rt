@@ -50,16 +50,6 @@ pub fn find(text: &[u8], at: usize, a: u8, b: u8) -> usize
     i
 }
 
-// Most bytes of names are small letters, which one test tells.
-fn is_name(b: u8) -> bool
-    ensures { λ r. ⌜ r ≡ isName b ⌝ }
-{
-    if (97 <= b) & (b <= 122) {
-        return true;
-    }
-    text::byte::is_name(b)
-}
-
 // Where the name from `at` on ends.
 fn name_end(text: &[u8], at: usize) -> usize
     requires { ⌜ at ≤ length (now text) ⌝ }
@@ -67,7 +57,7 @@ fn name_end(text: &[u8], at: usize) -> usize
 {
     let mut i = at;
     while i < text.len() {
-        if !is_name(text[i]) {
+        if !path::fault::is_name(text[i]) {
             return i;
         }
         i += 1;
