@@ -4,39 +4,24 @@ use table_commands::explanation;
 use table_commands::paths;
 use table_commands::tables;
 
-// burgee table FILE
-fn table() {
-    let mut text = io::large_buffer();
-    let got = input::file(2, &mut text);
-    let n = got.count;
-    if got.is_good {
-        tables::check(&text[..n]);
+// Commands are numbered as in `main`.
+fn on_text(command: usize, text: &[u8]) {
+    match command {
+        1 => tables::check(text),
+        2 => readable_commands::show_table(text),
+        3 => readable_commands::pack_table(text),
+        _ => policy_commands::check(text),
     }
 }
 
-// burgee show|pack FILE
-fn convert(is_pack: bool) {
-    // A readable text has at most 131,072 bytes.
+// burgee table|show|pack|policy FILE
+fn read_text(command: usize) {
+    // A readable text has at most 131,072 bytes, every other text less.
     let mut text = [0u8; 131073];
     let got = input::file(2, &mut text);
     let n = got.count;
-    if !got.is_good {
-        return;
-    }
-    if is_pack {
-        readable_commands::pack_table(&text[..n]);
-    } else {
-        readable_commands::show_table(&text[..n]);
-    }
-}
-
-// burgee policy FILE
-fn policy() {
-    let mut text = io::large_buffer();
-    let got = input::file(2, &mut text);
-    let n = got.count;
     if got.is_good {
-        policy_commands::check(&text[..n]);
+        on_text(command, &text[..n]);
     }
 }
 
@@ -69,7 +54,6 @@ fn groups() {
     }
 }
 
-// Commands are numbered as in `main`.
 fn judge(command: usize, text: &mut [u8], user: &[u8], mode: u32, origin: &[u8], path: &[u8]) {
     match command {
         7 => tables::verdict(text, user, mode, origin, path),
@@ -155,10 +139,7 @@ fn takes(command: usize, words: usize) -> bool {
 
 fn run(command: usize, words: usize) {
     match command {
-        1 => table(),
-        2 => convert(false),
-        3 => convert(true),
-        4 => policy(),
+        1 | 2 | 3 | 4 => read_text(command),
         5 => groups(),
         6 => path(),
         7 | 8 | 9 => verdict(command),

@@ -19,7 +19,7 @@ pub fn all() {
         burgee help [COMMAND]\n\
         \n\
         A FILE named - is standard input. Each line of an answer is one fact.\n\
-        The exit status is 0 for an answer, 1 for a refusal, 2 for a call that is not understood.\n",
+        The exit status is 0 for an answer, 1 for a refusal, 2 for a call that is not understood or a file that cannot be read.\n",
     );
 }
 
