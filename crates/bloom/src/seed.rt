@@ -45,8 +45,8 @@ fn absorb(s: Seed, f: &[u8]) -> Seed
     }
 }
 
-// The factors of a table are drawn from its own bytes, so that its author cannot choose names by their hashes; twice, so that no bytes can
-// be chosen to get certain factors. Nothing depends on what they are.
+// The factors of a table are drawn from its own bytes, in two passes, so that its author cannot simply choose names by their hashes, nor
+// bytes that give certain factors. Nothing depends on what they are.
 pub fn draw(f: &[u8]) -> Seed
     ensures { λ s. ⌜ Small s ⌝ }
 {
