@@ -15,28 +15,45 @@ fn word(f: &[u8], i: usize) -> usize
         + f[i + 3] as usize * 16777216
 }
 
-fn odd(x: usize) -> usize
+// A factor from the middle of a product.
+fn factor(x: usize) -> usize
     ensures { λ r. ⌜ r < 2147483648 ⌝ }
 {
-    x % 1073741824 * 2 + 1
+    x / 65536 % 1073741824 * 2 + 1
 }
 
-// The seed of a table is drawn from its own bytes, so that its author cannot choose names by their hashes. Nothing depends on what it is.
-pub fn draw(f: &[u8]) -> Seed
-    ensures { λ s. ⌜ Small s ⌝ }
+// The factors after eight bytes at a time, the last few left out.
+fn absorb(s: Seed, f: &[u8]) -> Seed
+    requires { ⌜ Small s ⌝ }
+    ensures { λ r. ⌜ Small r ⌝ }
 {
-    let mut x = 2654435761;
-    let mut y = 2246822519;
+    let mut x = s.first;
+    let mut y = s.second;
     let mut i = 0;
     let mut left = f.len() / 8;
     while 0 < left {
-        x = (x + word(f, i)) * odd(y) % 4294967296;
-        y = (y + word(f, i + 4)) * odd(x) % 4294967296;
+        let u = factor((x + word(f, i)) * y);
+        let v = factor((y + word(f, i + 4)) * x);
+        x = u;
+        y = v;
         i += 8;
         left -= 1;
     }
     Seed {
-        first: odd(x),
-        second: odd(y),
+        first: x,
+        second: y,
     }
+}
+
+// The factors of a table are drawn from its own bytes, in two passes, so that its author cannot simply choose names by their hashes, nor
+// bytes that give certain factors. Nothing depends on what they are.
+pub fn draw(f: &[u8]) -> Seed
+    ensures { λ s. ⌜ Small s ⌝ }
+{
+    let start = Seed {
+        first: 1640531527,
+        second: 2146121005,
+    };
+    let once = absorb(start, f);
+    absorb(once, f)
 }

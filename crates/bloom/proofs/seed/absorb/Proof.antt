@@ -1,0 +1,95 @@
+use borrow.Author.Needs.{needs}
+use native.Mathlib.Omega.{arith}
+use Prim.Native.Nat.{_+_, _*_, _≤_, _<_}
+use lib.ListN.{length}
+use Rattle.rows.proofs.Mixing.{product}
+use Rattle.bloom.proofs.seed.absorb.Statement.{statement}
+use Rattle.bloom.proofs.seed.absorb.Tie as tie
+
+abbrev Inv-loop : tie.InvT-loop
+Inv-loop f x₀ y₀ i₀ left₀ x y i left = (i + 8 * left ≤ length f) × (x < 2147483648) × (y < 2147483648)
+
+abbrev μ-loop : tie.MeasureT-loop
+μ-loop f x₀ y₀ i₀ left₀ x y i left = left
+
+loop-holds : tie.Need-loop-holds Inv-loop μ-loop
+loop-holds c = (omega arith, omega arith, omega arith)
+
+word-requires : tie.Need-word-requires Inv-loop μ-loop
+word-requires c κs = omega arith
+
+add-factor : tie.Need-add-factor Inv-loop μ-loop
+add-factor c =
+    let at-word = c .word in
+    omega (arith, at-word .ensures)
+
+mul-factor : tie.Need-mul-factor Inv-loop μ-loop
+mul-factor c =
+    let at-word = c .word in
+    let at-loop = c .before .before .loop in
+    omega (arith, product (at-loop .x + at-word .result) (at-loop .y) (omega (arith, at-word .ensures)) (at-loop .inv .2))
+
+factor-requires : tie.Need-factor-requires Inv-loop μ-loop
+factor-requires c κs = search needs
+
+add-word : tie.Need-add-word Inv-loop μ-loop
+add-word c = omega arith
+
+word-requires-2 : tie.Need-word-requires-2 Inv-loop μ-loop
+word-requires-2 c κs = omega arith
+
+add-factor-2 : tie.Need-add-factor-2 Inv-loop μ-loop
+add-factor-2 c =
+    let at-word2 = c .word2 in
+    omega (arith, at-word2 .ensures)
+
+mul-factor-2 : tie.Need-mul-factor-2 Inv-loop μ-loop
+mul-factor-2 c =
+    let at-word2 = c .word2 in
+    let at-loop = c .before .before .before .before .loop in
+    omega (arith, product (at-loop .y + at-word2 .result) (at-loop .x) (omega (arith, at-word2 .ensures)) (at-loop .inv .1))
+
+factor-requires-2 : tie.Need-factor-requires-2 Inv-loop μ-loop
+factor-requires-2 c κs = search needs
+
+add-i : tie.Need-add-i Inv-loop μ-loop
+add-i c = omega arith
+
+sub-left : tie.Need-sub-left Inv-loop μ-loop
+sub-left c = omega arith
+
+loop-less : tie.Need-loop-less Inv-loop μ-loop
+loop-less c = omega arith
+
+loop-again : tie.Need-loop-again Inv-loop μ-loop
+loop-again c =
+    let at-factor2 = c .factor2 in
+    let at-factor = c .before .before .factor in
+    (omega arith, at-factor .ensures, at-factor2 .ensures)
+
+returns : tie.Need-returns Inv-loop μ-loop
+returns c =
+    let at-loop = c .before .loop in
+    (at-loop .inv .1, at-loop .inv .2)
+
+pub absorb-spec : {M : Type 1} → statement M
+absorb-spec =
+    tie.close
+    (tie.spec
+    Inv-loop
+    μ-loop
+    loop-holds
+    word-requires
+    add-factor
+    mul-factor
+    factor-requires
+    add-word
+    word-requires-2
+    add-factor-2
+    mul-factor-2
+    factor-requires-2
+    add-i
+    sub-left
+    loop-less
+    loop-again
+    returns)
