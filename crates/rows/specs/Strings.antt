@@ -36,7 +36,7 @@ hasPair owner name f starts owners (suc n) i = isPair owner name f starts owners
 
 -- a number that equal strings share
 abbrev pub factors : Seed
-factors = record { first = 1640531527; second = 2146121005 }
+factors = record { first = 1201626857; second = 1150305587 }
 
 unfoldable pub hashFrom : ℕ → Str → ℕ
 hashFrom seed s = mix factors seed s / 524288

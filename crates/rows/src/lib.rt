@@ -93,8 +93,8 @@ pub fn hash(s: &[u8], seed: usize) -> usize
     ensures { λ r. ⌜ r ≡ hashFrom seed (now (s .entry)) ⌝ }
 {
     let factors = Seed {
-        first: 1640531527,
-        second: 2146121005,
+        first: 1201626857,
+        second: 1150305587,
     };
     mix::mix(factors, seed, s) / 524288
 }

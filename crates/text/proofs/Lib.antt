@@ -1,7 +1,6 @@
 pub mod Tests
 pub mod Bytes
 pub mod Scans
-pub mod Blocks
 pub mod Frames
 pub mod Filling
 pub mod Codec

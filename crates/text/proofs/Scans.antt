@@ -1,17 +1,17 @@
 -- One turn of each scan of a string, and each way out of it.
 use mathlib.Core.Path.{_≡_, refl, sym, ap, _∙_}
-use mathlib.Core.Bool.{Bool, true, false, _&&_, _||_}
+use mathlib.Core.Bool.{Bool, true, false, _||_}
 use mathlib.Core.List.{List, [], _∷_}
 use Prim.Native.Nat.{ℕ, zero, suc, _+_, _≤_, _<_}
 use native.Mathlib.Numerals.{add-one}
 use native.Mathlib.Omega.{arith}
 use borrow.Author.Tests.{eq-eqb, ne-eqb, le-ltb}
-use lib.Dec.{eqb, ltb, leb·zero, leb·suc-zero, leb·suc-suc}
+use lib.Dec.{ltb, leb·zero, leb·suc-zero, leb·suc-suc}
 use lib.ListN.{length, drop, getD, drop-of-length-le}
 use lib.Seq.{drop-cons}
 use Rattle.text.specs.Test.{_and_, _or_, all, any}
 use Rattle.text.specs.String.{same, more, before}
-use Rattle.text.proofs.Tests.{and-join, and-all, or-join, or-none}
+use Rattle.text.proofs.Tests.{or-join, or-none}
 
 module _ (p : ℕ → Bool) (a : List ℕ) (i : ℕ) where
   pub all-pass : i < length a → p (getD a i 0) ≡ true → all p (drop i a) ≡ all p (drop (i + 1) a)
@@ -37,15 +37,17 @@ module _ (p : ℕ → Bool) (a : List ℕ) (i : ℕ) where
   any-end whole flag h e = e ∙ rw (drop-of-length-le a h) (or-none flag)
 
 module _ (a b : List ℕ) (i : ℕ) where
-  -- a flag gathers whether all bytes so far are the same
-  pub same-turn : (whole flag : Bool) → i < length a → i < length b → whole ≡ (flag and same (drop i a) (drop i b))
-      → whole ≡ ((flag && eqb (getD a i 0) (getD b i 0)) and same (drop (i + 1) a) (drop (i + 1) b))
-  unfolding same
-  same-turn whole flag p q e = e ∙ rw (add-one, drop-cons a i 0, drop-cons b i 0) (and-join flag _ _)
+  pub same-pass : i < length a → i < length b → getD a i 0 ≡ getD b i 0 → same (drop i a) (drop i b) ≡ same (drop (i + 1) a) (drop (i + 1) b)
+  unfolding same _and_
+  same-pass p q e = rw (add-one, drop-cons a i 0, drop-cons b i 0, eq-eqb _ _ e)
 
-  pub same-end : (whole flag : Bool) → length a ≤ i → length b ≤ i → whole ≡ (flag and same (drop i a) (drop i b)) → whole ≡ flag
+  pub same-differ : i < length a → i < length b → (getD a i 0 ≡ getD b i 0 → ⊥) → same (drop i a) (drop i b) ≡ false
+  unfolding same _and_
+  same-differ p q e = rw (drop-cons a i 0, drop-cons b i 0, ne-eqb _ _ e)
+
+  pub same-end : length a ≤ i → length b ≤ i → same (drop i a) (drop i b) ≡ true
   unfolding same
-  same-end whole flag p q e = e ∙ rw (drop-of-length-le a p, drop-of-length-le b q) (and-all flag)
+  same-end p q = rw (drop-of-length-le a, drop-of-length-le b)
 
   pub before-pass : i < length a → i < length b → getD a i 0 ≡ getD b i 0 → before (drop i a) (drop i b) ≡ before (drop (i + 1) a) (drop (i + 1) b)
   unfolding before more _and_ _or_

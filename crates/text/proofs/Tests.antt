@@ -80,17 +80,7 @@ unfolding _or_
 or-none true = refl
 or-none false = refl
 
-pub and-all : (a : Bool) → (a and true) ≡ a
-unfolding _and_
-and-all true = refl
-and-all false = refl
-
 -- the library's `||` and `&&`, which byte tests and programs use
-pub and-join : (a b c : Bool) → (a and (b and c)) ≡ ((a && b) and c)
-unfolding _and_
-and-join true b c = refl
-and-join false b c = refl
-
 pub or-join : (a b c : Bool) → (a or (b or c)) ≡ ((a || b) or c)
 unfolding _or_
 or-join true b c = refl

@@ -359,8 +359,8 @@ fn colliding_names(count: usize) -> Vec<String> {
 /// The proved library's hash of a name.
 fn proved_hash(name: &str) -> u64 {
     let turn = |(x, y), b| {
-        let x = (x + u64::from(b)) * 1_640_531_527 % (1 << 32);
-        (x, (y + x) * 2_146_121_005 % (1 << 32))
+        let x = (x + u64::from(b)) * 1_201_626_857 % (1 << 32);
+        (x, (y + x) * 1_150_305_587 % (1 << 32))
     };
     name.bytes().fold((0, 0), turn).1 >> 19
 }

@@ -1,48 +1,74 @@
+-- `is_same` equals its definition. The invariant: the rests are the same exactly if the strings are.
 use borrow.Author.Needs.{needs}
-use mathlib.Core.Path.{sym}
-use Rattle.text.proofs.Scans.{same-lengths}
+use native.Mathlib.Omega.{arith}
+use mathlib.Core.Path.{_≡_, refl, sym, _∙_}
+use Prim.Native.Nat.{_-_, _≤_}
+use lib.ListN.{length, drop}
+use Rattle.text.specs.String.{same}
+use Rattle.text.proofs.Scans.{same-pass, same-differ, same-end, same-lengths}
 use Rattle.text.proofs.string.is_same.Statement.{statement}
 use Rattle.text.proofs.string.is_same.Tie as tie
 
-returns : tie.Need-returns
+abbrev Inv-loop : tie.InvT-loop
+Inv-loop a b n i₀ i = (n ≡ length a) × (n ≡ length b) × (i ≤ n) × (same a b ≡ same (drop i a) (drop i b))
+
+abbrev μ-loop : tie.MeasureT-loop
+μ-loop a b n i₀ i = n - i
+
+returns : tie.Need-returns Inv-loop μ-loop
 returns c =
     let at-if1 = c .if1 in
     sym (same-lengths _ _ (at-if1 .taken))
 
-same-block-requires : tie.Need-same-block-requires
-same-block-requires c κs = search needs
+loop-holds : tie.Need-loop-holds Inv-loop μ-loop
+loop-holds c =
+    let at-if1 = c .if1 in
+    (refl, at-if1 .left, search needs, refl)
 
-returns-2 : tie.Need-returns-2
-returns-2 c = search needs
+shared-slice-read-if2 : tie.Need-shared-slice-read-if2 Inv-loop μ-loop
+shared-slice-read-if2 c = search needs
 
-same-blocks-requires : tie.Need-same-blocks-requires
-same-blocks-requires c κs = search needs
+shared-slice-read-if2-2 : tie.Need-shared-slice-read-if2-2 Inv-loop μ-loop
+shared-slice-read-if2-2 c = search needs
 
-returns-3 : tie.Need-returns-3
-returns-3 c = search needs
+returns-2 : tie.Need-returns-2 Inv-loop μ-loop
+returns-2 c =
+    let at-if2 = c .if2 in
+    let at-loop = c .before .before .before .before .loop in
+    let at-start = c .before .before .before .before .before .before in
+    sym (at-loop .inv .3 ∙ same-differ (at-start .args .a .now) (at-start .args .b .now) (at-loop .i) (omega arith) (omega arith) (at-if2 .taken))
 
-same-blocks-requires-2 : tie.Need-same-blocks-requires-2
-same-blocks-requires-2 c κs = search needs
+add-i : tie.Need-add-i Inv-loop μ-loop
+add-i c = search needs
 
-returns-4 : tie.Need-returns-4
-returns-4 c = search needs
+loop-less : tie.Need-loop-less Inv-loop μ-loop
+loop-less c = search needs
 
-same-blocks-requires-3 : tie.Need-same-blocks-requires-3
-same-blocks-requires-3 c κs = search needs
+loop-again : tie.Need-loop-again Inv-loop μ-loop
+loop-again c =
+    let at-if2 = c .if2 in
+    let at-loop = c .before .before .before .before .loop in
+    let at-start = c .before .before .before .before .before .before in
+    (at-loop .inv .0, at-loop .inv .1, omega arith, at-loop .inv .3 ∙ same-pass (at-start .args .a .now) (at-start .args .b .now) (at-loop .i) (omega arith) (omega arith) (at-if2 .left))
 
-returns-5 : tie.Need-returns-5
-returns-5 c = search needs
+returns-3 : tie.Need-returns-3 Inv-loop μ-loop
+returns-3 c =
+    let at-loop = c .before .loop in
+    let at-start = c .before .before .before in
+    sym (at-loop .inv .3 ∙ same-end (at-start .args .a .now) (at-start .args .b .now) (at-loop .i) (omega arith) (omega arith))
 
 pub is-same-spec : {M : Type 1} → statement M
 is-same-spec =
     tie.close
     (tie.spec
+    Inv-loop
+    μ-loop
     returns
-    same-block-requires
+    loop-holds
+    shared-slice-read-if2
+    shared-slice-read-if2-2
     returns-2
-    same-blocks-requires
-    returns-3
-    same-blocks-requires-2
-    returns-4
-    same-blocks-requires-3
-    returns-5)
+    add-i
+    loop-less
+    loop-again
+    returns-3)
