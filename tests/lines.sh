@@ -8,18 +8,16 @@ trap 'rm -rf "$work"' EXIT
 status=0
 tried=0
 
-# NUMBER LINE WRITTEN: the refusal by this number at this line of $work/policy, and the line itself (but for bytes that do not print).
+# NUMBER LINE WRITTEN: the refusal by this number at this line of $work/policy, and the line itself, with bytes that do not print in hex.
 judge() {
     tried=$((tried + 1))
-    local shown
-    shown=$(sed -n "$2s/[^ -~]/./gp;$2p" "$work/policy" | head -n 1)
-    case $3 in
-    "refused $1 at line $2: "*$'\n'"line: ${shown//./?}") ;;
-    *)
+    local line told
+    line=$(sed -n "$2p" "$work/policy" | LC_ALL=C sed 's/\x01/\\x01/g;s/\xc3/\\xc3/g;s/\xa9/\\xa9/g')
+    told=${3%%: *}
+    if [ "$told" != "refused $1 at line $2" ] || [ "${3#*$'\n'}" != "line: $line" ]; then
         echo "expected $1 at line $2 after the edit $edit: $3"
         status=1
-        ;;
-    esac
+    fi
 }
 
 # NUMBER LINE EDIT, for sed
