@@ -1,4 +1,4 @@
-// Verdicts as lines.
+// Verdicts on tables as lines, one fact a line.
 use verdict_text::PathAnswer;
 use verdict_text::TreeAnswer;
 
