@@ -1,27 +1,24 @@
 -- Header lines: one turn of each scan, and each way out of it.
 use mathlib.Core.Path.{_≡_, refl, sym, ap, _∙_, subst}
 use mathlib.Core.Bool.{Bool, true, false, not}
-use mathlib.Core.List.{List, [], _∷_, _++_, map, append-assoc}
+use mathlib.Core.List.{List, [], _∷_}
 use mathlib.Core.Option.{Option, none, some}
 use Prim.Native.Nat.{ℕ, zero, suc, _+_, _-_, _≤_, _<_}
 use native.Mathlib.Numerals.{add-one}
 use native.Mathlib.Omega.{arith}
-use lib.Dec.{eqb, ltb}
-use lib.ListN.{length, take, drop, getD, set, length-take, length-drop, length-append, length-set, drop-of-length-le}
-use lib.Seq.{drop-cons, take-all, take-at, take-add, drop-at, drop-drop, length-take-le}
-use borrow.Author.Tests.{eq-eqb, ne-eqb, lt-ltb, le-ltb, ltb-true, ltb-false, not-true, not-false}
-use Rattle.text.specs.Test.{_and_, _or_, if_then_else_, all, only}
+use lib.Dec.{ltb}
+use lib.ListN.{length, take, drop, getD, length-drop, drop-of-length-le}
+use lib.Seq.{drop-cons, take-all, take-add, drop-at, length-take-le}
+use borrow.Author.Tests.{eq-eqb, ne-eqb, lt-ltb, le-ltb, ltb-true, ltb-false, not-false}
+use Rattle.text.specs.Test.{_and_, _or_, if_then_else_, all}
 use Rattle.text.specs.Byte.{isPrint}
-use Rattle.text.specs.String.{Str, same}
+use Rattle.text.specs.String.{Str}
 use Rattle.text.specs.Frame.{part}
-use Rattle.text.specs.Fill.{put, Wrote}
-use Rattle.text.proofs.Tests.{by, clash, both, and-l, and-r, or-false-l, or-false-r}
+use Rattle.text.proofs.Tests.{by, clash, or-false-l, or-false-r}
 use Rattle.text.proofs.Frames.{no-part}
-use Rattle.text.proofs.Filling.{wrote-byte, wrote-long, wrote-more, wrote-nothing, put-length}
 use Rattle.policy.specs.Text.{empty, isHeaderByte}
-use Rattle.rpc.specs.Request.{Line, longer, cutAt, lineOf, cons, lineThen, linesOf, headersOf, readable, badText, badHeaders, joined, valuesOf, headerValue}
-use Rattle.rpc.specs.Call.{written}
-use Rattle.rpc.specs.Steps.{cutHere, Cut, commaed, oneLine, lineValue}
+use Rattle.rpc.specs.Request.{Line, longer, cutAt, lineOf, cons, lineThen, linesOf, headersOf, readable, badText, badHeaders}
+use Rattle.rpc.specs.Steps.{cutHere, Cut}
 
 -- ---- parts
 
