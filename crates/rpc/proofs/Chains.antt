@@ -14,13 +14,14 @@ use Rattle.text.specs.String.{Str}
 use Rattle.text.specs.Frame.{part}
 use Rattle.text.specs.Fill.{put, Wrote}
 use Rattle.text.proofs.Tests.{by, clash}
+use Rattle.text.proofs.Frames.{no-part}
 use Rattle.text.proofs.Filling.{wrote-long}
 use Rattle.policy.specs.Text.{empty}
 use Rattle.rpc.specs.Request.{Line, longer, cutAt, lineOf, cons, linesOf, headersOf, readable, badHeaders, joined, valuesOf, headerValue}
 use Rattle.rpc.specs.Call.{written}
 use Rattle.rpc.specs.Steps.{cutHere, Cut, commaed, lineValue}
 use Rattle.rpc.specs.Index.{bucketOf, inBucket, LineAt, Chain, stop, link, onto, Indexed}
-use Rattle.rpc.proofs.Lines.{none-taken, part-long, here-some, here-none, fueled, read-is, Reading, reading-on, lines-cut, lines-uncut, lines-bad, lines-on, lines-over, headers-short, headers-read}
+use Rattle.rpc.proofs.Lines.{part-long, here-some, here-none, fueled, read-is, Reading, reading-on, lines-cut, lines-uncut, lines-bad, lines-on, lines-over, headers-short, headers-read}
 use Rattle.rpc.proofs.Values.{gather, gather-nil, gather-cons, gathered, one-bucket, commaed-nil, commaed-append, joined-is, line-value}
 
 -- ---- bucket
@@ -332,7 +333,7 @@ module _ (key h before out : Str) (p at : ℕ) (l : length h ≤ p) where
     value-is = ap joined (g .is ∙ ap (λ (m : List Line). gather key m (g .got)) (chain-over (g .chain)) ∙ gather-nil key (g .got)) ∙ joined-is (g .got) ∙ ap (drop 1) (sym (g .stored))
 
     pub joined-empty : (end : ℕ) → at ≡ end → end ≡ length out → part out end end ≡ headerValue key (written (headersOf h))
-    joined-empty end z q = none-taken (end - end) (drop end out) (omega arith) ∙ sym (value-is ∙ ap (drop 1) (let y : length out ≤ at = omega arith in drop-of-length-le out y))
+    joined-empty end z q = no-part out end ∙ sym (value-is ∙ ap (drop 1) (let y : length out ≤ at = omega arith in drop-of-length-le out y))
 
     pub joined-value : (end : ℕ) → end ≡ length out → part out (at + 1) end ≡ headerValue key (written (headersOf h))
     joined-value end q = take-all (end - (at + 1)) (drop (at + 1) out) (omega (arith, length-drop (at + 1) out)) ∙ sym (value-is ∙ drop-drop 1 at out)

@@ -16,6 +16,7 @@ use Rattle.text.specs.String.{Str, same}
 use Rattle.text.specs.Frame.{part}
 use Rattle.text.specs.Fill.{put, Wrote}
 use Rattle.text.proofs.Tests.{by, clash, both, and-l, and-r, or-false-l, or-false-r}
+use Rattle.text.proofs.Frames.{no-part}
 use Rattle.text.proofs.Filling.{wrote-byte, wrote-long, wrote-more, wrote-nothing, put-length}
 use Rattle.policy.specs.Text.{empty, isHeaderByte}
 use Rattle.rpc.specs.Request.{Line, longer, cutAt, lineOf, cons, lineThen, linesOf, headersOf, readable, badText, badHeaders, joined, valuesOf, headerValue}
@@ -23,9 +24,6 @@ use Rattle.rpc.specs.Call.{written}
 use Rattle.rpc.specs.Steps.{cutHere, Cut, commaed, oneLine, lineValue}
 
 -- ---- parts
-
-pub none-taken : (n : ℕ) (l : Str) → n ≡ 0 → take n l ≡ []
-none-taken n l e = rw e
 
 here-on : (h : Str) (i : ℕ) → i < length h → drop i h ≡ getD h i 0 ∷ drop (i + 1) h
 here-on h i l = rw add-one (drop-cons h i 0 l)
@@ -83,7 +81,7 @@ module _ (h : Str) where
     cut-pass e l k n g = ap (cutAt b) (here-on h i l) ∙ cut-miss b _ _ n ∙ ap (longer (getD h i 0)) g ∙ longer-here i e l k
 
     pub cut-found : i < length h → getD h i 0 ≡ b → cutAt b (drop i h) ≡ cutHere h i i
-    cut-found l e = ap (cutAt b) (here-on h i l) ∙ cut-hit b _ _ e ∙ ap (λ (x : Str). some (x, drop (i + 1) h)) (sym (none-taken (i - i) (drop i h) (omega arith))) ∙ sym (here-some i i l)
+    cut-found l e = ap (cutAt b) (here-on h i l) ∙ cut-hit b _ _ e ∙ ap (λ (x : Str). some (x, drop (i + 1) h)) (sym (no-part h i)) ∙ sym (here-some i i l)
 
     pub cut-over : length h ≤ i → cutAt b (drop i h) ≡ cutHere h i i
     cut-over l = ap (cutAt b) (drop-of-length-le h l) ∙ cut-nil b ∙ sym (here-none i i l)

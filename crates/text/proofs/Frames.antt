@@ -37,6 +37,10 @@ module _ (f : List ℕ) (at : ℕ) where
   unfolding string _>>=_ run if_then_else_
   string-unread h k = rw (byte-got h, lt-leb _ _ k)
 
+-- no bytes
+pub no-part : (f : List ℕ) (a : ℕ) → part f a a ≡ []
+no-part f a = let q : a - a ≡ 0 = omega arith in rw q
+
 -- bytes that follow change no part
 pub part-front : (f g : List ℕ) (a b : ℕ) → a ≤ length f → b ≤ length f → part (f ++ g) a b ≡ part f a b
 part-front f g a b p q = let h : b - a ≤ length (drop a f) = omega (arith, length-drop a f) in rw (drop-append-le a f g p, take-append-le (b - a) (drop a f) g h)

@@ -80,6 +80,10 @@ unfolding _or_
 or-none true = refl
 or-none false = refl
 
+pub none-or : (a : Bool) → (false or a) ≡ a
+unfolding _or_
+none-or a = refl
+
 pub or-swap : (p q r t : Bool) → ((p or q) or (r or t)) ≡ ((p or r) or (q or t))
 unfolding _or_
 or-swap true q r t = refl
@@ -92,6 +96,11 @@ pub or-join : (a b c : Bool) → (a or (b or c)) ≡ ((a || b) or c)
 unfolding _or_
 or-join true b c = refl
 or-join false b c = refl
+
+pub and-join : (a b c : Bool) → (a and (b and c)) ≡ ((a && b) and c)
+unfolding _and_
+and-join true b c = refl
+and-join false b c = refl
 
 pub and-left : (s t : Bool) → (s && t) ≡ true → s ≡ true
 and-left true t e = refl
