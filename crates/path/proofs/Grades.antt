@@ -12,7 +12,7 @@ use Rattle.text.specs.Test.{_and_, _or_, if_then_else_, all, any, twice}
 use Rattle.text.specs.Byte.{isName, isStar}
 use Rattle.text.specs.String.{Str, bytes, same}
 use Rattle.text.specs.Refusal.{_when_else_, clear}
-use Rattle.text.proofs.Tests.{by, or-assoc, or-none, and-l, and-r, or-false-l, or-false-r}
+use Rattle.text.proofs.Tests.{by, or-assoc, or-none, or-swap, and-l, and-r, or-false-l, or-false-r}
 use Rattle.path.specs.Path.{Key, Elem, Path}
 use Rattle.path.specs.Faults.{unsized, keyOver, elemOver, overLimit, outsideName, outsideValue, keyStray, elemStray, strayByte, starred, halfWild, keyMisplaced, elemMisplaced, misplaced, sameName, keyTwice, grade, pathRefusal, goodPath}
 use Rattle.path.specs.Walk.{nameGrade, elemNameGrade, valueGrade, keyGrade, keysGrade, elemGrade, elemsGrade, aloneGrade, good}
@@ -215,13 +215,6 @@ strange-byte b =
     by (isStar b)
     (λ u. let z : b ≡ 42 = eqb-true b 42 u in rw z)
     (λ u. rw u (strange-flags (isName b)))
-
-or-swap : (p q r t : Bool) → ((p or q) or (r or t)) ≡ ((p or r) or (q or t))
-unfolding _or_
-or-swap true q r t = refl
-or-swap false true true t = refl
-or-swap false true false t = refl
-or-swap false false r t = refl
 
 any-either : (f g h : ℕ → Bool) → ((b : ℕ) → (f b or g b) ≡ h b) → (s : Str) → (any f s or any g s) ≡ any h s
 unfolding any

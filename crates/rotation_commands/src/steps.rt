@@ -89,9 +89,9 @@ fn judge(
     path: &[u8],
 ) {
     if is_tree {
-        table_commands::answer::tree(probe::probe_tree(r, store, user, mode, origin, path));
+        answers::tree(probe::probe_tree(r, store, user, mode, origin, path));
     } else {
-        table_commands::answer::path(probe::probe_path(r, store, user, mode, origin, path));
+        answers::path(probe::probe_path(r, store, user, mode, origin, path));
     }
 }
 
