@@ -58,7 +58,13 @@ fn settle_upload(s: Stepped, store: &[u8], text: &[u8]) {
                 keep(next);
             }
         }
-        Checked::Refused { number, line } => console::refusal::table(text, number, line),
+        Checked::Refused { number, line } => {
+            if number < 30 {
+                console::refusal::of_text(text, number, line);
+            } else {
+                policy_commands::refusal::tell(text, number);
+            }
+        }
     }
 }
 

@@ -20,7 +20,7 @@ pub fn check(text: &[u8]) {
             console::say::count(b"members ", members);
             console::say::count(b"rules ", rules);
         }
-        Rows::Refused { number, line } => console::refusal::table(text, number, line),
+        Rows::Refused { number, line } => console::refusal::of_text(text, number, line),
     }
 }
 
@@ -59,7 +59,7 @@ pub fn groups(text: &[u8], user: &[u8]) {
             list(text, user);
         }
         Counted::NoGroup => show::line(b"groups 0"),
-        Counted::Declined { number, line } => console::refusal::table(text, number, line),
+        Counted::Declined { number, line } => console::refusal::of_text(text, number, line),
     }
 }
 
