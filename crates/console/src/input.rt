@@ -73,19 +73,37 @@ pub fn mode(word: &[u8]) -> u32 {
     0
 }
 
-// Writes the file that argument i names, or complains.
-pub fn save(i: usize, bytes: &[u8]) -> bool {
-    let mut name = io::buffer();
-    let n = os::arg(i, &mut name);
-    let fd = os::open_overwrite(&name[..n]);
+// Writes to the descriptor of the file of that name, or complains.
+fn write(fd: i32, name: &[u8], bytes: &[u8]) -> bool {
     if fd < 0 {
-        crate::say::failure(&name[..n]);
+        crate::say::failure(name);
         return false;
     }
     let is_written = io::write_all(fd, bytes);
     if !is_written {
-        crate::say::failure(&name[..n]);
+        crate::say::failure(name);
     }
     libc::close(fd);
     is_written
+}
+
+// Writes the file that argument i names, or complains.
+pub fn save(i: usize, bytes: &[u8]) -> bool {
+    let mut name = io::buffer();
+    let n = os::arg(i, &mut name);
+    write(os::open_overwrite(&name[..n]), &name[..n], bytes)
+}
+
+// The same for a file that is not there yet.
+pub fn make(i: usize, bytes: &[u8]) -> bool {
+    let mut name = io::buffer();
+    let n = os::arg(i, &mut name);
+    write(os::create(&name[..n]), &name[..n], bytes)
+}
+
+// Removes the file that argument i names.
+pub fn remove(i: usize) {
+    let mut name = io::buffer();
+    let n = os::arg(i, &mut name);
+    os::unlink(&name[..n]);
 }

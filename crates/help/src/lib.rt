@@ -191,10 +191,12 @@ fn rotate() {
         burgee rotate finalize RECORD STORE\n\
         burgee rotate close RECORD STORE\n\
         \n\
-        A rotation tried by hand. RECORD and STORE are files that new makes; each step prints what the record then says.\n\
+        A rotation tried by hand. RECORD and STORE are files that new makes, and neither may be there before;\n\
+        each step prints what the record then says.\n\
         A verdict, a tree answer or an RPC is judged on what is in force: the candidate, else the live text, else factory,\n\
         which denies all (table) or permits all (policy).\n\
         \n\
+        $ rm -f target/help.*\n\
         $ burgee rotate new target/help.record target/help.store table\n\
         kind table\n\
         slot 0\n\
@@ -203,6 +205,9 @@ fn rotate() {
         candidate none\n\
         $ burgee rotate finalize target/help.record target/help.store\n\
         refused 13: no rotation is on\n\
+        $ burgee rotate new target/help.record target/help.store policy\n\
+        burgee: target/help.record: File exists\n\
+        $ rm target/help.*\n\
         $ burgee rotate new target/help.record target/help.store policy | head -n 1\n\
         kind policy\n\
         $ burgee rotate rpc target/help.record target/help.store '' /gnmi.gNMI/Get\n\

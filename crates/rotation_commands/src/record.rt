@@ -8,7 +8,8 @@ fn word(a: u8, b: u8, c: u8, d: u8) -> u32 {
     a as u32 + b as u32 * 256 + c as u32 * 65536 + d as u32 * 16777216
 }
 
-pub fn of_bytes(b: &[u8; 20]) -> Record {
+// The record that 20 bytes hold; the byte after them is not looked at.
+pub fn of_bytes(b: &[u8; 21]) -> Record {
     Record {
         kind: word(b[0], b[1], b[2], b[3]),
         live_slot: word(b[4], b[5], b[6], b[7]),

@@ -42,9 +42,19 @@ fn new() {
         console::say::usage(b"a record is for a policy or for a table");
         return;
     }
+    make(crate::record::factory(k));
+}
+
+// Makes the two files, of which neither may be there.
+fn make(r: Record) {
+    let bytes = crate::record::to_bytes(r);
     let store = io::large_buffer();
-    if console::input::save(4, &store) {
-        keep(crate::record::factory(k));
+    if console::input::make(3, &bytes) {
+        if console::input::make(4, &store) {
+            crate::record::print(r);
+        } else {
+            console::input::remove(3);
+        }
     }
 }
 
@@ -163,7 +173,8 @@ fn run_on(step: usize, words: usize, r: Record, store: &mut [u8]) {
 
 // Reads the record and the store, and takes the step.
 fn open(step: usize, words: usize) {
-    let mut bytes = [0u8; 20];
+    // One byte more than a record has, so that a longer file is told from it.
+    let mut bytes = [0u8; 21];
     let record = console::input::file(3, &mut bytes);
     if !record.is_good {
         return;
