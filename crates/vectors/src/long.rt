@@ -69,7 +69,7 @@ fn read_back(bytes: &[u8], text: &[u8]) {
 }
 
 // Writes the text of the longest path and reads it back.
-fn path() {
+pub fn path() {
     let mut bytes = [0u8; 9377];
     fill(&mut bytes);
     let mut text = [0u8; 13520];
@@ -82,42 +82,15 @@ fn path() {
     read_back(&bytes, &text[..n]);
 }
 
-// The digit 0, as often as a table text may have bytes, or once more.
-fn table(more: u8) {
-    if more == 0 {
-        let zeros = [b'0'; 32768];
-        crate::tables::check(&zeros);
-    } else {
-        let zeros = [b'0'; 32769];
-        crate::tables::check(&zeros);
-    }
+// The digit 0, as often as a table text may have bytes; once more where n is odd.
+pub fn table(n: u8) {
+    let zeros = [b'0'; 32769];
+    crate::tables::check(&zeros[0..32768 + (n % 2) as usize]);
 }
 
-// The policy that permits nobody, with blanks after it, as long as a policy may be, or a byte longer.
-fn policy(more: u8) {
-    if more == 0 {
-        let mut padded = [b' '; 16384];
-        text::fill::copy(b"{\"name\":\"p\",\"allow_rules\":[]}", &mut padded, 0);
-        crate::policies::check(&padded);
-    } else {
-        let mut padded = [b' '; 16385];
-        text::fill::copy(b"{\"name\":\"p\",\"allow_rules\":[]}", &mut padded, 0);
-        crate::policies::check(&padded);
-    }
-}
-
-pub fn answer(name: &[u8], more: u8) {
-    if text::string::is_same(name, b"long-path") {
-        path();
-        return;
-    }
-    if text::string::is_same(name, b"long-table") {
-        table(more);
-        return;
-    }
-    if text::string::is_same(name, b"long-policy") {
-        policy(more);
-        return;
-    }
-    show::line(b"no such question");
+// The policy that permits nobody, with blanks after it, as long as a policy text may be; a byte longer where n is odd.
+pub fn policy(n: u8) {
+    let mut padded = [b' '; 16385];
+    text::fill::copy(b"{\"name\":\"p\",\"allow_rules\":[]}", &mut padded, 0);
+    crate::policies::check(&padded[0..16384 + (n % 2) as usize]);
 }

@@ -44,43 +44,25 @@ fn text_after(t: Span, b: u8, at: usize, next: usize) -> Span
     }
 }
 
-// Answers a question by its name, with what follows that, about a text.
-fn answer(text: &[u8], name: &[u8], rest: &[u8])
+// Answers a question by its first letter, with what follows its first word, about a text.
+fn answer(text: &[u8], letter: u8, rest: &[u8])
     requires { ⌜ length (now rest) ≤ 65536 ⌝ }
 {
-    if text::string::is_same(name, b"read") | text::string::is_same(name, b"write") {
-        paths::transcribe(name, rest);
-        return;
+    match letter {
+        b'r' => paths::transcribe(true, rest),
+        b'w' => paths::transcribe(false, rest),
+        b'f' => paths::fit(rest),
+        b'l' => long::path(),
+        b'c' => tables::check(text),
+        b'z' => long::table(split::digit(rest)),
+        b'g' => tables::groups(text, rest),
+        b'v' => tables::request(text, false, rest),
+        b't' => tables::request(text, true, rest),
+        b'p' => policies::check(text),
+        b'b' => long::policy(split::digit(rest)),
+        b'i' => policies::rpc(text, rest),
+        _ => show::line(b"no such question"),
     }
-    if text::string::is_same(name, b"within") {
-        paths::within(rest);
-        return;
-    }
-    if text::string::is_same(name, b"policy") {
-        policies::check(text);
-        return;
-    }
-    if text::string::is_same(name, b"rpc") {
-        policies::rpc(text, rest);
-        return;
-    }
-    if text::string::is_same(name, b"table") {
-        tables::check(text);
-        return;
-    }
-    if text::string::is_same(name, b"groups") {
-        tables::groups(text, rest);
-        return;
-    }
-    if text::string::is_same(name, b"path") {
-        tables::path(text, rest);
-        return;
-    }
-    if text::string::is_same(name, b"tree") {
-        tables::tree(text, rest);
-        return;
-    }
-    long::answer(name, split::digit(rest));
 }
 
 // Prints a question and its answer.
@@ -90,9 +72,8 @@ fn run_question(text: &[u8], line: &[u8])
     let end = split::up_to(line, 0, b'\n');
     show::word(&line[0..end]);
     show::word(b": ");
-    let name = split::up_to(line, 0, b' ');
-    let rest = split::after(line, name);
-    answer(text, &line[0..name], &line[rest..]);
+    let rest = split::after(line, split::up_to(line, 0, b' '));
+    answer(text, split::first(line), &line[rest..]);
 }
 
 // A comment is printed as it is.

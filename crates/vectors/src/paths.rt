@@ -1,7 +1,6 @@
 // Questions about a path. Each line goes up to its LF.
 ghost use Prim.Native.Nat.{_≤_};
 ghost use lib.ListN.{length};
-ghost use Rattle.io.specs.Counts.{Counts};
 use line::Line;
 
 // Prints the text of path bytes, or the refusal.
@@ -28,54 +27,51 @@ fn read(text: &[u8], out: &mut [u8]) {
     write(&out[..n], &mut back);
 }
 
-// The path bytes that a line of hex digits stands for; a line with no digit stands for none.
+// The path bytes that a line of hex digits stands for: two digits a byte. Any other line stands for none.
 fn write_hex(line: &[u8], out: &mut [u8])
     requires { ⌜ length (now line) ≤ 65536 ⌝ }
 {
-    if line.len() <= 1 {
-        write(b"", out);
-        return;
-    }
     let mut bytes = [0u8; 32768];
     let l = line::read_line(line, 0, &mut bytes, 0);
     match l {
         Line::Frame { len, next } => write(&bytes[0..line.len() / 2], out),
-        Line::Bad => show::line(b"not hex"),
+        Line::Bad => write(&bytes[0..0], out),
     }
 }
 
-// `read PATH` or `write HEX`, the name apart from what follows it.
-fn transcribe_into(name: &[u8], line: &[u8], out: &mut [u8])
+// Path text to path bytes and back, or path bytes to path text.
+fn transcribe_into(is_text: bool, line: &[u8], out: &mut [u8])
     requires { ⌜ length (now line) ≤ 65536 ⌝ }
 {
-    if text::string::is_same(name, b"read") {
-        let end = crate::split::up_to(line, 0, b'\n');
-        read(&line[0..end], out);
+    if !is_text {
+        write_hex(line, out);
         return;
     }
-    write_hex(line, out);
+    let end = crate::split::up_to(line, 0, b'\n');
+    read(&line[0..end], out);
 }
 
-pub fn transcribe(name: &[u8], line: &[u8])
+// `PATH`, or `HEX`.
+pub fn transcribe(is_text: bool, line: &[u8])
     requires { ⌜ length (now line) ≤ 65536 ⌝ }
 {
     let mut out = [0u8; 13520];
-    transcribe_into(name, line, &mut out);
+    transcribe_into(is_text, line, &mut out);
 }
 
-fn transcribe_within(name: &[u8], line: &[u8], limit: u8)
+fn transcribe_within(is_text: bool, line: &[u8], limit: u8)
     requires { ⌜ length (now line) ≤ 65536 ⌝ }
 {
     let mut out = [0u8; 255];
-    transcribe_into(name, line, &mut out[0..limit as usize]);
+    transcribe_into(is_text, line, &mut out[0..limit as usize]);
 }
 
-// `N read PATH` or `N write HEX`.
-pub fn within(line: &[u8])
+// `N read PATH`, or `N write HEX`.
+pub fn fit(line: &[u8])
     requires { ⌜ length (now line) ≤ 65536 ⌝ }
 {
     let name = crate::split::after(line, crate::split::up_to(line, 0, b' '));
-    let end = crate::split::up_to(line, name, b' ');
-    let rest = crate::split::after(line, end);
-    transcribe_within(&line[name..end], &line[rest..], crate::split::digit(line));
+    let rest = crate::split::after(line, crate::split::up_to(line, name, b' '));
+    let is_text = crate::split::first(&line[name..]) == b'r';
+    transcribe_within(is_text, &line[rest..], crate::split::digit(line));
 }

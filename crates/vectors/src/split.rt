@@ -18,10 +18,12 @@ pub fn after(line: &[u8], at: usize) -> usize
     if at < line.len() { at + 1 } else { at }
 }
 
+// The first byte, 0 where there is none.
+pub fn first(s: &[u8]) -> u8 {
+    if s.len() == 0 { 0 } else { s[0] }
+}
+
 // The digit that s begins with.
 pub fn digit(s: &[u8]) -> u8 {
-    if s.len() == 0 {
-        return 0;
-    }
-    text::byte::hex_value(s[0])
+    text::byte::hex_value(first(s))
 }

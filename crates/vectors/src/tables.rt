@@ -19,7 +19,7 @@ fn ask(table: &[u8], is_tree: bool, mode: u32, user: &[u8], origin: &[u8], path:
 }
 
 // `MODE USER,ORIGIN,PATH`.
-fn request(table: &[u8], is_tree: bool, line: &[u8]) {
+pub fn request(table: &[u8], is_tree: bool, line: &[u8]) {
     let user = crate::split::after(line, crate::split::up_to(line, 0, b' '));
     let comma = crate::split::up_to(line, user, b',');
     let origin = crate::split::after(line, comma);
@@ -34,12 +34,4 @@ fn request(table: &[u8], is_tree: bool, line: &[u8]) {
         &line[origin..second],
         &line[path..end],
     );
-}
-
-pub fn path(table: &[u8], line: &[u8]) {
-    request(table, false, line);
-}
-
-pub fn tree(table: &[u8], line: &[u8]) {
-    request(table, true, line);
 }
