@@ -49,22 +49,15 @@ fn fill(out: &mut [u8]) {
     }
 }
 
-// Reads the text back and prints the length of its path bytes and its own.
+// Reads the text back, and says whether that gives the bytes.
 fn read_back(bytes: &[u8], text: &[u8]) {
     let mut back = [0u8; 9377];
     let answer = burgee::burgee_path_read(text, &mut back);
-    if crate::word::is_refused(answer) {
-        crate::word::show_refusal(answer);
-        return;
-    }
-    show::decimal(answer / 256);
-    show::space();
-    show::decimal(text.len() as u64);
-    let n = crate::word::filled(answer, &back);
-    if text::string::is_same(bytes, &back[..n]) {
-        show::line(b" same");
+    crate::word::show_filled(answer);
+    if text::string::is_same(bytes, &back[..crate::word::filled(answer, &back)]) {
+        show::line(b"same");
     } else {
-        show::line(b" differ");
+        show::line(b"differ");
     }
 }
 
@@ -74,12 +67,8 @@ pub fn path() {
     fill(&mut bytes);
     let mut text = [0u8; 13520];
     let answer = burgee::burgee_path_write(&bytes, &mut text);
-    if crate::word::is_refused(answer) {
-        crate::word::show_refusal(answer);
-        return;
-    }
-    let n = crate::word::filled(answer, &text);
-    read_back(&bytes, &text[..n]);
+    crate::word::show_filled(answer);
+    read_back(&bytes, &text[..crate::word::filled(answer, &text)]);
 }
 
 // The digit 0, as often as a table text may have bytes; once more where n is odd.

@@ -1,7 +1,6 @@
 // Questions about a path. Each line goes up to its LF.
 ghost use Prim.Native.Nat.{_≤_};
 ghost use lib.ListN.{length};
-use line::Line;
 
 // Prints the text of path bytes, or the refusal.
 fn write(bytes: &[u8], out: &mut [u8]) {
@@ -27,16 +26,13 @@ fn read(text: &[u8], out: &mut [u8]) {
     write(&out[..n], &mut back);
 }
 
-// The path bytes that a line of hex digits stands for: two digits a byte. Any other line stands for none.
+// The path bytes that a line of hex digits stands for: two digits a byte.
 fn write_hex(line: &[u8], out: &mut [u8])
     requires { ⌜ length (now line) ≤ 65536 ⌝ }
 {
     let mut bytes = [0u8; 32768];
-    let l = line::read_line(line, 0, &mut bytes, 0);
-    match l {
-        Line::Frame { len, next } => write(&bytes[0..line.len() / 2], out),
-        Line::Bad => write(&bytes[0..0], out),
-    }
+    line::read_line(line, 0, &mut bytes, 0);
+    write(&bytes[0..line.len() / 2], out);
 }
 
 // Path text to path bytes and back, or path bytes to path text.

@@ -26,12 +26,13 @@ fn ask(policy: &[u8], identity: &[u8], path: &[u8], headers: &[u8])
 {
     let mut lines = io::large_buffer();
     header_lines(headers, &mut lines);
-    crate::word::show_verdict(burgee::policies::burgee_rpc_verdict(
+    let answer = burgee::policies::burgee_rpc_verdict(
         policy,
         identity,
         path,
         &lines[0..headers.len()],
-    ));
+    );
+    crate::word::show_verdict(answer, false);
 }
 
 // `IDENTITY,PATH,HEADERS`.

@@ -36,31 +36,29 @@ fn show_named(title: &[u8], word: u64) {
 }
 
 // The first number by its name.
-fn show_first(word: u64, zero: &[u8], one: &[u8], two: &[u8]) {
-    let number = word / 256 % 256;
-    match number {
-        0 => show::word(zero),
-        1 => show::word(one),
-        2 => show::word(two),
-        _ => show::decimal(number),
+fn show_first(number: u64, is_tree: bool) {
+    if is_tree {
+        match number {
+            0 => show::word(b"NONE"),
+            1 => show::word(b"ALL"),
+            2 => show::word(b"MIXED"),
+            _ => show::decimal(number),
+        }
+    } else {
+        match number {
+            0 => show::word(b"deny"),
+            1 => show::word(b"permit"),
+            _ => show::decimal(number),
+        }
     }
 }
 
-pub fn show_verdict(word: u64) {
+pub fn show_verdict(word: u64, is_tree: bool) {
     if is_refused(word) {
         show_refusal(word);
         return;
     }
-    show_first(word, b"deny", b"permit", b"2");
-    show_named(b" by ", word);
-}
-
-pub fn show_tree(word: u64) {
-    if is_refused(word) {
-        show_refusal(word);
-        return;
-    }
-    show_first(word, b"NONE", b"ALL", b"MIXED");
+    show_first(word / 256 % 256, is_tree);
     show_named(b" by ", word);
 }
 
@@ -71,6 +69,16 @@ pub fn show_groups(word: u64) {
     }
     show::decimal(word / 256 % 256);
     show_named(b", first ", word);
+}
+
+// The length that was filled, and a space.
+pub fn show_filled(word: u64) {
+    if is_refused(word) {
+        show_refusal(word);
+    } else {
+        show::decimal(word / 256);
+        show::space();
+    }
 }
 
 // The length that was filled, as far as the buffer goes.
