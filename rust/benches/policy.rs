@@ -5,7 +5,10 @@ use std::hint::black_box;
 
 use burgee_rust::boundary::policy as proved_policy;
 use burgee_rust::boundary::rpc as proved_rpc;
-use burgee_rust::generate::policy::{many_header_lines, policy_of_headers, policy_of_length};
+use burgee_rust::generate::policy::{
+    many_header_lines, nested_object, object_of_members, policy_of_headers, policy_of_length, Names,
+};
+use burgee_rust::limits;
 use burgee_rust::measure::Table;
 use burgee_rust::policy::check_policy;
 use burgee_rust::rpc::{rpc_verdict, RpcRequest};
@@ -23,12 +26,15 @@ fn main() {
 
     let printed = Table::new("Check of a policy");
     for (name, text) in &policies {
-        printed.row(
-            &format!("{name}, {} bytes", text.len()),
-            || proved_policy::policy_check(black_box(text)),
-            || word::checked(check_policy(black_box(text))),
-        );
+        check_row(&printed, name, text);
     }
+
+    let printed = Table::new("Check of a text with many members, which is no policy");
+    let members = |order| object_of_members(limits::POLICY_TEXT, order);
+    check_row(&printed, "one object, names in byte order", &members(Names::Rising));
+    check_row(&printed, "in reverse", &members(Names::Falling));
+    check_row(&printed, "in any order", &members(Names::Shuffled));
+    check_row(&printed, "the same, 16 levels deep", &nested_object(limits::POLICY_TEXT, 16));
 
     let headers = b"user-agent:client/1.0\ndev-path:/dev/path/x\naccept:a\naccept:b\n";
     let printed = Table::new("RPC verdict, by default");
@@ -37,6 +43,14 @@ fn main() {
     }
     let (text, headers) = (policy_of_headers(), many_header_lines());
     verdict_row(&printed, &format!("384 headers, {} bytes, and 8 KB of header lines", text.len()), &text, &headers);
+}
+
+fn check_row(printed: &Table, name: &str, text: &[u8]) {
+    printed.row(
+        &format!("{name}, {} bytes", text.len()),
+        || proved_policy::policy_check(black_box(text)),
+        || word::checked(check_policy(black_box(text))),
+    );
 }
 
 fn verdict_row(printed: &Table, name: &str, text: &[u8], headers: &[u8]) {

@@ -2,7 +2,7 @@
 
 use burgee_rust::compare::policy_check;
 use burgee_rust::generate::damage::damage;
-use burgee_rust::generate::policy::{good_policy, policy_of_length};
+use burgee_rust::generate::policy::{good_policy, nested_object, object_of_members, policy_of_length, Names};
 use burgee_rust::generate::policy_fault::{put_json_fault, put_member_twice, put_schema_fault, PART_FAULTS};
 use burgee_rust::generate::short::for_each_short_string;
 use burgee_rust::limits;
@@ -191,6 +191,31 @@ fn many_members() {
         expect(&format!("{{{}}}", names.join(",")), 33);
         expect(&format!("{{{},{}}}", names.join(","), names[0]), 32);
         expect(&format!("{{{},{}}}", names.join(","), names[count - 1]), 32);
+    }
+    for order in [Names::Rising, Names::Falling, Names::Shuffled] {
+        let text = object_of_members(limits::POLICY_TEXT - 2, order);
+        assert_eq!(policy_check(&text), 33);
+        let members: Vec<&[u8]> = text[1..text.len() - 1].split(|&byte| byte == b',').collect();
+        let last = members.len() - 1;
+        assert!(last > 2_300);
+        for (place, other) in [(0, last), (last, 0), (0, 1), (last, last - 1), (7, 1_200), (1_200, 7)] {
+            let mut members = members.clone();
+            members[place] = members[other];
+            assert_eq!(policy_check(&[b"{", &members.join(&b',')[..], b"}"].concat()), 32);
+        }
+    }
+}
+
+/// The names of an object are kept while the objects inside it are looked through.
+#[test]
+fn members_around_others() {
+    for levels in 1..=16 {
+        assert_eq!(policy_check(&nested_object(limits::POLICY_TEXT, levels)), 33);
+    }
+    let inside = r#"{"a":1,"b":[{"a":1,"c":2},{"c":{"a":{},"d":1}}],"c":{"b":{"a":1,"b":2,"c":3}}}"#;
+    for name in ["a", "b", "c", "d", "e"] {
+        let text = format!(r#"{{"b":{inside},"d":{inside},"{name}":{inside},"a":0}}"#);
+        expect(&text, if "abd".contains(name) { 32 } else { 33 });
     }
 }
 

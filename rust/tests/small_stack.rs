@@ -5,7 +5,7 @@ use std::thread;
 
 use burgee_rust::boundary::{path, policy, rotation, rpc, table, verdict};
 use burgee_rust::generate::path::longest_path;
-use burgee_rust::generate::policy::{many_header_lines, policy_of_headers, policy_of_length};
+use burgee_rust::generate::policy::{many_header_lines, nested_object, policy_of_headers, policy_of_length};
 use burgee_rust::generate::table::{table_of_length, table_of_members};
 use burgee_rust::generate::worst_tree::worst_trees;
 use burgee_rust::limits;
@@ -52,6 +52,7 @@ fn every_call() {
         assert_eq!(policy::policy_check(nested(times).as_bytes()), 33);
         assert_eq!(policy::policy_check(nested(times + 1).as_bytes()), 31);
     }
+    assert_eq!(policy::policy_check(&nested_object(limits::POLICY_TEXT, 16)), 33);
     for policy in [policy_of_length(limits::POLICY_TEXT), policy_of_headers()] {
         assert_eq!(policy::policy_check(&policy), 0);
         let mut record = Record { rotating: 1, ..Record::factory(1) };

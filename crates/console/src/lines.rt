@@ -27,6 +27,20 @@ fn start(text: &[u8], n: usize) -> usize
     at
 }
 
+// The number of the line that position p is in, counted from 1; the last line's where p is past them all, 0 where there is none.
+pub fn number_at(text: &[u8], p: usize) -> usize {
+    let mut n = 0;
+    let mut at = 0;
+    while at < text.len() {
+        n += 1;
+        at = next(text, at);
+        if p < at {
+            return n;
+        }
+    }
+    n
+}
+
 // Prints the line at `at` without its LF; bytes that do not print in hex, after \x.
 fn quote_at(text: &[u8], at: usize)
     requires { ⌜ at ≤ length (now text) ⌝ }

@@ -58,8 +58,8 @@ pub fn quote_line(text: &[u8], line: usize) {
     }
 }
 
-// A table's refusal, and the line that it is about.
-pub fn table(text: &[u8], number: u8, line: usize) {
+// The refusal of a text, and the line that it is about.
+pub fn of_text(text: &[u8], number: u8, line: usize) {
     at(number, line);
     quote_line(text, line);
 }

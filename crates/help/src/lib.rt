@@ -139,12 +139,16 @@ fn policy() {
         1,
         b"burgee policy FILE\n\
         \n\
-        Checks an RPC policy: accepted, and how many rules each list has; or the number of the refusal and what it means.\n\
+        Checks an RPC policy: accepted, and how many rules each list has;\n\
+        or the number of the refusal, the line of the fault, what it means, and the line itself.\n\
         \n\
         $ burgee policy examples/files/yard.json\n\
         accepted\n\
         deny_rules 1\n\
-        allow_rules 2\n",
+        allow_rules 2\n\
+        $ sed 22d examples/files/yard.json | burgee policy -\n\
+        refused 31 at line 22: not one JSON value, in printable bytes, nested to depth 16 at most\n\
+        line: }\n",
     );
 }
 

@@ -10,11 +10,12 @@ use lib.ListN.{length, take, drop, getD}
 use Rattle.text.specs.Test.{_or_}
 use Rattle.text.specs.String.{Str, more, before}
 use Rattle.text.proofs.Tests.{by}
+use Rattle.text.proofs.Order.{more-same, more-other}
 use Rattle.path.specs.Path.{Path}
 use Rattle.table.specs.Table.{Rule}
 use Rattle.verdict.specs.Cover.{covers}
 use Rattle.verdict.specs.Order.{definites, better, earlier, rankBy, rank}
-use Rattle.verdict.proofs.Order.{more-same, more-other, better-rank, unless-small}
+use Rattle.verdict.proofs.Order.{better-rank, unless-small}
 use Rattle.place.specs.Place.{strEnd, strIn, elemsEnd, elemsIn, pathEnd, pathIn}
 use Rattle.place.proofs.Cursor.{str-grows, path-room, length-elems}
 use Rattle.judge.specs.Rules.{idAt, originAt, pathAt, ruleIn, ruleEnd}

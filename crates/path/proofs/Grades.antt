@@ -12,7 +12,7 @@ use Rattle.text.specs.Test.{_and_, _or_, if_then_else_, all, any, twice}
 use Rattle.text.specs.Byte.{isName, isStar}
 use Rattle.text.specs.String.{Str, bytes, same}
 use Rattle.text.specs.Refusal.{_when_else_, clear}
-use Rattle.text.proofs.Tests.{by, or-assoc, or-none, and-l, and-r, or-false-l, or-false-r}
+use Rattle.text.proofs.Tests.{by, or-assoc, or-none, none-or, or-swap, and-l, and-r, or-false-l, or-false-r}
 use Rattle.path.specs.Path.{Key, Elem, Path}
 use Rattle.path.specs.Faults.{unsized, keyOver, elemOver, overLimit, outsideName, outsideValue, keyStray, elemStray, strayByte, starred, halfWild, keyMisplaced, elemMisplaced, misplaced, sameName, keyTwice, grade, pathRefusal, goodPath}
 use Rattle.path.specs.Walk.{nameGrade, elemNameGrade, valueGrade, keyGrade, keysGrade, elemGrade, elemsGrade, aloneGrade, good}
@@ -111,10 +111,6 @@ key-grade n v again =
 pub keys-grade : (k : Key) (ks : List Key) → keysGrade (k ∷ ks) ≡ min (keyGrade (k .name) (k .value) (any (sameName k) ks)) (keysGrade ks)
 unfolding keysGrade keyGrade any twice keyOver keyStray keyMisplaced
 keys-grade k ks = sym (grade-merge _ _ _ _ (any keyOver ks) (any keyStray ks) (any keyMisplaced ks) (twice sameName ks))
-
-none-or : (t : Bool) → (false or t) ≡ t
-unfolding _or_
-none-or t = refl
 
 merge-three : (u a x n k b y t : Bool) → min (min (grade u a x false) (grade n false false false)) (grade k b y t) ≡ grade (u or n or k) (a or b) (x or y) t
 merge-three u a x n k b y t =
@@ -215,13 +211,6 @@ strange-byte b =
     by (isStar b)
     (λ u. let z : b ≡ 42 = eqb-true b 42 u in rw z)
     (λ u. rw u (strange-flags (isName b)))
-
-or-swap : (p q r t : Bool) → ((p or q) or (r or t)) ≡ ((p or r) or (q or t))
-unfolding _or_
-or-swap true q r t = refl
-or-swap false true true t = refl
-or-swap false true false t = refl
-or-swap false false r t = refl
 
 any-either : (f g h : ℕ → Bool) → ((b : ℕ) → (f b or g b) ≡ h b) → (s : Str) → (any f s or any g s) ≡ any h s
 unfolding any

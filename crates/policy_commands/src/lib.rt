@@ -1,4 +1,5 @@
 // The commands on a policy: its check, and the RPC verdict.
+pub mod refusal;
 pub mod rpcs;
 
 use policy_facts::Rules;
@@ -11,6 +12,6 @@ pub fn check(text: &[u8]) {
             console::say::count(b"accepted\ndeny_rules ", deny);
             console::say::count(b"allow_rules ", allow);
         }
-        Rules::Refused(number) => console::refusal::at(number, 0),
+        Rules::Refused(number) => crate::refusal::tell(text, number),
     }
 }

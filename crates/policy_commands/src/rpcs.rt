@@ -27,5 +27,10 @@ pub fn headers(i: usize, words: usize, buf: &mut [u8]) -> Read
 }
 
 pub fn verdict(policy: &[u8], identity: &[u8], path: &[u8], headers: &[u8]) {
-    answer(rpc_text::verdict::rpc_verdict(policy, identity, path, headers));
+    let v = rpc_text::verdict::rpc_verdict(policy, identity, path, headers);
+    if let Verdict::Refused(number) = v {
+        crate::refusal::tell(policy, number);
+        return;
+    }
+    answer(v);
 }

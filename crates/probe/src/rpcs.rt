@@ -25,7 +25,7 @@ pub fn of_rpc(a: RpcAnswer) -> u64
 fn factory_rpc(identity: &[u8], path: &[u8], headers: &[u8]) -> RpcAnswer
     ensures { λ a. ⌜ a ≡ factoryRpc (requestFault (now (identity .entry)) (now (path .entry)) (now (headers .entry))) ⌝ }
 {
-    let number = rpc::request::request_fault(identity, path, headers);
+    let number = rpc_request::request::request_fault(identity, path, headers);
     if number != 255 {
         return RpcAnswer::Judged(Verdict::Refused(number));
     }

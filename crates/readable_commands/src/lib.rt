@@ -12,7 +12,7 @@ fn print(s: &[u8], n: usize) {
 fn answer(c: Converted, text: &[u8], made: &[u8]) {
     match c {
         Converted::Length(n) => print(made, n),
-        Converted::Refused { number, line } => console::refusal::table(text, number, line),
+        Converted::Refused { number, line } => console::refusal::of_text(text, number, line),
         Converted::Unread { line } => {
             show::word(b"refused at line ");
             show::decimal(line as u64);

@@ -58,7 +58,13 @@ fn settle_upload(s: Stepped, store: &[u8], text: &[u8]) {
                 keep(next);
             }
         }
-        Checked::Refused { number, line } => console::refusal::table(text, number, line),
+        Checked::Refused { number, line } => {
+            if number < 30 {
+                console::refusal::of_text(text, number, line);
+            } else {
+                policy_commands::refusal::tell(text, number);
+            }
+        }
     }
 }
 
@@ -83,9 +89,9 @@ fn judge(
     path: &[u8],
 ) {
     if is_tree {
-        table_commands::answer::tree(probe::probe_tree(r, store, user, mode, origin, path));
+        answers::tree(probe::probe_tree(r, store, user, mode, origin, path));
     } else {
-        table_commands::answer::path(probe::probe_path(r, store, user, mode, origin, path));
+        answers::path(probe::probe_path(r, store, user, mode, origin, path));
     }
 }
 

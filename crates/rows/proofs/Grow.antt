@@ -7,12 +7,12 @@ use native.Mathlib.Numerals.{add-one}
 use native.Mathlib.Omega.{arith}
 use borrow.Author.Tests.{eqb-true, eqb-false, ltb-true, ltb-false, lt-ltb}
 use lib.Dec.{eqb, ltb, eqb·zero-suc, eqb·suc-zero, eqb·suc-suc, leb·suc-suc}
-use lib.ListN.{length, take, drop, getD, set, length-append, length-drop, List·getD-append}
-use lib.Seq.{take-append-le, drop-append-le, getD-set-same, getD-set-other}
+use lib.ListN.{length, getD, set, length-append, List·getD-append}
+use lib.Seq.{getD-set-same, getD-set-other}
 use Rattle.text.specs.Test.{_and_, _or_, if_then_else_, any, twice}
 use Rattle.text.specs.String.{Str, same}
-use Rattle.text.specs.Frame.{part}
-use Rattle.text.proofs.Tests.{by, clash, same→≡, ≡→same, none-any, or-false-l, or-false-r, neither, bool-ext}
+use Rattle.text.proofs.Frames.{part-front}
+use Rattle.text.proofs.Tests.{by, clash, same→≡, same-sym, none-any, or-false-l, or-false-r, neither}
 use Rattle.place.specs.Place.{strEnd, strIn}
 use Rattle.rows.specs.Strings.{stringsIn, Laid, place}
 
@@ -68,9 +68,6 @@ strings-at f starts n j h =
 
 -- ---- bytes after the string
 
-pub part-front : (f g : List ℕ) (a b : ℕ) → a ≤ length f → b ≤ length f → part (f ++ g) a b ≡ part f a b
-part-front f g a b p q = let h : b - a ≤ length (drop a f) = omega (arith, length-drop a f) in rw (drop-append-le a f g p, take-append-le (b - a) (drop a f) g h)
-
 module _ (f g : List ℕ) (at : ℕ) (h : strEnd f at ≤ length f) where
   pub past-front : strEnd (f ++ g) at ≡ strEnd f at
   unfolding strEnd
@@ -119,9 +116,6 @@ module _ (f g starts : List ℕ) (n : ℕ) (laid : Laid f starts n) where
       ∙ sym (strings-rows f starts n 0)
 
 -- ---- places of distinct strings
-
-pub same-sym : (a b : Str) → same a b ≡ same b a
-same-sym a b = bool-ext _ _ (λ e. ≡→same (sym (same→≡ a b e))) (λ e. ≡→same (sym (same→≡ b a e)))
 
 at-member : (xs : List Str) (i : ℕ) (f : Str → Bool) → i < length xs → any f xs ≡ false → f (getD xs i []) ≡ false
 unfolding any

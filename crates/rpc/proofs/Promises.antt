@@ -1,16 +1,15 @@
 -- The answer as a theorem about lists: a deny rule matches, else an allow rule, else default (gRFC A43).
-use mathlib.Core.Path.{_≡_, refl, sym, ap, _∙_}
+use mathlib.Core.Path.{_≡_, refl, ap, _∙_}
 use mathlib.Core.Bool.{Bool, true, false, not}
 use mathlib.Core.List.{List, [], _∷_}
-use mathlib.Core.Option.{Option, none, some}
+use mathlib.Core.Option.{none, some}
 use Prim.Native.Nat.{ℕ, suc}
 use Rattle.text.specs.Test.{_and_, _or_, if_then_else_, _∈_, any}
 use Rattle.text.proofs.Tests.{by, clash, and-r, all→}
 use Rattle.policy.specs.Policy.{Header, Rule, Policy}
 use Rattle.rpc.specs.Request.{Request}
 use Rattle.rpc.specs.Verdict.{headerMatches, ruleMatches, firstFrom, allowed, decided, verdict, permits}
-use Rattle.rpc.specs.declared.verdict.Verdict.{Verdict}
-use Rattle.rpc.specs.declared.verdict.Verdict.the-variants.{Refused, Denied, Permitted, Default}
+use Rattle.rpc.specs.declared.verdict.Verdict.the-variants.{Denied, Permitted, Default}
 
 module _ {A : Type 0} (f : A → Bool) where
   found : (k : ℕ) (l : List A) → any f l ≡ true → (n : ℕ) × (firstFrom k f l ≡ some n)

@@ -2,5 +2,3 @@ pub mod Pattern
 pub mod Request
 pub mod Verdict
 pub mod Call
-pub mod Steps
-pub mod Index

@@ -1,6 +1,6 @@
 -- "`*` matches any nonempty value; `p*` a prefix; `*s` a suffix; else exact."
 use mathlib.Core.Bool.{Bool, not}
-use Prim.Native.Nat.{ℕ, _-_}
+use Prim.Native.Nat.{_-_}
 use lib.Dec.{eqb}
 use lib.ListN.{length, take, drop}
 use Rattle.text.specs.Test.{if_then_else_}

@@ -1,5 +1,5 @@
 -- "Deny rules are judged first, then allow rules; the answer names the list and the first matching rule in it (numbered from 0), or default deny."
-use mathlib.Core.Bool.{Bool, true, false, not}
+use mathlib.Core.Bool.{Bool, true, false}
 use mathlib.Core.List.{List, [], _∷_}
 use mathlib.Core.Option.{Option, none, some}
 use Prim.Native.Nat.{ℕ, suc, _+_, _*_, _%_, _^_}

@@ -1,28 +1,22 @@
 -- The whole call: each way out of it.
-use mathlib.Core.Path.{_≡_, refl, sym, ap, ap₂, _∙_, subst}
-use mathlib.Core.Bool.{Bool, true, false}
-use mathlib.Core.List.{List, [], _∷_, map}
+use mathlib.Core.Path.{_≡_, refl, sym, ap, ap₂, _∙_}
+use mathlib.Core.Bool.{false}
+use mathlib.Core.List.{map}
 use mathlib.Core.Option.{Option, none, some}
-use Prim.Native.Nat.{ℕ, _≤_, _<_}
+use Prim.Native.Nat.{ℕ}
 use native.Mathlib.Omega.{arith}
-use lib.Dec.{eqb, ltb}
-use lib.ListN.{length}
-use borrow.Author.Tests.{eq-eqb, ne-eqb, eqb-true, eqb-false}
+use borrow.Author.Tests.{eq-eqb, ne-eqb}
 use Rattle.text.specs.Test.{_or_, if_then_else_}
 use Rattle.text.specs.String.{Str, bytes}
-use Rattle.text.specs.Refusal.{_when_else_, clear}
-use Rattle.text.proofs.Tests.{by, clash}
+use Rattle.text.proofs.Tests.{by}
 use Rattle.rfc8259.specs.Json.{Json}
-use Rattle.rfc8259.specs.Parser.{parse}
-use Rattle.json.specs.Meaning.{answered}
 use Rattle.json.specs.Scan.{whiteAt}
-use Rattle.json_tree.specs.Tree.{treeAt, Stands}
-use Rattle.json_tree.proofs.Whole.{text-stands, text-tree}
-use Rattle.policy.specs.Policy.{Policy, member, items, ruleIn, policyIn, treeJudgement, judgement, policyOfTree, policyOf}
+use Rattle.json_tree.specs.Tree.{treeAt}
+use Rattle.policy.specs.Policy.{Policy, member, items, ruleIn, policyIn, judgement, policyOf}
 use Rattle.policy_text.specs.Place.{placed}
 use Rattle.policy_text.specs.Answer.{checkOf}
-use Rattle.policy_text.specs.declared.check.Check.{Check}
 use Rattle.policy_text.specs.declared.check.Check.the-variants as check
+use Rattle.policy_text.proofs.Accepted.{refused-is, policy-is}
 use Rattle.rpc.specs.Request.{Request, badText, badHeaders, requestFault}
 use Rattle.rpc.specs.Verdict.{ruleMatches, firstFrom, allowed, decided, verdict}
 use Rattle.rpc.specs.Call.{request, verdictBy, unless, rpcVerdict}
@@ -76,49 +70,6 @@ unless-clear : (n : ℕ) (v : Verdict) → n ≡ 255 → unless n v ≡ v
 unfolding unless if_then_else_
 unless-clear n v h = rw (eq-eqb n 255 h)
 
-check-clear : (n : ℕ) → n ≡ 255 → checkOf n ≡ check.Accepted
-unfolding checkOf if_then_else_
-check-clear n h = rw (eq-eqb n 255 h)
-
-check-refused : (n : ℕ) → (n ≡ 255 → ⊥) → checkOf n ≡ check.Refused n
-unfolding checkOf if_then_else_
-check-refused n h = rw (ne-eqb n 255 h)
-
-refusal-is : {a b : ℕ} → check.Refused a ≡ check.Refused b → a ≡ b
-refusal-is e = cc
-
-not-both : {n : ℕ} {X : Type 0} → check.Accepted ≡ check.Refused n → X
-not-both e = let z : _≡_ {A = ℕ} 0 1 = cc in absurd (omega arith)
-
-pub accepted-clear : (n : ℕ) → check.Accepted ≡ checkOf n → n ≡ 255
-accepted-clear n h = by (eqb n 255) (λ t. eqb-true _ _ t) (λ t. not-both (h ∙ check-refused n (eqb-false _ _ t)))
-
--- an accepted text
-module _ (policy : Str) (c : judgement policy ≡ 255) where
-  long-open : judgement policy ≡ (if ltb 16384 (length policy) then 30 else treeJudgement (parse policy))
-  unfolding judgement
-  long-open = refl
-
-  tree-clear : treeJudgement (parse policy) ≡ 255
-  unfolding if_then_else_
-  tree-clear = by (ltb 16384 (length policy)) (λ t. let z : _≡_ {A = ℕ} 30 255 = (rw t at (sym long-open)) ∙ c in absurd (omega arith)) (λ t. (rw t at (sym long-open)) ∙ c)
-
-  json-clear : (o : Option Json) → treeJudgement o ≡ 255 → answered o ≡ true
-  unfolding treeJudgement answered
-  json-clear none e = absurd (omega (arith, e))
-  json-clear (some j) e = refl
-
-  is-json : answered (parse policy) ≡ true
-  is-json = json-clear (parse policy) tree-clear
-
-  module _ (i : ℕ) (w : i ≡ whiteAt policy 0) where
-    pub policy-stands : Stands 16 policy i
-    policy-stands = rw w (text-stands policy is-json)
-
-    policy-is : policyOf policy ≡ some (policyIn (treeAt 16 policy i))
-    unfolding policyOf policyOfTree if_then_else_
-    policy-is = rw (eq-eqb (judgement policy) 255 c, text-tree policy is-json, w)
-
 by-policy : (p : Policy) (r : Request) → verdictBy (some p) r ≡ verdict p r
 unfolding verdictBy
 by-policy p r = refl
@@ -129,9 +80,7 @@ module _ (policy identity path headers : Str) where
   call-open = refl
 
   pub policy-refused : (n : ℕ) → check.Refused n ≡ checkOf (judgement policy) → Refused n ≡ rpcVerdict policy identity path headers
-  policy-refused n h =
-      by (eqb (judgement policy) 255) (λ t. not-both (sym (h ∙ check-clear _ (eqb-true _ _ t))))
-      (λ t. let z = eqb-false (judgement policy) 255 t in ap Refused (refusal-is (h ∙ check-refused _ z)) ∙ sym (call-open ∙ unless-refused _ _ z))
+  policy-refused n h = let z = refused-is n (judgement policy) h in ap Refused (z .0) ∙ sym (call-open ∙ unless-refused _ _ (z .1))
 
   module _ (c : judgement policy ≡ 255) where
     pub request-refused : (n : ℕ) → n ≡ requestFault identity path headers → (n ≡ 255 → ⊥) → Refused n ≡ rpcVerdict policy identity path headers

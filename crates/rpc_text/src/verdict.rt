@@ -17,7 +17,7 @@ fn verdict_at(s: &[u8], i: usize, identity: &[u8], path: &[u8], headers: &[u8]) 
 {
     let mut last = [8192u16; 256];
     let mut before = [0u16; 2731];
-    rpc::index::index_lines(headers, &mut last, &mut before);
+    rpc_request::index::index_lines(headers, &mut last, &mut before);
     let mut out = [0u8; 8192];
     let d = policy_text::place::member_at(s, i, b"deny_rules", 16);
     let denied = crate::rule::first_rule(s, d, identity, path, headers, &last, &before, &mut out);
@@ -40,7 +40,7 @@ pub fn rpc_verdict(policy: &[u8], identity: &[u8], path: &[u8], headers: &[u8]) 
     if let Check::Refused(number) = c {
         return Verdict::Refused(number);
     }
-    let number = rpc::request::request_fault(identity, path, headers);
+    let number = rpc_request::request::request_fault(identity, path, headers);
     if number != 255 {
         return Verdict::Refused(number);
     }

@@ -1,5 +1,4 @@
 // The commands on rule tables and paths.
-pub mod answer;
 pub mod explanation;
 pub mod paths;
 pub mod tables;

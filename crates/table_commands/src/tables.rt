@@ -20,7 +20,7 @@ pub fn check(text: &[u8]) {
             console::say::count(b"members ", members);
             console::say::count(b"rules ", rules);
         }
-        Rows::Refused { number, line } => console::refusal::table(text, number, line),
+        Rows::Refused { number, line } => console::refusal::of_text(text, number, line),
     }
 }
 
@@ -59,7 +59,7 @@ pub fn groups(text: &[u8], user: &[u8]) {
             list(text, user);
         }
         Counted::NoGroup => show::line(b"groups 0"),
-        Counted::Declined { number, line } => console::refusal::table(text, number, line),
+        Counted::Declined { number, line } => console::refusal::of_text(text, number, line),
     }
 }
 
@@ -72,7 +72,7 @@ fn id(text: &[u8], rule: RuleNumber) {
 // The action, and the deciding rule's number and id.
 pub fn verdict(text: &[u8], user: &[u8], mode: u32, origin: &[u8], path: &[u8]) {
     let a = verdicts::path_verdict(text, user, mode, origin, path);
-    crate::answer::path(a);
+    answers::path(a);
     match a {
         PathAnswer::Permit(rule) => id(text, rule),
         PathAnswer::Deny(rule) => id(text, rule),
@@ -84,7 +84,7 @@ pub fn verdict(text: &[u8], user: &[u8], mode: u32, origin: &[u8], path: &[u8]) 
 // The tree answer, and the number and id of the rule that MIXED names.
 pub fn tree(text: &[u8], user: &[u8], mode: u32, origin: &[u8], path: &[u8]) {
     let a = verdicts::tree_verdict(text, user, mode, origin, path);
-    crate::answer::tree(a);
+    answers::tree(a);
     match a {
         TreeAnswer::All => (),
         TreeAnswer::None => (),

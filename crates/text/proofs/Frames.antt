@@ -1,12 +1,13 @@
 -- Reading strings and runs of things in a frame, one step at a time.
 use mathlib.Core.Path.{_≡_, refl, sym, ap, _∙_, subst}
 use mathlib.Core.Bool.{Bool, true, false}
-use mathlib.Core.List.{List, [], _∷_}
+use mathlib.Core.List.{List, [], _∷_, _++_}
 use Prim.Native.Nat.{ℕ, zero, suc, _+_, _-_, _≤_, _<_}
 use native.Mathlib.Omega.{arith}
 use borrow.Author.Tests.{ltb-true, ltb-false, leb-true, leb-false, lt-ltb, le-ltb, le-leb, lt-leb}
 use lib.Dec.{ltb, leb}
-use lib.ListN.{length, take, drop, getD}
+use lib.ListN.{length, take, drop, getD, length-drop}
+use lib.Seq.{take-append-le, drop-append-le}
 use Rattle.text.specs.Test.{if_then_else_}
 use Rattle.text.specs.String.{Str}
 use Rattle.text.specs.Frame.{Parsed, got, unread, andThen, Reader, _>>=_, ret, byte, part, run, string, times, endOf}
@@ -35,6 +36,14 @@ module _ (f : List ℕ) (at : ℕ) where
   pub string-unread : at < length f → length f - (at + 1) < getD f at 0 → string f at ≡ unread
   unfolding string _>>=_ run if_then_else_
   string-unread h k = rw (byte-got h, lt-leb _ _ k)
+
+-- no bytes
+pub no-part : (f : List ℕ) (a : ℕ) → part f a a ≡ []
+no-part f a = let q : a - a ≡ 0 = omega arith in rw q
+
+-- bytes that follow change no part
+pub part-front : (f g : List ℕ) (a b : ℕ) → a ≤ length f → b ≤ length f → part (f ++ g) a b ≡ part f a b
+part-front f g a b p q = let h : b - a ≤ length (drop a f) = omega (arith, length-drop a f) in rw (drop-append-le a f g p, take-append-le (b - a) (drop a f) g h)
 
 -- what is known of a string that was read
 abbrev Told : List ℕ → ℕ → Parsed Str → Type 0

@@ -80,11 +80,27 @@ unfolding _or_
 or-none true = refl
 or-none false = refl
 
+pub none-or : (a : Bool) → (false or a) ≡ a
+unfolding _or_
+none-or a = refl
+
+pub or-swap : (p q r t : Bool) → ((p or q) or (r or t)) ≡ ((p or r) or (q or t))
+unfolding _or_
+or-swap true q r t = refl
+or-swap false true true t = refl
+or-swap false true false t = refl
+or-swap false false r t = refl
+
 -- the library's `||` and `&&`, which byte tests and programs use
 pub or-join : (a b c : Bool) → (a or (b or c)) ≡ ((a || b) or c)
 unfolding _or_
 or-join true b c = refl
 or-join false b c = refl
+
+pub and-join : (a b c : Bool) → (a and (b and c)) ≡ ((a && b) and c)
+unfolding _and_
+and-join true b c = refl
+and-join false b c = refl
 
 pub and-left : (s t : Bool) → (s && t) ≡ true → s ≡ true
 and-left true t e = refl
@@ -114,9 +130,17 @@ same-refl (x ∷ xs) = both _ _ (eq-eqb x x refl) (same-refl xs)
 pub ≡→same : {xs ys : Str} → xs ≡ ys → same xs ys ≡ true
 ≡→same {xs} e = rw (← e) (same-refl xs)
 
+pub same-sym : (a b : Str) → same a b ≡ same b a
+same-sym a b = bool-ext _ _ (λ e. ≡→same (sym (same→≡ a b e))) (λ e. ≡→same (sym (same→≡ b a e)))
+
 -- ---- lists
 
 module _ {A : Type 0} where
+  pub any-or : (f g : A → Bool) (l : List A) → any (λ y. f y or g y) l ≡ (any f l or any g l)
+  unfolding any _or_
+  any-or f g [] = refl
+  any-or f g (x ∷ l) = ap (λ (t : Bool). (f x or g x) or t) (any-or f g l) ∙ or-swap (f x) (g x) (any f l) (any g l)
+
   -- what holds of the first and of the others holds of all
   pub on-cons : (P : A → Type 0) {x : A} {xs : List A} → P x → ((y : A) → y ∈ xs → P y) → (y : A) → y ∈ x ∷ xs → P y
   on-cons P p h y (List·Memᴰ·head e) = subst P (sym e) p

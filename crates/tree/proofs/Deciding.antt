@@ -11,12 +11,13 @@ use borrow.Author.Tests.{lt-ltb}
 use lib.ListN.{length, getD}
 use Rattle.text.specs.Test.{_and_, _∈_}
 use Rattle.text.proofs.Tests.{clash, and-l, and-r, both}
+use Rattle.text.proofs.Order.{more-other}
 use Rattle.path.specs.Path.{Path}
 use Rattle.table.specs.Table.{Rule}
 use Rattle.verdict.specs.Join.{coversBoth}
 use Rattle.verdict.specs.Order.{better, Numbered, choose, rank}
 use Rattle.verdict.specs.Verdict.{action}
-use Rattle.verdict.proofs.Order.{better-order, better-rank, more-other, rank-permit}
+use Rattle.verdict.proofs.Order.{better-order, better-rank, rank-permit}
 use Rattle.verdict.proofs.Choose.{Wins, Chosen, chosen}
 use Rattle.verdict.proofs.Paths.{covers-both, covers-join-left}
 use Rattle.place.specs.Place.{pathIn}

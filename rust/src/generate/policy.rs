@@ -281,6 +281,45 @@ fn padded_rule(number: usize) -> Rule {
     }
 }
 
+/// The order in which an object's member names are written.
+#[derive(Clone, Copy, Debug)]
+pub enum Names {
+    Rising,
+    Falling,
+    Shuffled,
+}
+
+/// An object of at most `len` bytes with as many members as fit, no name twice: no policy,
+/// but all of its names have to be compared to tell.
+pub fn object_of_members(len: usize, order: Names) -> Bytes {
+    let bytes = || (b' '..=b'~').filter(|byte| !br#""\,"#.contains(byte));
+    let mut names = vec![Bytes::new()];
+    names.extend(bytes().map(|byte| vec![byte]));
+    names.extend(bytes().flat_map(|first| bytes().map(move |second| vec![first, second])));
+    let mut room = len - b"{}".len() + b",".len();
+    names.retain(|name| {
+        let member = name.len() + br#""":0,"#.len();
+        let fits = member <= room;
+        room -= if fits { member } else { 0 };
+        fits
+    });
+    names.sort();
+    match order {
+        Names::Rising => {}
+        Names::Falling => names.reverse(),
+        Names::Shuffled => Random::new(0x32).shuffle(&mut names),
+    }
+    let members: Vec<Bytes> = names.iter().map(|name| [br#"""#, &name[..], br#"":0"#].concat()).collect();
+    [b"{", &members.join(&b',')[..], b"}"].concat()
+}
+
+/// An object of at most `len` bytes like that, the innermost of `levels` objects.
+pub fn nested_object(len: usize, levels: usize) -> Bytes {
+    let (open, close) = (br#"{"a":"#.repeat(levels - 1), b"}".repeat(levels - 1));
+    let inside = object_of_members(len - open.len() - close.len(), Names::Shuffled);
+    [open, inside, close].concat()
+}
+
 /// A policy full of headers that are not carried, for a request with many header lines:
 /// each of them has to be looked for in every line.
 pub fn policy_of_headers() -> Bytes {

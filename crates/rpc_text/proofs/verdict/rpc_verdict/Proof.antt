@@ -1,7 +1,8 @@
 -- `rpc_verdict` equals its definition.
 use borrow.Author.Needs.{needs}
 use mathlib.Core.Path.{sym, _∙_}
-use Rattle.rpc_text.proofs.Answers.{accepted-clear, policy-refused, request-refused, policy-stands, request-judged, headers-good}
+use Rattle.policy_text.proofs.Accepted.{accepted-clear, policy-stands}
+use Rattle.rpc_text.proofs.Answers.{policy-refused, request-refused, request-judged, headers-good}
 use Rattle.rpc_text.proofs.verdict.rpc_verdict.Statement.{statement}
 use Rattle.rpc_text.proofs.verdict.rpc_verdict.Tie as tie
 

@@ -1,0 +1,339 @@
+-- The header lines by bucket: one turn of each loop, and each way out of it.
+use mathlib.Core.Path.{_≡_, refl, sym, ap, _∙_, subst}
+use mathlib.Core.Bool.{true, false}
+use mathlib.Core.List.{List, [], _∷_, _++_}
+use mathlib.Core.Option.{Option, none, some}
+use Prim.Native.Nat.{ℕ, suc, _+_, _-_, _/_, _≤_, _<_}
+use native.Mathlib.Omega.{arith}
+use lib.Dec.{eqb, ltb}
+use lib.ListN.{length, take, drop, getD, set, length-set, length-drop, drop-of-length-le}
+use lib.Seq.{take-all, drop-at, drop-drop, length-take-le, getD-set-same, getD-set-other}
+use borrow.Author.Tests.{eqb-true, eqb-false, ltb-true, ltb-false, lt-ltb, le-ltb}
+use Rattle.text.specs.Test.{_and_, if_then_else_, only}
+use Rattle.text.specs.String.{Str}
+use Rattle.text.specs.Frame.{part}
+use Rattle.text.specs.Fill.{put, Wrote}
+use Rattle.text.proofs.Tests.{by, clash}
+use Rattle.text.proofs.Frames.{no-part}
+use Rattle.text.proofs.Filling.{wrote-long}
+use Rattle.policy.specs.Text.{empty}
+use Rattle.rpc.specs.Request.{Line, longer, cutAt, lineOf, cons, linesOf, headersOf, readable, badHeaders, joined, valuesOf, headerValue}
+use Rattle.rpc.specs.Call.{written}
+use Rattle.rpc_request.specs.Steps.{cutHere, Cut, commaed, lineValue}
+use Rattle.rpc_request.specs.Index.{bucketOf, inBucket, LineAt, Chain, stop, link, onto, Indexed}
+use Rattle.rpc_request.proofs.Lines.{part-long, here-some, here-none, fueled, read-is, Reading, reading-on, lines-cut, lines-uncut, lines-bad, lines-on, lines-over, headers-short, headers-read}
+use Rattle.rpc_request.proofs.Values.{gather, gather-nil, gather-cons, gathered, one-bucket, commaed-nil, commaed-append, joined-is, line-value}
+
+-- ---- bucket
+
+pub bucket-empty : (s : Str) → length s ≡ 0 → 0 ≡ bucketOf s
+unfolding bucketOf
+bucket-empty [] e = refl
+bucket-empty (c ∷ s) e = absurd (omega (arith, e))
+
+-- ---- the line at a position
+
+no-line : {x : Line} → none ≡ some x → ⊥
+no-line e = let z : _≡_ {A = ℕ} 0 1 = cc in omega arith
+
+line-two : (s : Str) (x : Line) → lineOf (cutAt 58 s) ≡ some x → 2 ≤ length s
+unfolding lineOf cutAt longer if_then_else_ empty _and_
+line-two [] x e = absurd (no-line e)
+line-two (c ∷ []) x e = by (eqb c 58) (λ t. absurd (no-line (rw t at e))) (λ t. absurd (no-line (rw t at e)))
+line-two (c ∷ d ∷ s) x e = omega arith
+
+line-long : (h : Str) (p e : ℕ) (x : Line) → LineAt h p e x → p + 2 ≤ e
+line-long h p e x a = let w = line-two (part h p e) x (a .is) in let z = part-long h p e (a .cut .high) in omega arith
+
+-- how long a cut is; d where there is none
+abbrev cutLength : ℕ → Option (Str × Str) → ℕ
+cutLength d none = d
+cutLength d (some r) = length (r .0)
+
+here-long : (h : Str) (i e : ℕ) → i ≤ e → e ≤ length h → cutLength (length h - i) (cutHere h i e) ≡ e - i
+here-long h i e l k =
+    by (ltb e (length h))
+    (λ t. ap (cutLength (length h - i)) (here-some h i e (ltb-true _ _ t)) ∙ part-long h i e k)
+    (λ t. let z = ltb-false e (length h) t in ap (cutLength (length h - i)) (here-none h i e z) ∙ omega arith)
+
+-- a cut is at one place only
+cut-same : (b : ℕ) (h : Str) (i e f : ℕ) → Cut b h i e → Cut b h i f → e ≡ f
+cut-same b h i e f x y =
+    let z : e - i ≡ f - i = sym (here-long h i e (x .low) (x .high)) ∙ ap (cutLength (length h - i)) (sym (x .is) ∙ y .is) ∙ here-long h i f (y .low) (y .high) in
+    omega (arith, z, x .low, y .low)
+
+-- ---- chains
+
+third-other : (p i : ℕ) → p + 3 ≤ i → p / 3 ≡ i / 3 → ⊥
+third-other p i l e = omega (arith, e)
+
+pub third-small : (i : ℕ) → i < 8192 → i / 3 < 2731
+third-small i l = omega arith
+
+-- a link that is set above a chain is no part of it
+chain-set : (h before : Str) (i v : ℕ) {top p : ℕ} {l : List Line} → Chain h before top p l → top ≤ i → Chain h (set before (i / 3) v) top p l
+chain-set h before i v (stop q) t = stop q
+chain-set h before i v (link {p = p} {e = e} {x = x} {l = l} a k c) t =
+    let w = line-long h p e x a in
+    link a k (subst (λ (q : ℕ). Chain h (set before (i / 3) v) p q l) (sym (getD-set-other before (i / 3) (p / 3) v 0 (third-other p i (omega arith)))) (chain-set h before i v c (omega arith)))
+
+chain-under : (h before : Str) {top to p : ℕ} {l : List Line} → Chain h before top p l → top ≤ to → Chain h before to p l
+chain-under h before (stop q) t = stop q
+chain-under h before {to = to} (link {e = e} a k c) t = let z : e < to = omega arith in link a z c
+
+-- ---- index_lines
+
+written-some : (l : List Line) → written (some l) ≡ l
+unfolding written
+written-some l = refl
+
+cons-some : (a : Line) (l : List Line) → cons (some a) (some l) ≡ some (a ∷ l)
+unfolding cons
+cons-some a l = refl
+
+onto-nil : (r : List Line) → onto [] r ≡ r
+unfolding onto
+onto-nil r = refl
+
+onto-cons : (x : Line) (l r : List Line) → onto (x ∷ l) r ≡ onto l (x ∷ r)
+unfolding onto
+onto-cons x l r = refl
+
+module _ (b : ℕ) where
+  only-nil : only (inBucket b) [] ≡ []
+  unfolding only
+  only-nil = refl
+
+  only-in : (x : Line) (l : List Line) → inBucket b x ≡ true → only (inBucket b) (x ∷ l) ≡ x ∷ only (inBucket b) l
+  unfolding only if_then_else_
+  only-in x l t = rw t
+
+  only-out : (x : Line) (l : List Line) → inBucket b x ≡ false → only (inBucket b) (x ∷ l) ≡ only (inBucket b) l
+  unfolding only if_then_else_
+  only-out x l t = rw t
+
+  bucket-is : (x : Line) → inBucket b x ≡ true → bucketOf (x .name) ≡ b
+  unfolding inBucket
+  bucket-is x t = eqb-true _ _ t
+
+  bucket-not : (x : Line) → inBucket b x ≡ false → bucketOf (x .name) ≡ b → ⊥
+  unfolding inBucket
+  bucket-not x t = eqb-false _ _ t
+
+-- the lines before i are in the chains
+pub record Indexing (h last before : Str) (i : ℕ) : Type 0 where
+  pub fuel : ℕ
+  pub reading : Reading h i fuel
+  pub good : readable (linesOf fuel (drop i h)) ≡ true
+  pub back : List Line
+  pub is : written (headersOf h) ≡ onto back (written (linesOf fuel (drop i h)))
+  pub buckets : length last ≡ 256
+  pub places : length before ≡ 2731
+  pub chains : (b : ℕ) → b < 256 → Chain h before i (getD last b 0) (only (inBucket b) back)
+
+pub indexing-start : (h last before : Str) → badHeaders h ≡ false → length last ≡ 256 → length before ≡ 2731 → ((b : ℕ) → b < 256 → getD last b 0 ≡ 8192) → Indexing h last before 0
+indexing-start h last before g a b q = record {
+  fuel = length h;
+  reading = record { inside = omega arith; enough = omega arith };
+  good = headers-read h g;
+  back = [];
+  is = sym (onto-nil _);
+  buckets = a;
+  places = b;
+  chains = λ n l. subst (Chain h before 0 (getD last n 0)) (sym (only-nil n)) (stop (let s = headers-short h g in let z = q n l in omega arith));
+}
+
+module _ (h last before : Str) (i e : ℕ) (l : i < length h) (k : Cut 10 h i e) (j : Indexing h last before i) where
+  turn : (g : ℕ) × (Reading h i (suc g)) × (readable (linesOf (suc g) (drop i h)) ≡ true) × (written (headersOf h) ≡ onto (j .back) (written (linesOf (suc g) (drop i h))))
+  turn =
+      let f = fueled h i e l k (j .fuel) (j .reading) in
+      let q = f .1 in
+      (f .0, subst (Reading h i) q (j .reading), ap (λ (n : ℕ). readable (linesOf n (drop i h))) (sym q) ∙ j .good, j .is ∙ ap (λ (n : ℕ). onto (j .back) (written (linesOf n (drop i h)))) q)
+
+  pub indexing-cut : e < length h
+  indexing-cut = let t = turn in by (ltb e (length h)) (λ z. ltb-true _ _ z) (λ z. clash (t .2) (lines-uncut h i e (t .0) l k (let x = ltb-false e (length h) z in let y = k .high in omega arith)))
+
+  pub indexing-line : readable (lineOf (cutAt 58 (part h i e))) ≡ true
+  indexing-line = let t = turn in by (readable (lineOf (cutAt 58 (part h i e)))) (λ z. z) (λ z. clash (t .2) (lines-bad h i e (t .0) l k indexing-cut z))
+
+  lines-rest : (x : Line) → lineOf (cutAt 58 (part h i e)) ≡ some x → (g : ℕ) → readable (linesOf (suc g) (drop i h)) ≡ true
+      → (readable (linesOf g (drop (e + 1) h)) ≡ true) × (written (linesOf (suc g) (drop i h)) ≡ x ∷ written (linesOf g (drop (e + 1) h)))
+  lines-rest x q g r =
+      let a = sym (lines-on h i e g l k indexing-cut indexing-line) ∙ r in
+      let o = read-is _ a in
+      (a, ap written (lines-cut h i e g l k indexing-cut ∙ ap (λ (z : Option Line). cons z (linesOf g (drop (e + 1) h))) q ∙ ap (cons (some x)) (o .1) ∙ cons-some x (o .0)) ∙ written-some _ ∙ ap (λ (z : List Line). x ∷ z) (sym (written-some _) ∙ ap written (sym (o .1))))
+
+  pub third-place : length h ≤ 8192 → i / 3 < length before
+  third-place s = let z = third-small i (omega arith) in omega (arith, j .places)
+
+  module _ (b : ℕ) (small : b < 256) (named : (x : Line) → lineOf (cutAt 58 (part h i e)) ≡ some x → b ≡ bucketOf (x .name)) (short : length h ≤ 8192) where
+    abbrev last′ : Str
+    last′ = set last b i
+
+    abbrev before′ : Str
+    before′ = set before (i / 3) (getD last b 0)
+
+    chains-on : (x : Line) → lineOf (cutAt 58 (part h i e)) ≡ some x → (n : ℕ) → n < 256 → Chain h before′ (e + 1) (getD last′ n 0) (only (inBucket n) (x ∷ j .back))
+    chains-on x q n s =
+        let low = k .low in
+        by (inBucket n x)
+        (λ t.
+        let z : n ≡ b = sym (named x q ∙ bucket-is n x t) in
+        let w : getD last′ n 0 ≡ i = ap (λ (m : ℕ). getD last′ m 0) z ∙ getD-set-same last b i 0 (omega (arith, j .buckets)) in
+        let v : getD before′ (i / 3) 0 ≡ getD last n 0 = getD-set-same before (i / 3) (getD last b 0) 0 (third-place short) ∙ ap (λ (m : ℕ). getD last m 0) (sym z) in
+        let c : Chain h before′ i (getD before′ (i / 3) 0) (only (inBucket n) (j .back)) = subst (λ (m : ℕ). Chain h before′ i m (only (inBucket n) (j .back))) (sym v) (chain-set h before i (getD last b 0) (j .chains n s) (omega arith)) in
+        subst (Chain h before′ (e + 1) (getD last′ n 0)) (sym (only-in n x (j .back) t)) (subst (λ (m : ℕ). Chain h before′ (e + 1) m (x ∷ only (inBucket n) (j .back))) (sym w) (link (record { cut = k; inside = indexing-cut; is = q }) (omega arith) c)))
+        (λ t.
+        let w : getD last′ n 0 ≡ getD last n 0 = getD-set-other last b n i 0 (λ z. bucket-not n x t (sym (named x q) ∙ sym z)) in
+        subst (Chain h before′ (e + 1) (getD last′ n 0)) (sym (only-out n x (j .back) t)) (subst (λ (m : ℕ). Chain h before′ (e + 1) m (only (inBucket n) (j .back))) (sym w) (chain-under h before′ (chain-set h before i (getD last b 0) (j .chains n s) (omega arith)) (omega arith))))
+
+    pub indexing-on : Indexing h last′ before′ (e + 1)
+    indexing-on =
+        let t = turn in
+        let x = read-is _ indexing-line in
+        let r = lines-rest (x .0) (x .1) (t .0) (t .2) in
+        record {
+          fuel = t .0;
+          reading = reading-on h i e (t .0) (t .1) (k .low) indexing-cut;
+          good = r .0;
+          back = x .0 ∷ j .back;
+          is = t .3 ∙ ap (onto (j .back)) (r .1) ∙ sym (onto-cons (x .0) (j .back) _);
+          buckets = length-set last b i ∙ j .buckets;
+          places = length-set before (i / 3) (getD last b 0) ∙ j .places;
+          chains = chains-on (x .0) (x .1);
+        }
+
+pub indexing-done : (h last before : Str) (i : ℕ) → badHeaders h ≡ false → Indexing h last before i → length h ≤ i → Indexed h last before
+indexing-done h last before i g j l = record {
+  back = j .back;
+  is = j .is ∙ ap (onto (j .back)) (ap written (lines-over h i (j .fuel) l) ∙ written-some []);
+  short = headers-short h g;
+  buckets = j .buckets;
+  places = j .places;
+  chains = λ b s. chain-under h before (j .chains b s) (j .reading .inside);
+}
+
+-- ---- header_value
+
+-- the lines from p on are still to be gathered; the values of those after them are stored from `at` on, each after a comma
+pub record Gathering (key h before out : Str) (p at : ℕ) : Type 0 where
+  pub top : ℕ
+  pub left : List Line
+  pub got : List Str
+  pub chain : Chain h before top p left
+  pub is : valuesOf key (written (headersOf h)) ≡ gather key left got
+  pub stored : drop at out ≡ commaed got
+  pub low : top ≤ length h
+  pub high : at ≤ length out
+  pub room : length out + top ≤ at + length h
+
+pub gathering-start : (key h last before out : Str) (b : ℕ) → Indexed h last before → b ≡ bucketOf key → b < 256 → Gathering key h before out (getD last b 0) (length out)
+gathering-start key h last before out b x q s = record {
+  top = length h;
+  left = only (inBucket b) (x .back);
+  got = [];
+  chain = x .chains b s;
+  is = ap (valuesOf key) (x .is) ∙ gathered key (x .back) ∙ one-bucket key b (sym q) (x .back) [];
+  stored = let z : length out ≤ length out = omega arith in drop-of-length-le out z ∙ sym commaed-nil;
+  low = omega arith;
+  high = omega arith;
+  room = omega arith;
+}
+
+-- what falls from turn to turn
+unfoldable pub steps : Str → ℕ → ℕ
+steps h p = if ltb p (length h) then suc p else 0
+
+-- the line at p
+pub record Linked (key h before out : Str) (p e at : ℕ) : Type 0 where
+  pub line : Line
+  pub rest : List Line
+  pub got : List Str
+  pub top : ℕ
+  pub stands : LineAt h p e line
+  pub under : e < top
+  pub chain : Chain h before p (getD before (p / 3) 0) rest
+  pub is : valuesOf key (written (headersOf h)) ≡ gather key (line ∷ rest) got
+  pub stored : drop at out ≡ commaed got
+  pub low : top ≤ length h
+  pub high : at ≤ length out
+  pub room : length out + top ≤ at + length h
+
+module _ (key h before out : Str) (p at e : ℕ) (l : p < length h) (k : Cut 10 h p e) where
+  linked-chain : {top : ℕ} {left : List Line} (got : List Str) → Chain h before top p left → valuesOf key (written (headersOf h)) ≡ gather key left got → drop at out ≡ commaed got → top ≤ length h → at ≤ length out → length out + top ≤ at + length h → Linked key h before out p e at
+  linked-chain got (stop q) is s a b c = absurd (omega arith)
+  linked-chain {top = top} got (link {e = f} {x = x} {l = r} o u c) is s a b d =
+      let z = cut-same 10 h p f e (o .cut) k in
+      record { line = x; rest = r; got = got; top = top; stands = subst (λ (m : ℕ). LineAt h p m x) z o; under = omega arith; chain = c; is = is; stored = s; low = a; high = b; room = d }
+
+  pub linked : Gathering key h before out p at → Linked key h before out p e at
+  linked g = linked-chain (g .got) (g .chain) (g .is) (g .stored) (g .low) (g .high) (g .room)
+
+  read-known : {x : Line} {o : Option Line} → o ≡ some x → readable o ≡ true
+  unfolding readable
+  read-known q = rw q
+
+  module _ (g : Linked key h before out p e at) where
+    pub linked-line : readable (lineOf (cutAt 58 (part h p e))) ≡ true
+    linked-line = read-known (g .stands .is)
+
+    pub linked-long : length (part h p e) ≡ e - p
+    linked-long = part-long h p e (k .high)
+
+    pub linked-room : length h ≤ length out → length (part h p e) ≤ at
+    linked-room w = omega (arith, linked-long, g .room, g .under, g .low)
+
+    pub linked-place : length h ≤ 8192 → length before ≡ 2731 → p / 3 < length before
+    linked-place s q = let z = third-small p (omega arith) in omega (arith, q)
+
+    -- a chain falls
+    chain-falls : {q : ℕ} {r : List Line} → Chain h before p q r → steps h q < suc p
+    unfolding steps if_then_else_
+    chain-falls {q = q} (stop x) = rw (le-ltb q (length h) x) (omega arith)
+    chain-falls {q = q} (link o u c) = let y = o .cut .low in let z = o .inside in rw (lt-ltb q (length h) (omega arith)) (omega arith)
+
+    pub steps-fall : steps h (getD before (p / 3) 0) < steps h p
+    unfolding steps if_then_else_
+    steps-fall = rw (lt-ltb p (length h) l) (chain-falls (g .chain))
+
+    module _ (out′ : Str) (to : ℕ) (w : Wrote out to (lineValue key (part h p e)) out′ at) (near : at ≤ to + length (part h p e)) where
+      pub linked-kept : length out′ ≡ length out
+      linked-kept = wrote-long out to _ out′ at w (omega (arith, w .ends, g .high))
+
+      -- what was stored, and what stood after it
+      back-part : drop to out′ ≡ lineValue key (part h p e) ++ drop at out
+      unfolding put
+      back-part =
+          let a : length (take to out) ≡ to = length-take-le to out (omega (arith, w .ends, g .high)) in
+          ap (drop to) (w .same) ∙ drop-at (take to out) _ to a ∙ ap (λ (n : ℕ). lineValue key (part h p e) ++ drop n out) (sym (w .ends))
+
+      pub gathering-on : Gathering key h before out′ (getD before (p / 3) 0) to
+      gathering-on =
+          let n = linked-kept in
+          record {
+            top = p;
+            left = g .rest;
+            got = valuesOf key (g .line ∷ []) ++ g .got;
+            chain = g .chain;
+            is = g .is ∙ gather-cons key (g .line) (g .rest) (g .got);
+            stored = back-part ∙ ap (λ (v : Str). v ++ drop at out) (line-value key (part h p e) (g .line) (g .stands .is)) ∙ ap (λ (v : Str). commaed (valuesOf key (g .line ∷ [])) ++ v) (g .stored) ∙ sym (commaed-append (valuesOf key (g .line ∷ [])) (g .got));
+            low = omega arith;
+            high = omega (arith, w .ends, g .high);
+            room = omega (arith, near, linked-long, g .room, g .under, g .low);
+          }
+
+module _ (key h before out : Str) (p at : ℕ) (l : length h ≤ p) where
+  chain-over : {top : ℕ} {left : List Line} → Chain h before top p left → left ≡ []
+  chain-over (stop q) = refl
+  chain-over (link o u c) = absurd (omega (arith, o .inside, o .cut .low))
+
+  module _ (g : Gathering key h before out p at) where
+    value-is : headerValue key (written (headersOf h)) ≡ drop 1 (drop at out)
+    unfolding headerValue
+    value-is = ap joined (g .is ∙ ap (λ (m : List Line). gather key m (g .got)) (chain-over (g .chain)) ∙ gather-nil key (g .got)) ∙ joined-is (g .got) ∙ ap (drop 1) (sym (g .stored))
+
+    pub joined-empty : (end : ℕ) → at ≡ end → end ≡ length out → part out end end ≡ headerValue key (written (headersOf h))
+    joined-empty end z q = no-part out end ∙ sym (value-is ∙ ap (drop 1) (let y : length out ≤ at = omega arith in drop-of-length-le out y))
+
+    pub joined-value : (end : ℕ) → end ≡ length out → part out (at + 1) end ≡ headerValue key (written (headersOf h))
+    joined-value end q = take-all (end - (at + 1)) (drop (at + 1) out) (omega (arith, length-drop (at + 1) out)) ∙ sym (value-is ∙ drop-drop 1 at out)

@@ -1,0 +1,148 @@
+-- `index_lines` stores what its definition says. The invariant: the lines before i are in the chains.
+use borrow.Author.Needs.{needs}
+use native.Mathlib.Omega.{arith}
+use mathlib.Core.Path.{sym, _∙_}
+use Prim.Native.Nat.{_-_}
+use lib.ListN.{length}
+use Rattle.rpc_request.proofs.Lines.{headers-short}
+use Rattle.rpc_request.proofs.Chains.{Indexing, indexing-start, indexing-cut, indexing-line, third-place, indexing-on, indexing-done}
+use Rattle.rpc_request.proofs.index.index_lines.Statement.{statement}
+use Rattle.rpc_request.proofs.index.index_lines.Tie as tie
+
+abbrev Inv-loop : tie.InvT-loop
+Inv-loop h last₀ before₀ n i₀ last before i = Indexing h last before i
+
+abbrev μ-loop : tie.MeasureT-loop
+μ-loop h last₀ before₀ n i₀ last before i = length h - i
+
+loop-holds : tie.Need-loop-holds Inv-loop μ-loop
+loop-holds c =
+    let at-start = c .before .before .before in
+    indexing-start _ _ _ (at-start .pre .0) (at-start .pre .1) (at-start .pre .2) (at-start .pre .3)
+
+byte-from-requires : tie.Need-byte-from-requires Inv-loop μ-loop
+byte-from-requires c κs = search needs
+
+sub-line-bucket : tie.Need-sub-line-bucket Inv-loop μ-loop
+sub-line-bucket c = search needs
+
+part-line-bucket-start : tie.Need-part-line-bucket-start Inv-loop μ-loop
+part-line-bucket-start c = search needs
+
+part-line-bucket-end : tie.Need-part-line-bucket-end Inv-loop μ-loop
+part-line-bucket-end c = search needs
+
+line-bucket-requires : tie.Need-line-bucket-requires Inv-loop μ-loop
+line-bucket-requires c κs =
+    let at-byte-from = c .before .byte-from in
+    let at-loop-test = c .before .before .loop-test in
+    let at-loop = c .before .before .before .loop in
+    indexing-line _ _ _ _ _ (at-loop-test .taken) (at-byte-from .ensures) (at-loop .inv)
+
+mul-before : tie.Need-mul-before Inv-loop μ-loop
+mul-before c =
+    let at-line-bucket = c .line-bucket in
+    omega (arith, at-line-bucket .ensures .0)
+
+slice-read-before : tie.Need-slice-read-before Inv-loop μ-loop
+slice-read-before c =
+    let at-line-bucket = c .before .line-bucket in
+    let at-loop = c .before .before .before .before .before .loop in
+    omega (arith, at-line-bucket .ensures .0, at-loop .inv .buckets)
+
+mul-before-2 : tie.Need-mul-before-2 Inv-loop μ-loop
+mul-before-2 c =
+    let at-start = c .before .before .before .before .before .before .before .before .before in
+    omega (arith, headers-short _ (at-start .pre .0))
+
+slice-write-before : tie.Need-slice-write-before Inv-loop μ-loop
+slice-write-before c =
+    let at-byte-from = c .before .before .before .byte-from in
+    let at-loop-test = c .before .before .before .before .loop-test in
+    let at-loop = c .before .before .before .before .before .loop in
+    let at-start = c .before .before .before .before .before .before .before .before .before in
+    third-place _ _ _ _ _ (at-loop-test .taken) (at-byte-from .ensures) (at-loop .inv) (headers-short _ (at-start .pre .0))
+
+cast-last : tie.Need-cast-last Inv-loop μ-loop
+cast-last c =
+    let at-start = c .before .before .before .before .before .before .before .before .before in
+    omega (arith, headers-short _ (at-start .pre .0))
+
+mul-last : tie.Need-mul-last Inv-loop μ-loop
+mul-last c =
+    let at-line-bucket = c .before .line-bucket in
+    omega (arith, at-line-bucket .ensures .0)
+
+slice-write-last : tie.Need-slice-write-last Inv-loop μ-loop
+slice-write-last c =
+    let at-line-bucket = c .before .line-bucket in
+    let at-loop = c .before .before .before .before .before .loop in
+    omega (arith, at-line-bucket .ensures .0, at-loop .inv .buckets)
+
+add-i : tie.Need-add-i Inv-loop μ-loop
+add-i c =
+    let at-byte-from = c .before .before .before .byte-from in
+    let at-loop-test = c .before .before .before .before .loop-test in
+    let at-loop = c .before .before .before .before .before .loop in
+    omega (arith, indexing-cut _ _ _ _ _ (at-loop-test .taken) (at-byte-from .ensures) (at-loop .inv))
+
+loop-less : tie.Need-loop-less Inv-loop μ-loop
+loop-less c =
+    let at-byte-from = c .before .before .before .byte-from in
+    let at-loop-test = c .before .before .before .before .loop-test in
+    let at-loop = c .before .before .before .before .before .loop in
+    omega (arith, indexing-cut _ _ _ _ _ (at-loop-test .taken) (at-byte-from .ensures) (at-loop .inv), at-byte-from .ensures .low)
+
+loop-again : tie.Need-loop-again Inv-loop μ-loop
+loop-again c =
+    let at-line-bucket = c .before .line-bucket in
+    let at-byte-from = c .before .before .before .byte-from in
+    let at-loop-test = c .before .before .before .before .loop-test in
+    let at-loop = c .before .before .before .before .before .loop in
+    let at-start = c .before .before .before .before .before .before .before .before .before in
+    indexing-on _ _ _ _ _ (at-loop-test .taken) (at-byte-from .ensures) (at-loop .inv) _ (at-line-bucket .ensures .0) (at-line-bucket .ensures .1) (headers-short _ (at-start .pre .0))
+
+same-length : tie.Need-same-length Inv-loop μ-loop
+same-length c =
+    let at-loop = c .before .loop in
+    let at-start = c .before .before .before .before .before in
+    at-loop .inv .buckets ∙ sym (at-start .pre .1)
+
+same-length-2 : tie.Need-same-length-2 Inv-loop μ-loop
+same-length-2 c =
+    let at-loop = c .before .loop in
+    let at-start = c .before .before .before .before .before in
+    at-loop .inv .places ∙ sym (at-start .pre .2)
+
+returns : tie.Need-returns Inv-loop μ-loop
+returns c =
+    let at-loop-test = c .loop-test in
+    let at-loop = c .before .loop in
+    let at-start = c .before .before .before .before .before in
+    indexing-done _ _ _ _ (at-start .pre .0) (at-loop .inv) (at-loop-test .left)
+
+pub index-lines-spec : {M : Type 1} → statement M
+index-lines-spec =
+    tie.close
+    (tie.spec
+    Inv-loop
+    μ-loop
+    loop-holds
+    byte-from-requires
+    sub-line-bucket
+    part-line-bucket-start
+    part-line-bucket-end
+    line-bucket-requires
+    mul-before
+    slice-read-before
+    mul-before-2
+    slice-write-before
+    cast-last
+    mul-last
+    slice-write-last
+    add-i
+    loop-less
+    loop-again
+    same-length
+    same-length-2
+    returns)

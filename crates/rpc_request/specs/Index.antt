@@ -1,0 +1,46 @@
+-- The header lines by bucket: a chain of lines for each, from the last to the first.
+use mathlib.Core.Path.{_≡_}
+use mathlib.Core.Bool.{Bool}
+use mathlib.Core.List.{List, [], _∷_}
+use mathlib.Core.Option.{some}
+use Prim.Native.Nat.{ℕ, _+_, _-_, _*_, _/_, _%_, _≤_, _<_}
+use lib.Dec.{eqb}
+use lib.ListN.{length, getD}
+use Rattle.text.specs.Test.{only}
+use Rattle.text.specs.String.{Str}
+use Rattle.text.specs.Frame.{part}
+use Rattle.rpc.specs.Request.{Line, cutAt, lineOf, headersOf}
+use Rattle.rpc.specs.Call.{written}
+use Rattle.rpc_request.specs.Steps.{Cut}
+
+-- a number that equal names share
+unfoldable pub bucketOf : Str → ℕ
+bucketOf s = (length s % 256 + 3 * getD s 0 0 + 5 * getD s (length s / 2) 0 + 7 * getD s (length s - 1) 0) % 256
+
+unfoldable pub inBucket : ℕ → Line → Bool
+inBucket b x = eqb (bucketOf (x .name)) b
+
+-- the line x stands at p, and its LF at e
+pub record LineAt (h : Str) (p e : ℕ) (x : Line) : Type 0 where
+  pub cut : Cut 10 h p e
+  pub inside : e < length h
+  pub is : lineOf (cutAt 58 (part h p e)) ≡ some x
+
+-- the lines l, the last first, that `before` links from p on; the first of them ends before `top`
+pub data Chain (h before : Str) : ℕ → ℕ → List Line → Type 0 where
+  stop : {top p : ℕ} → length h ≤ p → Chain h before top p []
+  link : {top p e : ℕ} {x : Line} {l : List Line} → LineAt h p e x → e < top → Chain h before p (getD before (p / 3) 0) l → Chain h before top p (x ∷ l)
+
+-- l, the last first, in front of r
+unfoldable pub onto : List Line → List Line → List Line
+onto [] r = r
+onto (x ∷ l) r = onto l (x ∷ r)
+
+-- a chain for each bucket, from what `last` has for it
+pub record Indexed (h last before : Str) : Type 0 where
+  pub back : List Line
+  pub is : written (headersOf h) ≡ onto back []
+  pub short : length h ≤ 8192
+  pub buckets : length last ≡ 256
+  pub places : length before ≡ 2731
+  pub chains : (b : ℕ) → b < 256 → Chain h before (length h) (getD last b 0) (only (inBucket b) back)

@@ -1,0 +1,3 @@
+pub mod headers;
+pub mod index;
+pub mod request;

@@ -1,0 +1,29 @@
+// 40 and 41: whether a request can be judged.
+ghost use mathlib.Core.Path.{_≡_};
+ghost use Rattle.rpc.specs.Request.{badText, requestFault};
+
+// 40, for the identity or the path.
+fn is_bad_text(t: &[u8]) -> bool
+    ensures { λ r. ⌜ r ≡ badText (now (t .entry)) ⌝ }
+{
+    if 256 < t.len() {
+        return true;
+    }
+    !text::string::all_print(t)
+}
+
+// The refusal number of a request; 255 where there is none.
+pub fn request_fault(identity: &[u8], path: &[u8], headers: &[u8]) -> u8
+    ensures { λ r. ⌜ r ≡ requestFault (now (identity .entry)) (now (path .entry)) (now (headers .entry)) ⌝ }
+{
+    if is_bad_text(identity) {
+        return 40;
+    }
+    if is_bad_text(path) {
+        return 40;
+    }
+    if crate::headers::is_bad_headers(headers) {
+        return 41;
+    }
+    255
+}

@@ -1,0 +1,4 @@
+pub mod Strings
+pub mod Places
+pub mod Inserting
+pub mod Growing
