@@ -10,7 +10,7 @@ use lib.ListN.{length, getD, set, length-append, length-set}
 use lib.Seq.{getD-set-same, getD-set-other}
 use Rattle.text.specs.Test.{_or_, if_then_else_, any}
 use Rattle.text.specs.String.{Str, same, before}
-use Rattle.text.proofs.Tests.{by, clash, same→≡, or-l, or-assoc, or-none}
+use Rattle.text.proofs.Tests.{by, clash, same→≡, or-l, or-assoc}
 use Rattle.sorted.specs.Spans.{spanIn, Inside, nth, stringsOf, Sorted, Placed, Sought, inserted}
 use Rattle.sorted.specs.declared.Found.{Found}
 use Rattle.sorted.proofs.Strings.{span-longer, strings-longer, sorted-longer, sought-longer}
@@ -91,19 +91,25 @@ none-or : (b : Bool) → (false or b) ≡ b
 unfolding _or_
 none-or b = refl
 
-any-snoc : (y : Str) (xs : List Str) (x : Str) → any (same y) (xs ++ (x ∷ [])) ≡ (any (same y) xs or same y x)
-unfolding any
-any-snoc y [] x = or-none (same y x) ∙ sym (none-or (same y x))
-any-snoc y (z ∷ xs) x = ap (λ (t : Bool). same y z or t) (any-snoc y xs x) ∙ sym (or-assoc (same y z) (any (same y) xs) (same y x))
-
--- a or (s or m) with s last
-or-last : (a s m : Bool) → (a or (s or m)) ≡ ((a or m) or s)
+-- the order of two
+or-turn : (a b : Bool) → (a or b) ≡ (b or a)
 unfolding _or_
-or-last true s m = refl
-or-last false true true = refl
-or-last false true false = refl
-or-last false false true = refl
-or-last false false false = refl
+or-turn true true = refl
+or-turn true false = refl
+or-turn false true = refl
+or-turn false false = refl
+
+pub any-snoc : (y : Str) (xs : List Str) (x : Str) → any (same y) (xs ++ (x ∷ [])) ≡ (same y x or any (same y) xs)
+unfolding any
+any-snoc y [] x = refl
+any-snoc y (z ∷ xs) x =
+    ap (λ (t : Bool). same y z or t) (any-snoc y xs x)
+    ∙ sym (or-assoc (same y z) (same y x) (any (same y) xs))
+    ∙ ap (λ (t : Bool). t or any (same y) xs) (or-turn (same y z) (same y x))
+    ∙ or-assoc (same y x) (same y z) (any (same y) xs)
+
+or-front : (a s m : Bool) → (a or (s or m)) ≡ (s or (a or m))
+or-front a s m = sym (or-assoc a s m) ∙ ap (λ (t : Bool). t or m) (or-turn a s) ∙ or-assoc s a m
 
 -- a string with another place is another string
 other : (h : Str → ℕ) (x y : Str) → (h y ≡ h x → ⊥) → same y x ≡ false
@@ -144,7 +150,7 @@ module _ (h : Str → ℕ) (f keys : List ℕ) (room : ℕ) (xs : List Str) (far
     unfolding among
     same-place y i = rw (i, one-strings)
 
-    one-among : (y : Str) → among f one room (h y) y ≡ (any (same y) xs or same y x)
+    one-among : (y : Str) → among f one room (h y) y ≡ (same y x or any (same y) xs)
     one-among y =
         by (eqb (h y) (h x))
         (λ t.
@@ -155,12 +161,10 @@ module _ (h : Str → ℕ) (f keys : List ℕ) (room : ℕ) (xs : List Str) (far
         let o : any (same y) xs ≡ false = H .told y ∙ among-empty f keys room (h y) y z in
         among-taken f one room (h y) y (λ q. omega arith)
         ∙ ap₂ _or_ (ap (same y) (ap (spanIn f) v ∙ is)) s
-        ∙ or-none (same y x)
-        ∙ sym (none-or (same y x))
-        ∙ ap (λ (b : Bool). b or same y x) (sym o))
+        ∙ ap (λ (b : Bool). same y x or b) (sym o))
         (λ t.
         let d : h y ≡ h x → ⊥ = eqb-false _ _ t in
-        same-place y (one-else (h y) d) ∙ sym (H .told y) ∙ sym (or-none (any (same y) xs)) ∙ ap (λ (b : Bool). any (same y) xs or b) (sym (other h x y d)))
+        same-place y (one-else (h y) d) ∙ sym (H .told y) ∙ sym (none-or (any (same y) xs)) ∙ ap (λ (b : Bool). b or any (same y) xs) (sym (other h x y d)))
 
     one-holds : Holds h f one room (xs ++ (x ∷ []))
     one-holds = record {
@@ -215,20 +219,20 @@ module _ (h : Str → ℕ) (f keys : List ℕ) (room : ℕ) (xs : List Str) (far
     apart : (y : Str) → getD keys (h y) 0 ≡ 0 → same y x ≡ false
     apart y z = other h x y (λ i. e (ap (λ (q : ℕ). getD keys q 0) (sym i) ∙ z))
 
-    all-among : (y : Str) → among f all room (h y) y ≡ (any (same y) xs or same y x)
+    all-among : (y : Str) → among f all room (h y) y ≡ (same y x or any (same y) xs)
     all-among y =
         by (eqb (getD keys (h y) 0) 0)
         (λ t.
         let z : getD keys (h y) 0 ≡ 0 = eqb-true _ _ t in
         among-empty f all room (h y) y (all-places (h y) (far y .0) ∙ z)
-        ∙ sym (among-empty f keys room (h y) y z) ∙ sym (H .told y) ∙ sym (or-none (any (same y) xs)) ∙ ap (λ (b : Bool). any (same y) xs or b) (sym (apart y z)))
+        ∙ sym (among-empty f keys room (h y) y z) ∙ sym (H .told y) ∙ sym (none-or (any (same y) xs)) ∙ ap (λ (b : Bool). b or any (same y) xs) (sym (apart y z)))
         (λ t.
         let d : getD keys (h y) 0 ≡ 0 → ⊥ = eqb-false _ _ t in
         let v : getD all (h y) 0 ≡ getD keys (h y) 0 = all-places (h y) (far y .0) in
         among-taken f all room (h y) y (λ q. d (sym v ∙ q))
         ∙ ap₂ _or_ (ap (λ (m : ℕ). same y (spanIn f m)) v) (all-strings y)
-        ∙ or-last (same y (spanIn f (getD keys (h y) 0))) (same y x) (any (same y) (stringsOf f keys n))
-        ∙ ap (λ (b : Bool). b or same y x) (sym (H .told y ∙ among-taken f keys room (h y) y d)))
+        ∙ or-front (same y (spanIn f (getD keys (h y) 0))) (same y x) (any (same y) (stringsOf f keys n))
+        ∙ ap (λ (b : Bool). same y x or b) (sym (H .told y ∙ among-taken f keys room (h y) y d)))
 
     all-holds : Holds h f all room (xs ++ (x ∷ []))
     all-holds = record {
@@ -240,7 +244,7 @@ module _ (h : Str → ℕ) (f keys : List ℕ) (room : ℕ) (xs : List Str) (far
       told = λ y. any-snoc y xs x ∙ sym (all-among y);
       free = λ y z.
           let o : getD keys (h y) 0 ≡ 0 = sym (all-places (h y) (far y .0)) ∙ z in
-          all-strings y ∙ ap₂ _or_ (apart y o) (H .free y o) ∙ or-none false;
+          all-strings y ∙ ap₂ _or_ (apart y o) (H .free y o) ∙ none-or false;
     }
 
   pub holds-added : Holds h f (added keys room (h x) (r .at) k) room (xs ++ (x ∷ []))

@@ -67,8 +67,9 @@ pub fn take_row(
     ids: &mut [u16; 256],
     starts: &mut [u16; 256],
     holders: &mut [u8; 256],
-    memberseen: &mut [u8; 8192],
-    idseen: &mut [u8; 8192],
+    names: &mut [u32; 64],
+    memberkeys: &mut [u32; 4609],
+    idkeys: &mut [u32; 2305],
 ) -> u8
     requires { ⌜ (used < end) × (end ≤ length (now buf)) × (end ≤ 16384) ⌝ }
     requires { ⌜ ((b : Earlier) × (rules : List Rule) × Held b rules (take used (now buf)) c (now groups) (now users) (now owners) (now ids) (now starts) (now holders) (now memberseen) (now idseen)) ⌝ }
@@ -81,7 +82,7 @@ pub fn take_row(
         return table::frame::version_number(f, c.kind);
     }
     if k == 2 {
-        return keep::take_group(old, f, c.kind, groups, c.groups, hints);
+        return keep::take_group(old, f, c.kind, groups, c.groups, hints, names);
     }
     if k == 3 {
         return keep::take_member(
@@ -91,10 +92,11 @@ pub fn take_row(
             groups,
             c.groups,
             hints,
+            names,
             users,
             owners,
             c.members,
-            memberseen,
+            memberkeys,
         );
     }
     if k == 4 {
@@ -105,11 +107,12 @@ pub fn take_row(
             groups,
             c.groups,
             hints,
+            names,
             ids,
             starts,
             holders,
             c.rules,
-            idseen,
+            idkeys,
         );
     }
     3
