@@ -3,12 +3,13 @@ ghost use mathlib.Core.Path.{_≡_};
 ghost use mathlib.Core.Bool.{false};
 ghost use Prim.Native.Nat.{_+_, _≤_, _<_};
 ghost use lib.ListN.{length, getD};
-ghost use Rattle.text.specs.Test.{if_then_else_, any, twice};
+ghost use Rattle.text.specs.Test.{if_then_else_, twice};
 ghost use Rattle.text.specs.String.{same};
+ghost use Rattle.hash_set.specs.Set.{Holds};
 ghost use Rattle.rows.specs.Strings.{stringsIn, Laid, place};
 ghost use Rattle.table.specs.Frame.{entryOf};
 ghost use Rattle.table.specs.Refusal.{Earlier, framed, refusal};
-ghost use Rattle.keep.specs.Held.{Marked};
+ghost use Rattle.keep.specs.Held.{Named};
 ghost use Rattle.keep_rule.specs.Kept.{idPlace, RuleKept};
 use table::frame::RuleFrame;
 
@@ -22,7 +23,8 @@ fn holder_of(
     by_group: bool,
     subject: &[u8],
 ) -> usize
-    requires { ⌜ Laid (now old) (now groups) count × (count ≤ length (now groups)) × (twice same (stringsIn (now old) (now groups) count 0) ≡ false) × (1024 ≤ length (now hints)) ⌝ }
+    requires { ⌜ Laid (now old) (now groups) count × (count ≤ length (now groups)) × (twice same (stringsIn (now old) (now groups) count 0) ≡ false) ⌝ }
+    requires { ⌜ (1024 ≤ length (now hints)) × Named (now old) (now names) count (stringsIn (now old) (now groups) count 0) ⌝ }
     ensures { λ r. ⌜ r ≡ (if «by_group» then place (now (subject .entry)) (stringsIn (now (old .entry)) (now (groups .entry)) count 0) else 0) ⌝ }
 {
     if by_group {
@@ -47,9 +49,10 @@ pub fn take_rule(
     kept: &mut [u32; 2305],
 ) -> u8
     requires { ⌜ (0 < length (now f)) × (getD (now f) 0 0 ≡ 4) ⌝ }
-    requires { ⌜ (length (now old) + length (now f) ≤ 16384) × Laid (now old) (now groups) count × (count ≤ 64) × Laid (now old) (now ids) n × (n ≤ 256) × Marked (now seen) (idPlace (now old) (now ids)) n × (twice same (stringsIn (now old) (now groups) count 0) ≡ false) ⌝ }
+    requires { ⌜ (length (now old) + length (now f) ≤ 16384) × Laid (now old) (now groups) count × (count ≤ 64) × (twice same (stringsIn (now old) (now groups) count 0) ≡ false) ⌝ }
+    requires { ⌜ Named (now old) (now names) count (stringsIn (now old) (now groups) count 0) × Holds idPlace (now old) (now kept) 256 (stringsIn (now old) (now ids) n 0) × (length (now kept) ≡ 2305) ⌝ }
     ensures { λ r. ⌜ ((b : Earlier) → b .kind ≡ last → b .groups ≡ stringsIn (now (old .entry)) (now (groups .entry)) count 0 → b .ids ≡ stringsIn (now (old .entry)) (now (ids .entry)) n 0 → r ≡ refusal b (framed (entryOf (now (f .entry))))) ⌝ }
-    ensures { λ r. ⌜ (r ≡ 255 → RuleKept (stringsIn (now (old .entry)) (now (groups .entry)) count 0) (now (old .entry)) (now (f .entry)) (now (ids .entry)) (now (starts .entry)) (now (holders .entry)) (now (seen .entry)) n (now (ids .exit)) (now (starts .exit)) (now (holders .exit)) (now (seen .exit))) ⌝ }
+    ensures { λ r. ⌜ (r ≡ 255 → RuleKept (stringsIn (now (old .entry)) (now (groups .entry)) count 0) (now (old .entry)) (now (f .entry)) (now (ids .entry)) (now (starts .entry)) (now (holders .entry)) n (now (ids .exit)) (now (starts .exit)) (now (holders .exit)) (now (kept .exit))) ⌝ }
 {
     let r = table::frame::read_rule(f);
     let RuleFrame::Is {

@@ -72,8 +72,8 @@ pub fn take_row(
     idkeys: &mut [u32; 2305],
 ) -> u8
     requires { ⌜ (used < end) × (end ≤ length (now buf)) × (end ≤ 16384) ⌝ }
-    requires { ⌜ ((b : Earlier) × (rules : List Rule) × Held b rules (take used (now buf)) c (now groups) (now users) (now owners) (now ids) (now starts) (now holders) (now memberseen) (now idseen)) ⌝ }
-    ensures { λ r. ⌜ ((b : Earlier) (rules : List Rule) → Held b rules (take used (now (buf .entry))) c (now (groups .entry)) (now (users .entry)) (now (owners .entry)) (now (ids .entry)) (now (starts .entry)) (now (holders .entry)) (now (memberseen .entry)) (now (idseen .entry)) → (r ≡ refusal b (framed (entryOf (part (now (buf .entry)) used end)))) × (r ≡ 255 → Grown b rules (take used (now (buf .entry))) (part (now (buf .entry)) used end) c (now (groups .exit)) (now (users .exit)) (now (owners .exit)) (now (ids .exit)) (now (starts .exit)) (now (holders .exit)) (now (memberseen .exit)) (now (idseen .exit)))) ⌝ }
+    requires { ⌜ ((b : Earlier) × (rules : List Rule) × Held b rules (take used (now buf)) c (now groups) (now users) (now owners) (now ids) (now starts) (now holders) (now names) (now memberkeys) (now idkeys)) ⌝ }
+    ensures { λ r. ⌜ ((b : Earlier) (rules : List Rule) → Held b rules (take used (now (buf .entry))) c (now (groups .entry)) (now (users .entry)) (now (owners .entry)) (now (ids .entry)) (now (starts .entry)) (now (holders .entry)) (now (names .entry)) (now (memberkeys .entry)) (now (idkeys .entry)) → (r ≡ refusal b (framed (entryOf (part (now (buf .entry)) used end)))) × (r ≡ 255 → Grown b rules (take used (now (buf .entry))) (part (now (buf .entry)) used end) c (now (groups .exit)) (now (users .exit)) (now (owners .exit)) (now (ids .exit)) (now (starts .exit)) (now (holders .exit)) (now (names .exit)) (now (memberkeys .exit)) (now (idkeys .exit)))) ⌝ }
 {
     let old = &buf[..used];
     let f = &buf[used..end];
