@@ -291,3 +291,10 @@ module _ (keys : List ℕ) (room p at k : ℕ) where
   pub added-among : (getD keys p 0 ≡ 0 → ⊥) → (keys′ : List ℕ) → keys′ ≡ inserted keys (getD keys room 0) at k → set keys′ room (getD keys room 0 + 1) ≡ added keys room p at k
   unfolding added if_then_else_
   added-among d keys′ e = rw (ne-eqb _ _ d, e)
+
+  pub added-long : at ≤ getD keys room 0 → getD keys room 0 < length keys → length (added keys room p at k) ≡ length keys
+  unfolding added if_then_else_
+  added-long h l =
+      by (eqb (getD keys p 0) 0)
+      (λ t. rw t (length-set keys p k))
+      (λ t. rw t (length-set (inserted keys (getD keys room 0) at k) room (getD keys room 0 + 1) ∙ gap-long keys (getD keys room 0) l at k h))

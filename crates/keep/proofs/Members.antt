@@ -22,7 +22,7 @@ use Rattle.path.specs.Faults.{unsized}
 use Rattle.sorted.specs.Spans.{spanOf}
 use Rattle.sorted.specs.declared.Found.{Found}
 use Rattle.hash_set.specs.Set.{Met, added, Holds}
-use Rattle.hash_set.proofs.Sets.{holds-grows}
+use Rattle.hash_set.proofs.Sets.{holds-grows, added-long}
 use Rattle.rows.specs.Strings.{stringsIn, place, hashOf}
 use Rattle.rows.proofs.Grow.{rows-length, strings-length, place-any, place-le}
 use Rattle.table.specs.Table.{Member}
@@ -207,6 +207,7 @@ module _ (f : Str) (pre : (0 < length f) × (getD f 0 0 ≡ 3)) (r : End) (i : r
                     listed = listed-is name (stringsIn old starts count 0) place′ count pp (sym (strings-length old starts count)) (clear-is .1);
                     users-set = refl;
                     owners-set = ap (set owners k) pp;
+                    keys-long = ap length q ∙ added-long kept 512 (513 + hash % 4096) (z .at) _ (met .fits) (omega (arith, sorted-room)) ∙ long;
                     held =
                         rw (q, spot, ← key-is)
                         (holds-grows f (λ y. (place-far y .0, omega (arith, place-far y .1))) H (part f 1 t) z met (clear-is .2) (spanOf (length old + 1) (length old + t))

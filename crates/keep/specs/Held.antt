@@ -66,4 +66,5 @@ pub record MemberKept (groups : List Str) (old f users owners : List ℕ) (n : �
   pub listed : place group groups < length groups
   pub users-set : users′ ≡ set users n (length old + at)
   pub owners-set : owners′ ≡ set owners n (place group groups)
+  pub keys-long : length kept′ ≡ 4609
   pub held : Holds memberPlace (old ++ f) kept′ 512 (bytesOf (membersIn groups owners old users n) ++ (memberBytes (record { group = group; user = user }) ∷ []))

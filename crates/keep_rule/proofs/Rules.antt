@@ -17,7 +17,7 @@ use Rattle.path.specs.Faults.{unsized, overLimit, strayByte, keyTwice}
 use Rattle.sorted.specs.Spans.{spanOf}
 use Rattle.sorted.specs.declared.Found.{Found}
 use Rattle.hash_set.specs.Set.{Met, added, Holds}
-use Rattle.hash_set.proofs.Sets.{holds-grows}
+use Rattle.hash_set.proofs.Sets.{holds-grows, added-long}
 use Rattle.rows.specs.Strings.{stringsIn, place, hashOf}
 use Rattle.rows.proofs.Grow.{strings-length, place-at}
 use Rattle.table.specs.Table.{Rule}
@@ -168,6 +168,7 @@ module _ (f : Str) (pre : (0 < length f) × (getD f 0 0 ≡ 4)) (r : RuleFrame) 
                 ids-set = refl;
                 starts-set = refl;
                 holders-set = refl;
+                keys-long = ap length e ∙ added-long kept 256 (257 + hash % 2048) (q′ .at) _ (met .fits) (omega (arith, id-sorted-room)) ∙ long;
                 ids-held =
                     rw (e, id-spot (part f (s + 1) i) hash hh, a .id)
                     (holds-grows f (λ y. (id-far y .0, omega (arith, id-far y .1))) H (part f (s + 1) i) q′ met (clear-is .2) (spanOf (length old + (s + 1)) (length old + i))

@@ -30,4 +30,5 @@ pub record RuleKept (groups : List Str) (old f ids starts holders : List ℕ) (n
   pub ids-set : ids′ ≡ set ids n (length old + at)
   pub starts-set : starts′ ≡ set starts n (length old + 1)
   pub holders-set : holders′ ≡ set holders n holder
+  pub keys-long : length keys′ ≡ 2305
   pub ids-held : Holds idPlace (old ++ f) keys′ 256 (stringsIn old ids n 0 ++ (kept .id ∷ []))
