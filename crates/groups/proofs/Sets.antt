@@ -13,14 +13,14 @@ use Rattle.text.specs.Test.{_and_, _or_, if_then_else_, any, twice}
 use Rattle.text.specs.String.{Str, same}
 use Rattle.text.proofs.Tests.{by, clash, same-refl, neither, and-l}
 use Rattle.place.specs.Place.{strIn}
-use Rattle.rows.specs.Strings.{stringsIn, place, isPair, hasPair}
+use Rattle.rows.specs.Strings.{stringsIn, place}
 use Rattle.rows.proofs.Grow.{strings-length, place-test}
 use Rattle.table.specs.Table.{Member}
 use Rattle.table.specs.Refusal.{sameMember}
 use Rattle.table.specs.Group.{lists, numbered, memberships}
 use Rattle.keep.specs.Held.{memberIn, membersIn, Owned}
-use Rattle.keep.proofs.Members.{pairs-any}
 use Rattle.groups.specs.Set.{insertOf, hasOf, setIn}
+use Rattle.groups.proofs.Pairs.{isPair, hasPair, pairs-any}
 use Rattle.groups.proofs.Bits.{digit, digit-is, digit-small, has-insert, has-none, no-digits}
 
 -- ---- the loop

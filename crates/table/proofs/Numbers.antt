@@ -113,7 +113,7 @@ unfolding if_then_else_
 when-clear n m true h e = absurd (omega arith)
 when-clear n m false h e = (refl, e)
 
-pub merged-clear : (p : ℕ) (five six eight nine : Bool) → merged p five six eight nine ≡ 255 → (five ≡ false) × (nine ≡ false)
+pub merged-clear : (p : ℕ) (five six eight nine : Bool) → merged p five six eight nine ≡ 255 → (five ≡ false) × (nine ≡ false) × (eight ≡ false)
 unfolding merged
 merged-clear p five six eight nine e =
     let a = when-clear 5 _ (five || eqb p 5) (omega arith) e in
@@ -121,7 +121,7 @@ merged-clear p five six eight nine e =
     let c = when-clear 7 _ (eqb p 7) (omega arith) (b .1) in
     let d = when-clear 8 _ (eight || eqb p 8) (omega arith) (c .1) in
     let n = when-clear 9 _ nine (omega arith) (d .1) in
-    (or-false-l five (eqb p 5) (sym (or-is five (eqb p 5)) ∙ a .0), n .0)
+    (or-false-l five (eqb p 5) (sym (or-is five (eqb p 5)) ∙ a .0), n .0, or-false-l eight (eqb p 8) (sym (or-is eight (eqb p 8)) ∙ d .0))
 
 -- a line that nothing refuses
 pub refusal-clear : (b : Earlier) (e : Entry) → refusal b (reads e) ≡ 255
