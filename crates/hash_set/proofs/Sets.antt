@@ -9,9 +9,9 @@ use lib.Dec.{eqb}
 use lib.ListN.{length, getD, set, length-append, length-set}
 use lib.Seq.{getD-set-same, getD-set-other}
 use Rattle.text.specs.Test.{_or_, if_then_else_, any}
-use Rattle.text.specs.String.{Str, same, before}
+use Rattle.text.specs.String.{Str, same}
 use Rattle.text.proofs.Tests.{by, clash, same→≡, or-l, or-assoc}
-use Rattle.sorted.specs.Spans.{spanIn, Inside, nth, stringsOf, Sorted, Placed, Sought, inserted}
+use Rattle.sorted.specs.Spans.{spanIn, Inside, stringsOf, Sorted, Sought, inserted}
 use Rattle.sorted.specs.declared.Found.{Found}
 use Rattle.sorted.proofs.Strings.{span-longer, strings-longer, sorted-longer, sought-longer}
 use Rattle.sorted.proofs.Inserting.{gap-beyond, gap-long}

@@ -1,8 +1,8 @@
 -- What take_group has met.
 use mathlib.Core.Path.{_≡_, refl, sym, ap, _∙_}
 use mathlib.Core.Bool.{Bool, true, false, not, _||_}
-use mathlib.Core.List.{List, [], _∷_}
-use mathlib.Core.Option.{Option, none, some}
+use mathlib.Core.List.{List}
+use mathlib.Core.Option.{some}
 use Prim.Native.Nat.{ℕ, _+_, _-_, _≤_, _<_}
 use native.Mathlib.Omega.{arith}
 use borrow.Author.Tests.{leb-false}
@@ -14,17 +14,17 @@ use Rattle.text.specs.String.{Str, same}
 use Rattle.text.specs.Frame.{got, string, endOf, part}
 use Rattle.text.specs.declared.frame.End.{End}
 use Rattle.text.specs.declared.frame.End.the-variants.{At, Unread}
-use Rattle.text.proofs.Tests.{or-false-r}
+use Rattle.text.proofs.Tests.{or-false-r, or-is}
 use Rattle.text.proofs.Frames.{string-ends, string-misses}
 use Rattle.path.specs.Faults.{unsized}
 use Rattle.sorted.specs.Spans.{spanOf, Sought, inserted}
 use Rattle.sorted.specs.declared.Found.{Found}
 use Rattle.rows.specs.Strings.{stringsIn}
 use Rattle.rows.proofs.Grow.{strings-length}
-use Rattle.table.specs.Frame.{Entry, group, entryOf}
+use Rattle.table.specs.Frame.{group, entryOf}
 use Rattle.table.specs.Refusal.{Earlier, reads, framed, outOfOrder, kindOf, pastLimit, strays, misplaces, repeats, unlisted, refusal}
 use Rattle.table.specs.Walk.{merged, unsizedBy}
-use Rattle.table.proofs.Numbers.{or-is, long-is, stray-is, number-four, number-plain, merged-clear}
+use Rattle.table.proofs.Numbers.{long-is, stray-is, number-four, number-plain, merged-clear}
 use Rattle.table.proofs.Frames.{group-unread, group-off, group-read}
 use Rattle.table.proofs.Versions.{refused-unread, refused-read}
 use Rattle.keep.specs.Held.{Named, GroupKept}

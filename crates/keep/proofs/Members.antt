@@ -2,8 +2,8 @@
 use mathlib.Core.Path.{_≡_, refl, sym, ap, ap₂, _∙_}
 use mathlib.Core.Bool.{Bool, true, false, not, _||_}
 use mathlib.Core.List.{List, [], _∷_, _++_}
-use mathlib.Core.Option.{Option, none, some}
-use Prim.Native.Nat.{ℕ, zero, suc, _+_, _-_, _*_, _%_, _≤_, _<_}
+use mathlib.Core.Option.{some}
+use Prim.Native.Nat.{ℕ, suc, _+_, _-_, _%_, _≤_, _<_}
 use native.Mathlib.Omega.{arith}
 use borrow.Author.Tests.{leb-false, eqb-false, ltb-true, ltb-false, eq-eqb, ne-eqb}
 use lib.Dec.{eqb, ltb, leb}
@@ -15,7 +15,7 @@ use Rattle.text.specs.String.{Str, same}
 use Rattle.text.specs.Frame.{got, string, stringBytes, endOf, part}
 use Rattle.text.specs.declared.frame.End.{End}
 use Rattle.text.specs.declared.frame.End.the-variants.{At, Unread}
-use Rattle.text.proofs.Tests.{by, bool-ext, and-l, and-r, both, same→≡, ≡→same, or-false-r}
+use Rattle.text.proofs.Tests.{by, bool-ext, and-l, and-r, both, same→≡, ≡→same, or-false-r, or-is}
 use Rattle.text.proofs.Frames.{string-ends, string-misses}
 use Rattle.text.proofs.Codec.{Took, took-both, string-took, string-gives}
 use Rattle.path.specs.Faults.{unsized}
@@ -26,10 +26,10 @@ use Rattle.hash_set.proofs.Sets.{holds-grows, added-long}
 use Rattle.rows.specs.Strings.{stringsIn, place, hashOf}
 use Rattle.rows.proofs.Grow.{rows-length, strings-length, place-any, place-le}
 use Rattle.table.specs.Table.{Member}
-use Rattle.table.specs.Frame.{Entry, member, entryOf}
+use Rattle.table.specs.Frame.{member, entryOf}
 use Rattle.table.specs.Refusal.{Earlier, reads, framed, outOfOrder, kindOf, pastLimit, strays, stray, misplaces, sameMember, repeats, listed, unlisted, refusal}
 use Rattle.table.specs.Walk.{merged, unsizedBy}
-use Rattle.table.proofs.Numbers.{or-is, long-is, stray-is, number-four, number-plain, merged-clear}
+use Rattle.table.proofs.Numbers.{long-is, stray-is, number-four, number-plain, merged-clear}
 use Rattle.table.proofs.Frames.{member-unread, member-userless, member-off, member-read}
 use Rattle.table.proofs.Versions.{refused-unread, refused-read}
 use Rattle.keep.specs.Held.{membersIn, memberBytes, bytesOf, memberPlace, MemberKept}

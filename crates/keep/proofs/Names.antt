@@ -1,18 +1,18 @@
 -- Sorted names of groups; and a string of a new frame as a span of all bytes.
-use mathlib.Core.Path.{_≡_, refl, sym, ap, ap₂, _∙_}
+use mathlib.Core.Path.{_≡_, refl, sym, ap, _∙_}
 use mathlib.Core.Bool.{Bool, true, false, not, _||_}
 use mathlib.Core.List.{List, [], _∷_, _++_}
-use Prim.Native.Nat.{ℕ, zero, suc, _+_, _-_, _*_, _≤_, _<_}
+use Prim.Native.Nat.{ℕ, _+_, _-_, _≤_, _<_}
 use native.Mathlib.Omega.{arith}
 use borrow.Author.Tests.{ltb-false, leb-true, leb-false}
-use lib.Dec.{ltb, leb}
-use lib.ListN.{length, getD, drop, take, length-append}
+use lib.Dec.{leb}
+use lib.ListN.{length, length-append}
 use lib.Seq.{drop-append-add}
 use Rattle.text.specs.Test.{_or_, any}
 use Rattle.text.specs.String.{Str, same}
 use Rattle.text.specs.Frame.{part}
 use Rattle.text.proofs.Tests.{by, clash}
-use Rattle.sorted.specs.Spans.{spanOf, spanIn, Inside, stringsOf, Sorted, Sought, inserted}
+use Rattle.sorted.specs.Spans.{spanOf, spanIn, Inside, stringsOf, Sought, inserted}
 use Rattle.sorted.specs.declared.Found.{Found}
 use Rattle.sorted.proofs.Strings.{span-in, span-inside, strings-longer, sorted-longer, sought-longer}
 use Rattle.sorted.proofs.Places.{not-there}

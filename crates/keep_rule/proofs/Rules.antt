@@ -1,9 +1,9 @@
 -- What take_rule has met.
-use mathlib.Core.Path.{_≡_, refl, sym, ap, ap₂, _∙_}
+use mathlib.Core.Path.{_≡_, refl, sym, ap, _∙_}
 use mathlib.Core.Bool.{Bool, true, false, not, _||_, _&&_}
-use mathlib.Core.List.{List, [], _∷_}
-use mathlib.Core.Option.{Option, none, some}
-use Prim.Native.Nat.{ℕ, _+_, _*_, _%_, _≤_, _<_}
+use mathlib.Core.List.{List, []}
+use mathlib.Core.Option.{some}
+use Prim.Native.Nat.{ℕ, _+_, _%_, _≤_, _<_}
 use native.Mathlib.Omega.{arith}
 use borrow.Author.Tests.{leb-false}
 use lib.Dec.{eqb, ltb, leb}
@@ -11,8 +11,8 @@ use lib.ListN.{length, getD, set}
 use Rattle.text.specs.Test.{_and_, _or_, if_then_else_, any, all}
 use Rattle.text.specs.Byte.{isPrint}
 use Rattle.text.specs.String.{Str, same}
-use Rattle.text.specs.Frame.{got, part}
-use Rattle.text.proofs.Tests.{clash, or-false-r}
+use Rattle.text.specs.Frame.{part}
+use Rattle.text.proofs.Tests.{clash, or-false-r, or-is}
 use Rattle.path.specs.Faults.{unsized, overLimit, strayByte, keyTwice}
 use Rattle.sorted.specs.Spans.{spanOf}
 use Rattle.sorted.specs.declared.Found.{Found}
@@ -20,13 +20,12 @@ use Rattle.hash_set.specs.Set.{Met, added, Holds}
 use Rattle.hash_set.proofs.Sets.{holds-grows, added-long}
 use Rattle.rows.specs.Strings.{stringsIn, place, hashOf}
 use Rattle.rows.proofs.Grow.{strings-length, place-at}
-use Rattle.table.specs.Table.{Rule}
-use Rattle.table.specs.Frame.{Entry, rule, ruleBody, entryOf}
+use Rattle.table.specs.Frame.{rule, entryOf}
 use Rattle.table.specs.Refusal.{Earlier, reads, framed, outOfOrder, kindOf, unsizedShort, pastLimit, strays, stray, repeats, listed, unlisted, refusal}
 use Rattle.table.specs.Walk.{merged, unsizedBy, RuleAt, RuleRead}
 use Rattle.table.specs.declared.frame.RuleFrame.{RuleFrame}
 use Rattle.table.specs.declared.frame.RuleFrame.the-variants.{Is, Unread}
-use Rattle.table.proofs.Numbers.{or-is, long-is, short-is, stray-is, number-four, number-rule, merged-clear}
+use Rattle.table.proofs.Numbers.{long-is, short-is, stray-is, number-four, number-rule, merged-clear}
 use Rattle.table.proofs.Frames.{rule-read}
 use Rattle.table.proofs.Rules.{rule-told, rule-untold}
 use Rattle.table.proofs.Versions.{refused-unread, refused-read}

@@ -1,27 +1,25 @@
 -- One row more is held.
-use mathlib.Core.Path.{_≡_, refl, sym, ap, ap₂, _∙_}
-use mathlib.Core.Bool.{Bool, true, false}
+use mathlib.Core.Path.{_≡_, refl, sym, ap, _∙_}
+use mathlib.Core.Bool.{true, false}
 use mathlib.Core.List.{List, [], _∷_, _++_, append-nil}
-use mathlib.Core.Option.{Option, none, some}
-use Prim.Native.Nat.{ℕ, zero, suc, _+_, _-_, _≤_, _<_}
-use native.Mathlib.Numerals.{add-one}
+use Prim.Native.Nat.{ℕ, suc, _+_, _-_, _≤_, _<_}
 use native.Mathlib.Omega.{arith}
-use borrow.Author.Tests.{eqb-true, eqb-false, ltb-true, ltb-false, leb-true, leb-false}
-use lib.Dec.{eqb, ltb, leb}
+use borrow.Author.Tests.{eqb-true, eqb-false}
+use lib.Dec.{eqb}
 use lib.ListN.{length, getD, set, length-append, length-set, List·getD-append}
 use lib.Seq.{getD-set-same, getD-set-other}
-use Rattle.text.specs.Test.{if_then_else_, any, twice}
+use Rattle.text.specs.Test.{if_then_else_, any}
 use Rattle.text.specs.String.{Str, same}
-use Rattle.text.specs.Frame.{got, string, part}
+use Rattle.text.specs.Frame.{got, string}
 use Rattle.text.proofs.Tests.{by}
 use Rattle.place.specs.Place.{strEnd, strIn}
 use Rattle.place.proofs.Reading.{str-read}
 use Rattle.hash_set.specs.Set.{Holds as InSet}
 use Rattle.hash_set.proofs.Sets.{holds-longer}
-use Rattle.rows.specs.Strings.{stringsIn, Laid, place}
-use Rattle.rows.proofs.Grow.{rowsOf, rows-same, rows-grow, strings-length, string-front, old-start, new-start, old-string, strings-grow, laid-grow, laid-stays, strings-stay, place-at, place-le, twice-snoc}
+use Rattle.rows.specs.Strings.{stringsIn, place}
+use Rattle.rows.proofs.Grow.{rows-same, rows-grow, strings-length, string-front, new-start, old-string, strings-grow, laid-grow, laid-stays, strings-stay, place-at, twice-snoc}
 use Rattle.table.specs.Table.{Member, Rule}
-use Rattle.table.specs.Frame.{Entry, version, group, member, rule, ruleBody, entryOf}
+use Rattle.table.specs.Frame.{version, group, member, rule, ruleBody}
 use Rattle.table.specs.Refusal.{Earlier, with}
 use Rattle.table.specs.Text.{maybe, asRule}
 use Rattle.table.proofs.Inside.{inside-string, inside-rule, reads-more, reads-after}

@@ -1,12 +1,10 @@
 -- A turn of `load`, and each way out of it.
-use mathlib.Core.Path.{_≡_, refl, sym, ap, ap₂, _∙_, subst}
-use mathlib.Core.Bool.{Bool, true, false}
+use mathlib.Core.Path.{_≡_, refl, sym, ap, _∙_}
 use mathlib.Core.List.{List, [], _∷_, _++_, append-nil}
 use mathlib.Core.Option.{Option, none, some}
-use Prim.Native.Nat.{ℕ, zero, suc, _+_, _-_, _*_, _/_, _≤_, _<_}
+use Prim.Native.Nat.{ℕ, zero, suc, _+_, _-_, _/_, _≤_, _<_}
 use native.Mathlib.Omega.{arith}
 use borrow.Author.Tests.{eq-eqb, ne-eqb, le-ltb, lt-ltb}
-use lib.Dec.{eqb, ltb}
 use lib.ListN.{length, take, drop, getD, replicate, drop-of-length-le}
 use lib.Seq.{length-take-le, take-at, drop-at, take-add, getD-take, getD-drop, append-snoc}
 use Rattle.text.specs.Test.{if_then_else_, any, twice}
@@ -17,8 +15,7 @@ use Rattle.text.proofs.Filling.{put-length}
 use Rattle.line.specs.Lines.{lines, frame, digits, firstLine}
 use Rattle.line.specs.declared.Line as lined
 use Rattle.line.specs.declared.Line.the-variants as hexed
-use Rattle.line.proofs.FirstLine.{Read, line-read, Unhex, line-unhex}
-use Rattle.line.proofs.Digits.{digits-half}
+use Rattle.line.proofs.FirstLine.{Read, line-read, line-unhex}
 use Rattle.table.specs.Table.{Member, Rule}
 use Rattle.table.specs.Frame.{Entry, version, group, member, rule, entryOf}
 use Rattle.table.specs.Refusal.{Line, notHex, reads, framed, decoded, lineOf, Earlier, first, with, after, refusal}
@@ -26,7 +23,6 @@ use Rattle.table.specs.Text.{unless, judge, check, maybe, collect, read, entrie
 use Rattle.table.specs.declared.Checked.{Checked}
 use Rattle.table.specs.declared.Checked.the-variants as checked
 use Rattle.load.specs.declared.row.Counts.{Counts}
-use Rattle.load.specs.declared.Loaded.{Loaded}
 use Rattle.load.specs.declared.Loaded.the-variants.{Table, Refused}
 use Rattle.rows.specs.Strings.{stringsIn}
 use Rattle.rows.proofs.Grow.{rowsOf}
@@ -34,8 +30,8 @@ use Rattle.sorted.proofs.Growing.{none as none-sorted, none-there as no-name}
 use Rattle.hash_set.proofs.Sets.{holds-none}
 use Rattle.keep.specs.Held.{membersIn, bytesOf, memberPlace}
 use Rattle.keep_rule.specs.Kept.{idPlace}
-use Rattle.load.specs.Held.{idsOf, RulesAt, HoldersAt, Holds, Held, counted}
-use Rattle.load.specs.Loaded.{Grown, Kept, Outcome}
+use Rattle.load.specs.Held.{idsOf, RulesAt, HoldersAt, Held, counted}
+use Rattle.load.specs.Loaded.{Grown, Outcome}
 
 -- ---- stored bytes
 

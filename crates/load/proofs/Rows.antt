@@ -1,8 +1,8 @@
 -- What take_row has met.
-use mathlib.Core.Path.{_≡_, refl, sym, ap, _∙_}
-use mathlib.Core.Bool.{Bool, true, false}
-use mathlib.Core.List.{List, [], _∷_, _++_}
-use mathlib.Core.Option.{Option, none, some}
+use mathlib.Core.Path.{_≡_, sym, ap, _∙_}
+use mathlib.Core.Bool.{false}
+use mathlib.Core.List.{List}
+use mathlib.Core.Option.{some}
 use Prim.Native.Nat.{ℕ, _+_, _-_, _≤_, _<_}
 use native.Mathlib.Omega.{arith}
 use lib.ListN.{length, take, drop, getD, length-drop}
@@ -10,10 +10,10 @@ use lib.Seq.{length-take-le}
 use Rattle.text.specs.Test.{any, twice}
 use Rattle.text.specs.String.{Str, same}
 use Rattle.text.specs.Frame.{part}
-use Rattle.rows.specs.Strings.{stringsIn, Laid}
+use Rattle.rows.specs.Strings.{stringsIn}
 use Rattle.table.specs.Table.{Rule}
-use Rattle.table.specs.Frame.{Entry, version, group, member, rule, entryOf}
-use Rattle.table.specs.Refusal.{Earlier, Line, reads, unreadable, framed, repeats, refusal}
+use Rattle.table.specs.Frame.{version, group, member, rule, entryOf}
+use Rattle.table.specs.Refusal.{Earlier, reads, framed, repeats, refusal}
 use Rattle.table.proofs.Numbers.{refusal-clear}
 use Rattle.table.proofs.Versions.{refused-unread}
 use Rattle.table.proofs.Frames.{kind-unknown}
@@ -21,7 +21,7 @@ use Rattle.hash_set.specs.Set.{Holds as InSet}
 use Rattle.keep.specs.Held.{Named, membersIn, bytesOf, memberPlace, GroupKept, MemberKept}
 use Rattle.keep_rule.specs.Kept.{idPlace, RuleKept}
 use Rattle.load.specs.declared.row.Counts.{Counts}
-use Rattle.load.specs.Held.{Holds, Held, counted}
+use Rattle.load.specs.Held.{Held}
 use Rattle.load.specs.Loaded.{Grown}
 use Rattle.load.proofs.Growing.{grow-version, grow-group, grow-member, grow-rule}
 

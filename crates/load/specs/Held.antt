@@ -1,7 +1,7 @@
 -- What the arrays of a loaded table hold.
 use Prim.Native.Nat.{ℕ, suc, _+_, _≤_, _<_}
 use mathlib.Core.Path.{_≡_}
-use mathlib.Core.Bool.{Bool, true, false}
+use mathlib.Core.Bool.{true, false}
 use mathlib.Core.List.{List, [], _∷_}
 use lib.Dec.{eqb}
 use lib.ListN.{length, getD}
@@ -10,7 +10,7 @@ use Rattle.text.specs.String.{Str, same}
 use Rattle.text.specs.Frame.{got}
 use Rattle.rows.specs.Strings.{stringsIn, Laid}
 use Rattle.table.specs.Table.{Member, Rule}
-use Rattle.table.specs.Frame.{Entry, ruleBody}
+use Rattle.table.specs.Frame.{ruleBody}
 use Rattle.table.specs.Refusal.{Earlier}
 use Rattle.hash_set.specs.Set.{Holds as InSet}
 use Rattle.keep.specs.Held.{Named, membersIn, Owned, bytesOf, memberPlace}

@@ -1,7 +1,7 @@
 -- The answer of `load`, and what it leaves in the arrays.
 use Prim.Native.Nat.{ℕ, _≤_}
 use mathlib.Core.Path.{_≡_}
-use mathlib.Core.List.{List, _++_, [], _∷_}
+use mathlib.Core.List.{List, _++_, []}
 use mathlib.Core.Option.{some}
 use lib.ListN.{length, take, getD}
 use Rattle.text.specs.String.{Str}

@@ -1,18 +1,18 @@
 -- A row more: the rows before stay as they were.
-use mathlib.Core.Path.{_≡_, refl, sym, ap, ap₂, _∙_, subst}
+use mathlib.Core.Path.{_≡_, refl, sym, ap, ap₂, _∙_}
 use mathlib.Core.Bool.{Bool, true, false}
 use mathlib.Core.List.{List, [], _∷_, _++_}
 use Prim.Native.Nat.{ℕ, zero, suc, _+_, _-_, _≤_, _<_}
 use native.Mathlib.Numerals.{add-one}
 use native.Mathlib.Omega.{arith}
-use borrow.Author.Tests.{eqb-true, eqb-false, ltb-true, ltb-false, lt-ltb}
+use borrow.Author.Tests.{eqb-true, eqb-false, ltb-true, lt-ltb}
 use lib.Dec.{eqb, ltb, eqb·zero-suc, eqb·suc-zero, eqb·suc-suc, leb·suc-suc}
 use lib.ListN.{length, getD, set, length-append, List·getD-append}
 use lib.Seq.{getD-set-same, getD-set-other}
 use Rattle.text.specs.Test.{_and_, _or_, if_then_else_, any, twice}
 use Rattle.text.specs.String.{Str, same}
 use Rattle.text.proofs.Frames.{part-front}
-use Rattle.text.proofs.Tests.{by, clash, and-l, and-r, same→≡, same-sym, none-any, or-false-l, or-false-r, neither}
+use Rattle.text.proofs.Tests.{by, and-l, and-r, same→≡, same-sym, or-false-l, or-false-r, neither}
 use Rattle.place.specs.Place.{strEnd, strIn}
 use Rattle.rows.specs.Strings.{stringsIn, Laid, place}
 

@@ -1,7 +1,5 @@
 -- `add` equals its definition.
 use borrow.Author.Needs.{needs}
-use native.Mathlib.Omega.{arith}
-use mathlib.Core.Path.{_≡_, refl, sym, ap, _∙_}
 use Rattle.hash_set.proofs.Sets.{added-here, added-among}
 use Rattle.hash_set.proofs.add.Statement.{statement}
 use Rattle.hash_set.proofs.add.Tie as tie

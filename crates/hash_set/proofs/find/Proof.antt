@@ -1,7 +1,6 @@
 -- `find` equals its definition.
 use borrow.Author.Needs.{needs}
 use native.Mathlib.Omega.{arith}
-use mathlib.Core.Path.{_≡_, refl}
 use Rattle.sorted.specs.Spans.{spanIn}
 use Rattle.hash_set.proofs.Sets.{met-empty, met-first, met-sorted}
 use Rattle.hash_set.proofs.find.Statement.{statement}

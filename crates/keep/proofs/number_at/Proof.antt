@@ -2,7 +2,6 @@
 use borrow.Author.Needs.{needs}
 use native.Mathlib.Omega.{arith}
 use Prim.Native.Nat.{_-_, _≤_}
-use lib.ListN.{length}
 use Rattle.keep.proofs.number_at.Statement.{statement}
 use Rattle.keep.proofs.number_at.Tie as tie
 

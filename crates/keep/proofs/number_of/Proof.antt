@@ -1,7 +1,7 @@
 -- `number_of` equals its definition.
 use borrow.Author.Needs.{needs}
 use native.Mathlib.Omega.{arith}
-use mathlib.Core.Path.{_≡_, sym, _∙_}
+use mathlib.Core.Path.{sym, _∙_}
 use Prim.Native.Nat.{_%_}
 use Rattle.rows.proofs.Grow.{number-is}
 use Rattle.keep.proofs.number_of.Statement.{statement}

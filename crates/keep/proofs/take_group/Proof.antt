@@ -1,7 +1,7 @@
 -- `take_group` equals its definition.
 use borrow.Author.Needs.{needs}
 use native.Mathlib.Omega.{arith}
-use mathlib.Core.Path.{_≡_, refl, sym, ap, _∙_}
+use mathlib.Core.Path.{refl, sym, _∙_}
 use Rattle.text.proofs.Frames.{string-ends}
 use Rattle.keep.proofs.Groups.{below, group-short, group-long, group-four, group-graded, group-kept}
 use mathlib.Core.List.{[]}

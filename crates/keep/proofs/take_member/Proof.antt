@@ -1,7 +1,7 @@
 -- `take_member` equals its definition.
 use borrow.Author.Needs.{needs}
 use native.Mathlib.Omega.{arith}
-use mathlib.Core.Path.{_≡_, refl, sym, ap, _∙_}
+use mathlib.Core.Path.{sym, _∙_}
 use Rattle.text.proofs.Frames.{string-ends}
 use Rattle.keep.proofs.Members.{place-small, member-short, member-half, member-long, member-four, member-graded, member-room, sorted-room, spot-fits, fits-is, member-kept}
 use Rattle.keep.proofs.take_member.Statement.{statement}

@@ -1,7 +1,7 @@
 -- `take_rule` equals its definition.
 use borrow.Author.Needs.{needs}
 use native.Mathlib.Omega.{arith}
-use mathlib.Core.Path.{_≡_, refl, sym, ap, _∙_}
+use mathlib.Core.Path.{sym, _∙_}
 use Rattle.keep_rule.proofs.Rules.{holder-small, rule-short, rule-long, rule-four, rule-graded, rule-room, id-sorted-room, id-spot-fits, id-fits, rule-kept}
 use Rattle.keep_rule.proofs.take_rule.Statement.{statement}
 use Rattle.keep_rule.proofs.take_rule.Tie as tie

@@ -1,8 +1,8 @@
 -- `load` equals its definition. The invariant: what the rows so far told is held, and the rest is to be judged.
 use borrow.Author.Needs.{needs}
 use native.Mathlib.Omega.{arith}
-use mathlib.Core.Path.{_≡_, refl, sym, ap, _∙_}
-use Prim.Native.Nat.{ℕ, _+_, _-_, _≤_}
+use mathlib.Core.Path.{_≡_, refl, _∙_}
+use Prim.Native.Nat.{ℕ, _-_}
 use lib.ListN.{length, length-replicate}
 use Rattle.load.specs.Loaded.{Outcome}
 use Rattle.load.proofs.Loading.{Going, zeros, over, none-there, load-start, line-room, number-room, load-end, load-bad, row-room, row-fits, same-long, goes-on, held-again, load-refused, load-again}

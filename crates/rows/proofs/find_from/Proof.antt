@@ -1,7 +1,6 @@
 -- `find_from` equals its definition: a name that is the string tried has its place there.
 use borrow.Author.Needs.{needs}
-use native.Mathlib.Omega.{arith}
-use mathlib.Core.Path.{_≡_, sym, _∙_}
+use mathlib.Core.Path.{sym, _∙_}
 use Rattle.rows.proofs.Grow.{number-is}
 use Rattle.rows.proofs.find_from.Statement.{statement}
 use Rattle.rows.proofs.find_from.Tie as tie

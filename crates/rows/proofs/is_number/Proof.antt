@@ -1,7 +1,6 @@
 -- `is_number` equals its definition.
 use borrow.Author.Needs.{needs}
 use native.Mathlib.Omega.{arith}
-use mathlib.Core.Path.{_≡_, refl}
 use Rattle.rows.proofs.Strings.{number-past, number-under}
 use Rattle.rows.proofs.is_number.Statement.{statement}
 use Rattle.rows.proofs.is_number.Tie as tie

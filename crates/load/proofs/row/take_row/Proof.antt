@@ -1,10 +1,7 @@
 -- `take_row` equals its definition: each kind by its own function.
 use borrow.Author.Needs.{needs}
 use native.Mathlib.Omega.{arith}
-use mathlib.Core.Path.{_≡_, refl, sym, ap, _∙_}
-use mathlib.Core.Bool.{false}
-use Rattle.text.specs.Test.{twice}
-use Rattle.text.specs.String.{same}
+use mathlib.Core.Path.{refl, sym}
 use Rattle.load.proofs.Rows.{front-long, both-room, part-some, all-distinct, all-named, members-in, ids-in, row-version, row-group, row-member, row-rule, row-unknown}
 use Rattle.load.proofs.row.take_row.Statement.{statement}
 use Rattle.load.proofs.row.take_row.Tie as tie
