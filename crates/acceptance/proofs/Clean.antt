@@ -1,21 +1,19 @@
 -- A text is accepted exactly where each of its lines reads, and gets no number after the lines before it.
-use mathlib.Core.Path.{_≡_, refl, sym, ap, _∙_}
+use mathlib.Core.Path.{_≡_, refl, ap}
 use mathlib.Core.Bool.{Bool, true, false}
 use mathlib.Core.List.{List, [], _∷_, List·Memᴰ·head, List·Memᴰ·tail, List·Memᴰ·not-nil}
-use mathlib.Core.Option.{Option, none, some}
 use Prim.Native.Nat.{ℕ, _+_}
 use native.Mathlib.Omega.{arith}
 use borrow.Author.Tests.{eqb-true}
 use lib.Dec.{eqb}
 use Rattle.text.specs.Test.{_and_, if_then_else_, _∈_}
 use Rattle.text.specs.String.{Str}
-use Rattle.text.specs.Refusal.{_when_else_, clear}
+use Rattle.text.specs.Refusal.{clear}
 use Rattle.text.proofs.Tests.{clash, by, and-l, and-r, both, on-cons}
 use Rattle.table.specs.Frame.{Entry}
 use Rattle.table.specs.Refusal.{Line, notHex, unreadable, reads, lineOf, Earlier, refusal, after, with}
 use Rattle.table.specs.Text.{judge, unless, maybe, collect, read, entries}
-use Rattle.table.specs.declared.Checked.{Checked}
-use Rattle.table.specs.declared.Checked.the-variants.{Accepted, Refused}
+use Rattle.table.specs.declared.Checked.the-variants.{Accepted}
 
 -- no line gets a number
 unfoldable pub clean : Earlier → List Str → Bool

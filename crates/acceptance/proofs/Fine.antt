@@ -1,23 +1,23 @@
 -- Frames get no number exactly where tests hold that do not look at their order within a kind, and their kinds are in order.
-use mathlib.Core.Path.{_≡_, refl, sym, ap, _∙_, subst}
+use mathlib.Core.Path.{_≡_, refl, sym, subst}
 use mathlib.Core.Bool.{Bool, true, false, not}
 use mathlib.Core.List.{List, [], _∷_, _++_, map, append-assoc, append-nil, List·Memᴰ·head, List·Memᴰ·tail, List·Memᴰ·not-nil}
 use mathlib.Core.Option.{Option}
-use Prim.Native.Nat.{ℕ, suc, _+_, _≤_, _<_}
+use Prim.Native.Nat.{ℕ, _+_, _≤_, _<_}
 use native.Mathlib.Omega.{arith}
-use borrow.Author.Tests.{eqb-true, leb-false, ltb-true, ltb-false, lt-leb, lt-ltb, not-true, not-false, ne-eqb}
-use lib.Dec.{eqb, ltb, leb}
+use borrow.Author.Tests.{eqb-true, leb-false, lt-leb, lt-ltb, not-true, not-false, ne-eqb}
+use lib.Dec.{eqb, ltb}
 use lib.ListN.{length, length-append}
-use Rattle.text.specs.Test.{_and_, _or_, if_then_else_, _∈_, all, any, twice}
+use Rattle.text.specs.Test.{_and_, _or_, if_then_else_, _∈_, any, twice}
 use Rattle.text.specs.String.{Str, same}
 use Rattle.text.specs.Refusal.{_when_else_, clear}
-use Rattle.text.proofs.Tests.{clash, by, and-l, and-r, both, or-l, or-r, or-cases, or-false-l, or-false-r, neither, on-cons, any→, →any, none-any, same→≡, ≡→same}
-use Rattle.path.specs.Faults.{unsized, overLimit, strayByte, misplaced, keyTwice}
+use Rattle.text.proofs.Tests.{clash, by, and-l, and-r, both, or-l, or-r, or-false-l, or-false-r, neither, on-cons, none-any, same→≡, ≡→same}
+use Rattle.path.specs.Faults.{unsized, overLimit, keyTwice}
 use Rattle.table.specs.Table.{Member, Rule}
 use Rattle.table.specs.Frame.{Entry, version, group, member, rule}
-use Rattle.table.specs.Refusal.{reads, Earlier, kindOf, outOfOrder, unsizedShort, pastLimit, stray, strays, misplaces, sameMember, repeats, listed, unlisted, refusal, with}
+use Rattle.table.specs.Refusal.{reads, Earlier, kindOf, outOfOrder, unsizedShort, pastLimit, strays, misplaces, sameMember, repeats, listed, unlisted, refusal, with}
 use Rattle.table.specs.Text.{maybe, collect, asGroup, asMember, asRule}
-use Rattle.verdict.proofs.Twice.{→none, first-alone, rest-alone, →alone, twice-append}
+use Rattle.verdict.proofs.Twice.{first-alone, rest-alone, twice-append}
 use Rattle.acceptance.proofs.Clean.{cleanEntries}
 
 -- ---- the chain of numbers

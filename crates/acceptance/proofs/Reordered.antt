@@ -2,29 +2,28 @@
 -- and rules in another order.
 use mathlib.Core.Path.{_≡_, refl, sym, ap, _∙_}
 use mathlib.Core.Bool.{Bool, true, false, not}
-use mathlib.Core.List.{List, [], _∷_, _++_, map, List·Memᴰ·head, List·Memᴰ·tail, List·Memᴰ·not-nil, List·Permᴰ, List·Permᴰ·nil, List·Permᴰ·cons, List·Permᴰ·swap, List·Permᴰ·trans, Permᴰ·symm}
-use Prim.Native.Nat.{ℕ, suc, _+_, _≤_, _<_}
+use mathlib.Core.List.{List, [], _∷_, map, List·Memᴰ·head, List·Memᴰ·tail, List·Memᴰ·not-nil, List·Permᴰ, List·Permᴰ·nil, List·Permᴰ·cons, List·Permᴰ·swap, List·Permᴰ·trans, Permᴰ·symm}
+use Prim.Native.Nat.{ℕ, suc, _≤_}
 use native.Mathlib.Omega.{arith}
-use borrow.Author.Tests.{leb-true, ltb-false, le-ltb, ne-eqb, eqb-false}
+use borrow.Author.Tests.{leb-true, le-ltb, ne-eqb}
 use lib.Dec.{eqb, ltb, leb}
 use lib.ListN.{length}
 use Rattle.text.specs.Test.{_and_, _or_, if_then_else_, _∈_, any, twice}
 use Rattle.text.specs.String.{Str, same, joined}
 use Rattle.text.proofs.Tests.{clash, by, and-l, and-r, both, on-cons}
 use Rattle.line.specs.Lines.{lines, onto}
-use Rattle.table.specs.Table.{Member, Rule, Table}
+use Rattle.table.specs.Table.{Rule}
 use Rattle.table.specs.Frame.{Entry, version, group, member, rule}
-use Rattle.table.specs.Refusal.{Line, lineOf, Earlier, kindOf, outOfOrder, listed, first, sameMember}
-use Rattle.table.specs.Text.{judge, check, accepted, maybe, collect, read, entries, asVersion, asGroup, asMember, asRule, table, tableOf}
-use Rattle.table.specs.declared.Checked.{Checked}
-use Rattle.table.specs.declared.Checked.the-variants.{Accepted, Refused}
+use Rattle.table.specs.Refusal.{lineOf, kindOf, outOfOrder, listed, first, sameMember}
+use Rattle.table.specs.Text.{check, maybe, collect, read, entries, asVersion, asGroup, asMember, asRule, table, tableOf}
+use Rattle.table.specs.declared.Checked.the-variants.{Accepted}
 use Rattle.path.specs.Faults.{keyTwice}
 use Rattle.verdict.specs.Laws.{sameId, Orderly, Reordered}
 use Rattle.verdict.proofs.Reorder.{perm-mem, perm-any, perm-twice}
 use Rattle.acceptance.specs.Reordering.{rising, ReorderedLines}
 use Rattle.acceptance.proofs.Permutations.{perm-length, perm-collect, perm-joined}
-use Rattle.acceptance.proofs.Clean.{clean, cleanEntries, judge-clean, clean-judge, Readable, readable, clean-readable, clean-entries}
-use Rattle.acceptance.proofs.Fine.{ownTwice, Own, Whole, Fine, ordered, groupsIn, membersIn, rulesIn, ident, idsIn, astray, fine, unfaulted, same-turned, member-turned}
+use Rattle.acceptance.proofs.Clean.{clean, judge-clean, clean-judge, Readable, clean-readable, clean-entries}
+use Rattle.acceptance.proofs.Fine.{ownTwice, Own, Whole, Fine, ordered, rulesIn, ident, astray, fine, unfaulted, same-turned, member-turned}
 
 -- ---- the kinds
 

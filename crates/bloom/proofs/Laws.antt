@@ -1,14 +1,14 @@
 -- A path that covers the joined path of another and the asked one has no digit that the other lacks.
 use mathlib.Core.Path.{_≡_, refl, sym, ap, _∙_}
 use mathlib.Core.Logic.{_⊎_, inl, inr}
-use mathlib.Core.Bool.{Bool, true, false, not}
+use mathlib.Core.Bool.{Bool, true, false}
 use mathlib.Core.List.{List, [], _∷_}
-use Prim.Native.Nat.{ℕ, zero, suc, _+_, _*_, _/_, _%_, _^_, _≤_, _<_}
+use Prim.Native.Nat.{ℕ, zero, suc, _+_, _/_, _%_, _≤_, _<_}
 use native.Mathlib.Nat.{mod-lt}
 use native.Mathlib.Omega.{arith}
 use lib.Bits.{bitOr, or-shr, or-mod, or-comm, or-self, or-zero-r}
 use Rattle.text.specs.Test.{_and_, _or_, if_then_else_, all, any, only}
-use Rattle.text.specs.String.{Str, bytes, same}
+use Rattle.text.specs.String.{same}
 use Rattle.text.proofs.Tests.{clash, by, and-l, and-r, or-l, or-r, or-cases, same→≡}
 use Rattle.path.specs.Path.{Key, Elem, Path}
 use Rattle.verdict.specs.Cover.{wild, given, definite, sameKey, holds, meets, covers}

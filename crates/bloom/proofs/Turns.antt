@@ -1,14 +1,14 @@
 -- One turn of each loop, and its end.
-use mathlib.Core.Path.{_≡_, refl, sym, ap, _∙_}
+use mathlib.Core.Path.{_≡_, sym, ap, _∙_}
 use mathlib.Core.Bool.{true, false}
-use mathlib.Core.List.{List, [], _∷_}
-use Prim.Native.Nat.{ℕ, zero, suc, _+_, _-_, _*_, _/_, _%_, _^_, _≤_, _<_}
+use mathlib.Core.List.{List, []}
+use Prim.Native.Nat.{ℕ, _+_, _-_, _*_, _/_, _%_, _^_, _≤_, _<_}
 use native.Mathlib.Nat.{mod-lt, one-mul}
 use native.Mathlib.Omega.{arith}
 use lib.ListN.{getD}
 use lib.Pow.{shl-exact}
 use Rattle.text.specs.Test.{_or_, if_then_else_}
-use Rattle.path.specs.Path.{Key, Elem, Path}
+use Rattle.path.specs.Path.{Key, Path}
 use Rattle.verdict.specs.Cover.{wild, holds}
 use Rattle.place.specs.Place.{strEnd, strIn, keyEnd, keyIn, keysIn, elemEnd, elemIn, elemsIn}
 use Rattle.place.proofs.Cursor.{keys-cons, keys-nil, elems-cons, elems-nil}

@@ -1,5 +1,5 @@
 // The C boundary: every exported function. Each takes numbers and byte slices and answers one word.
-mod policies;
+pub mod policies;
 mod probes;
 mod records;
 mod word;

@@ -4,7 +4,6 @@ ghost use lib.ListN.{length};
 ghost use Rattle.rotation.specs.Calls.{start, upload, uploadStore, finalize, close};
 ghost use Rattle.upload.specs.Offered.{offeredCheck};
 ghost use Rattle.burgee.specs.Record.{answered};
-ghost use Rattle.burgee.specs.Word.{checkedWord};
 use rotation::Record;
 use rotation::Stepped;
 

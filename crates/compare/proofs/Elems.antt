@@ -1,16 +1,15 @@
 -- One law for each way out of a walk over elements.
-use mathlib.Core.Path.{_≡_, refl, sym, ap, _∙_}
-use mathlib.Core.Bool.{Bool, true, false, not}
-use mathlib.Core.List.{List, [], _∷_}
-use Prim.Native.Nat.{ℕ, zero, suc, _+_, _-_, _≤_, _<_}
+use mathlib.Core.Path.{_≡_}
+use mathlib.Core.Bool.{true, false, not}
+use mathlib.Core.List.{List}
+use Prim.Native.Nat.{ℕ, _+_, _-_, _≤_, _<_}
 use native.Mathlib.Omega.{arith}
-use lib.ListN.{length, getD}
+use lib.ListN.{getD}
 use Rattle.text.specs.Test.{_and_, _or_, all, any, only}
-use Rattle.text.specs.String.{Str, same}
-use Rattle.path.specs.Path.{Key, Elem}
+use Rattle.text.specs.String.{same}
 use Rattle.verdict.specs.Cover.{given, definite, holds, meets, covers}
 use Rattle.verdict.specs.Join.{clashes, agrees, agree, meetsBoth, coversBoth}
-use Rattle.place.specs.Place.{strEnd, strIn, keyIn, keysIn, elemEnd, elemIn, elemsEnd, elemsIn}
+use Rattle.place.specs.Place.{strEnd, strIn, keysIn, elemEnd, elemIn, elemsIn}
 use Rattle.place.proofs.Cursor.{elems-cons, elems-nil}
 use Rattle.compare.specs.Compare.{met}
 

@@ -2,10 +2,10 @@
 use mathlib.Core.Path.{_≡_, refl, sym, ap, _∙_}
 use mathlib.Core.Bool.{Bool, true, false, not}
 use mathlib.Core.List.{List, [], _∷_}
-use Prim.Native.Nat.{ℕ, zero, suc, _+_, _-_, _≤_, _<_}
+use Prim.Native.Nat.{ℕ, _+_, _-_, _≤_, _<_}
 use native.Mathlib.Omega.{arith}
 use lib.Dec.{eqb}
-use lib.ListN.{length, take, drop, getD}
+use lib.ListN.{length, getD}
 use lib.Seq.{drop-cons}
 use Rattle.text.specs.Test.{_and_, _or_, if_then_else_, all, any, only}
 use Rattle.text.specs.String.{Str, bytes, same}
@@ -13,10 +13,10 @@ use Rattle.text.proofs.Tests.{clash, by, and-r, same→≡}
 use Rattle.text.proofs.Scans.{same-lengths}
 use Rattle.path.specs.Path.{Key}
 use Rattle.verdict.specs.Cover.{wild, given, sameKey, holds}
-use Rattle.verdict.specs.Join.{conflict, clashes}
-use Rattle.place.specs.Place.{strEnd, strIn, keyEnd, keyIn, keysEnd, keysIn}
+use Rattle.verdict.specs.Join.{conflict}
+use Rattle.place.specs.Place.{strEnd, strIn, keyEnd, keyIn, keysIn}
 use Rattle.place.proofs.Cursor.{length-str, keys-cons, keys-nil}
-use Rattle.compare.specs.Compare.{met, conflicting, clashing}
+use Rattle.compare.specs.Compare.{conflicting}
 
 -- ---- the value `*`
 

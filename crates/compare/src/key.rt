@@ -1,9 +1,8 @@
 // Strings and keys at positions of checked path bytes.
 ghost use mathlib.Core.Path.{_≡_};
-ghost use mathlib.Core.Bool.{not};
 ghost use Prim.Native.Nat.{_≤_};
 ghost use lib.ListN.{length};
-ghost use Rattle.text.specs.Test.{_and_, _or_, all, any};
+ghost use Rattle.text.specs.Test.{_or_, all, any};
 ghost use Rattle.text.specs.String.{bytes, same};
 ghost use Rattle.verdict.specs.Cover.{wild, given, sameKey, holds};
 ghost use Rattle.verdict.specs.Join.{clashes};

@@ -1,5 +1,5 @@
 -- A rule's mode, origin and subject in its bytes.
-use mathlib.Core.Path.{_≡_, refl, sym, ap, _∙_}
+use mathlib.Core.Path.{_≡_, sym, ap, _∙_}
 use mathlib.Core.Bool.{Bool, true, false}
 use mathlib.Core.List.{List}
 use Prim.Native.Nat.{ℕ, _+_, _-_, _≤_, _<_}
@@ -9,9 +9,8 @@ use lib.Dec.{eqb}
 use lib.ListN.{length, take, drop, getD}
 use Rattle.text.specs.Test.{_and_, if_then_else_}
 use Rattle.text.specs.String.{Str, same}
-use Rattle.table.specs.Table.{Rule}
 use Rattle.place.specs.Place.{strEnd, strIn}
-use Rattle.place.proofs.Cursor.{str-grows, path-room}
+use Rattle.place.proofs.Cursor.{str-grows}
 use Rattle.judge.specs.Rules.{idAt, originAt, pathAt, ruleIn, ruleEnd}
 use Rattle.judge.proofs.Parts.{rule-room}
 use Rattle.groups.specs.Set.{hasOf}

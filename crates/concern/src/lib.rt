@@ -3,7 +3,7 @@ ghost use mathlib.Core.Path.{_≡_};
 ghost use mathlib.Core.Bool.{true};
 ghost use Prim.Native.Nat.{_≤_, _<_};
 ghost use lib.Dec.{eqb};
-ghost use lib.ListN.{length, getD};
+ghost use lib.ListN.{length};
 ghost use Rattle.judge.specs.Rules.{ruleIn, ruleEnd, Laid};
 ghost use Rattle.concern.specs.Concern.{concernsBy, appliesBy, Few, Applying};
 use table::GroupNumber;

@@ -1,16 +1,14 @@
 -- The step that `stepOf` names is the one at which the ranking decides.
 use mathlib.Core.Path.{_≡_, sym}
-use mathlib.Core.Bool.{Bool, true, false}
+use mathlib.Core.Bool.{Bool, true}
 use Prim.Native.Nat.{ℕ, _<_}
 use native.Mathlib.Omega.{arith}
 use borrow.Author.Tests.{ltb-true, lt-ltb, eqb-true, eq-eqb, ne-eqb}
 use lib.Dec.{eqb, ltb}
-use lib.ListN.{length}
 use Rattle.text.specs.Test.{_and_, _or_, if_then_else_}
-use Rattle.text.specs.String.{more, before}
+use Rattle.text.specs.String.{more}
 use Rattle.text.proofs.Tests.{by, and-l, and-r, both, or-l, or-r}
-use Rattle.table.specs.Table.{Rule}
-use Rattle.verdict.specs.Order.{definites, unless, better}
+use Rattle.verdict.specs.Order.{unless, better}
 use Rattle.explain.specs.Standing.{standing, decides, stepOf}
 use Rattle.explain.specs.Lost.{LostAt, NamesTheStep, LosesByStep}
 use Rattle.explain.specs.declared.Step.{Step}

@@ -1,13 +1,13 @@
 -- What a loaded table says: its rows, and a user's groups.
 use mathlib.Core.Path.{_≡_, refl, sym, ap, _∙_}
-use mathlib.Core.Bool.{Bool, true, false}
+use mathlib.Core.Bool.{false}
 use mathlib.Core.List.{List, [], _∷_}
 use Prim.Native.Nat.{ℕ, zero, suc, _+_, _≤_, _<_}
 use native.Mathlib.Omega.{arith}
 use borrow.Author.Tests.{eq-eqb, ne-eqb}
 use lib.Dec.{eqb}
 use lib.ListN.{length, take, getD}
-use Rattle.text.specs.Test.{_or_, if_then_else_, any, twice}
+use Rattle.text.specs.Test.{_or_, if_then_else_, any}
 use Rattle.text.specs.String.{Str}
 use Rattle.text.proofs.Tests.{by}
 use Rattle.rows.proofs.Grow.{strings-length, rows-length}

@@ -1,7 +1,7 @@
 -- What one insertion does to a set's digits; what its ones and its trailing zeros say.
 use mathlib.Core.Path.{_≡_, refl, sym, ap, _∙_}
-use mathlib.Core.Bool.{Bool, true, false, _||_}
-use Prim.Native.Nat.{ℕ, zero, suc, _+_, _*_, _/_, _%_, _^_, _≤_, _<_}
+use mathlib.Core.Bool.{false, _||_}
+use Prim.Native.Nat.{ℕ, zero, suc, _*_, _/_, _%_, _^_, _≤_, _<_}
 use native.Mathlib.Nat.{one-mul, div-one, mod-lt}
 use native.Mathlib.Numerals.{one-add}
 use native.Mathlib.Omega.{arith}
@@ -9,7 +9,6 @@ use borrow.Author.Tests.{eqb-true, eqb-false}
 use lib.Dec.{eqb}
 use lib.Bits.{bitOr, or-shr, or-mod, or-zero-r, shifted-half, shifted-even}
 use lib.Pow.{shr-shr, shl-exact}
-use lib.Count.{ones, ones-step}
 use Rattle.text.proofs.Tests.{by}
 use Rattle.groups.specs.Set.{insertOf, hasOf}
 

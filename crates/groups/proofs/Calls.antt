@@ -2,7 +2,7 @@
 use mathlib.Core.Path.{_≡_, refl, sym, ap, _∙_, subst}
 use mathlib.Core.Bool.{Bool, true, false, not, _||_}
 use mathlib.Core.List.{List, [], _∷_}
-use Prim.Native.Nat.{ℕ, suc, _≤_, _<_}
+use Prim.Native.Nat.{ℕ, _≤_}
 use native.Mathlib.Omega.{arith}
 use borrow.Author.Tests.{eq-eqb, ne-eqb}
 use lib.Dec.{eqb}
@@ -12,7 +12,7 @@ use lib.Seq.{length-take-le}
 use Rattle.text.specs.Test.{_or_, if_then_else_, all}
 use Rattle.text.specs.Byte.{isPrint}
 use Rattle.text.specs.String.{Str}
-use Rattle.text.proofs.Tests.{by}
+use Rattle.text.proofs.Tests.{or-is}
 use Rattle.path.specs.Faults.{unsized}
 use Rattle.rows.specs.Strings.{Laid}
 use Rattle.rows.proofs.Grow.{strings-length}
@@ -24,15 +24,14 @@ use Rattle.table.specs.declared.Checked.{Checked}
 use Rattle.table.specs.declared.Checked.the-variants as checked
 use Rattle.table.specs.declared.Counted.{Counted}
 use Rattle.table.specs.declared.Counted.the-variants.{Count, NoGroup, Declined}
-use Rattle.table.proofs.Numbers.{or-is, long-is, stray-is}
+use Rattle.table.proofs.Numbers.{long-is, stray-is}
 use Rattle.keep.specs.Held.{Owned}
 use Rattle.load.specs.declared.row.Counts.{Counts}
 use Rattle.load.specs.declared.Loaded.{Loaded}
 use Rattle.load.specs.declared.Loaded.the-variants.{Table, Refused}
-use Rattle.load.specs.Held.{Holds}
 use Rattle.load.specs.Loaded.{Kept, Outcome}
 use Rattle.groups.specs.Set.{setIn, countIn, declinedBy}
-use Rattle.groups.proofs.Sets.{count-is, first-is, few-count}
+use Rattle.groups.proofs.Sets.{count-is, first-is}
 
 module _ (text : Str) (r : Loaded) (buf groups users owners ids starts holders : List ℕ) (o : Outcome text r buf groups users owners ids starts holders) where
   pub outcome-refused : (n l : ℕ) → r ≡ Refused n l → checked.Refused n l ≡ check text

@@ -1,26 +1,26 @@
 -- The set of a user's groups: has, count and first are membership, how many there are, and the first of them.
-use mathlib.Core.Path.{_≡_, refl, sym, ap, ap₂, _∙_}
+use mathlib.Core.Path.{_≡_, refl, sym, ap, _∙_}
 use mathlib.Core.Bool.{Bool, true, false, _||_}
 use mathlib.Core.List.{List, [], _∷_}
 use Prim.Native.Nat.{ℕ, zero, suc, _+_, _-_, _/_, _%_, _≤_, _<_}
 use native.Mathlib.Numerals.{add-one}
 use native.Mathlib.Omega.{arith}
-use borrow.Author.Tests.{eqb-true, eqb-false, eq-eqb, ne-eqb}
+use borrow.Author.Tests.{eqb-true, eqb-false}
 use lib.Dec.{eqb}
-use lib.Count.{ones, ones-step, under, trailingZeros}
+use lib.Count.{ones, ones-step, trailingZeros}
 use lib.ListN.{length, getD}
 use Rattle.text.specs.Test.{_and_, _or_, if_then_else_, any, twice}
 use Rattle.text.specs.String.{Str, same}
-use Rattle.text.proofs.Tests.{by, clash, same-refl, neither, and-l}
+use Rattle.text.proofs.Tests.{by, same-refl, neither, and-l}
 use Rattle.place.specs.Place.{strIn}
-use Rattle.rows.specs.Strings.{stringsIn, place, isPair, hasPair}
-use Rattle.rows.proofs.Grow.{strings-length, place-test}
+use Rattle.rows.specs.Strings.{place}
+use Rattle.rows.proofs.Grow.{place-test}
 use Rattle.table.specs.Table.{Member}
 use Rattle.table.specs.Refusal.{sameMember}
 use Rattle.table.specs.Group.{lists, numbered, memberships}
-use Rattle.keep.specs.Held.{memberIn, membersIn, Owned}
-use Rattle.keep.proofs.Members.{pairs-any}
+use Rattle.keep.specs.Held.{membersIn, Owned}
 use Rattle.groups.specs.Set.{insertOf, hasOf, setIn}
+use Rattle.groups.proofs.Pairs.{isPair, hasPair, pairs-any}
 use Rattle.groups.proofs.Bits.{digit, digit-is, digit-small, has-insert, has-none, no-digits}
 
 -- ---- the loop

@@ -1,13 +1,12 @@
 -- Counting definite keys by position.
-use mathlib.Core.Path.{_≡_, refl, sym, ap, _∙_}
-use mathlib.Core.Bool.{Bool, true, false}
-use mathlib.Core.List.{List, [], _∷_}
-use Prim.Native.Nat.{ℕ, zero, suc, _+_, _-_, _≤_, _<_, zero-le}
+use mathlib.Core.Path.{_≡_, refl, sym}
+use mathlib.Core.List.{List, _∷_}
+use Prim.Native.Nat.{ℕ, zero, suc, _+_, _-_, _≤_, _<_}
 use native.Mathlib.Omega.{arith}
 use lib.ListN.{length, getD}
 use Rattle.text.specs.Test.{if_then_else_, only}
 use Rattle.text.proofs.Tests.{by}
-use Rattle.path.specs.Path.{Key, Elem}
+use Rattle.path.specs.Path.{Key}
 use Rattle.verdict.specs.Cover.{wild, given, definite}
 use Rattle.verdict.specs.Order.{unless, definites}
 use Rattle.verdict.proofs.Order.{unless-small}

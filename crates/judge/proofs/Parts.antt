@@ -1,10 +1,10 @@
 -- The parts of a rule in its bytes, and the order by what is read of them.
-use mathlib.Core.Path.{_≡_, refl, sym, ap, _∙_}
+use mathlib.Core.Path.{_≡_, sym, ap, _∙_}
 use mathlib.Core.Bool.{Bool, true, false}
-use mathlib.Core.List.{List, [], _∷_}
-use Prim.Native.Nat.{ℕ, zero, suc, _+_, _-_, _≤_, _<_}
+use mathlib.Core.List.{List}
+use Prim.Native.Nat.{ℕ, suc, _+_, _-_, _≤_, _<_}
 use native.Mathlib.Omega.{arith}
-use borrow.Author.Tests.{eq-eqb, ne-eqb, lt-ltb, le-ltb, eqb-true, eqb-false}
+use borrow.Author.Tests.{ne-eqb, lt-ltb, le-ltb, eqb-true, eqb-false}
 use lib.Dec.{eqb, ltb}
 use lib.ListN.{length, take, drop, getD}
 use Rattle.text.specs.Test.{_or_}
@@ -16,7 +16,7 @@ use Rattle.table.specs.Table.{Rule}
 use Rattle.verdict.specs.Cover.{covers}
 use Rattle.verdict.specs.Order.{definites, better, earlier, rankBy, rank}
 use Rattle.verdict.proofs.Order.{better-rank, unless-small}
-use Rattle.place.specs.Place.{strEnd, strIn, elemsEnd, elemsIn, pathEnd, pathIn}
+use Rattle.place.specs.Place.{strEnd, strIn, elemsEnd, elemsIn, pathEnd}
 use Rattle.place.proofs.Cursor.{str-grows, path-room, length-elems}
 use Rattle.judge.specs.Rules.{idAt, originAt, pathAt, ruleIn, ruleEnd}
 use Rattle.judge.specs.Best.{lacks, Ranked, wins}

@@ -1,9 +1,9 @@
 // The deciding rule for a path.
 ghost use mathlib.Core.Path.{_≡_};
 ghost use mathlib.Core.Bool.{Bool};
-ghost use Prim.Native.Nat.{ℕ, _≤_, _<_};
+ghost use Prim.Native.Nat.{_≤_, _<_};
 ghost use lib.Dec.{eqb};
-ghost use lib.ListN.{length, getD};
+ghost use lib.ListN.{length};
 ghost use Rattle.table.specs.Table.{Rule};
 ghost use Rattle.verdict.specs.Order.{better, choose, prefer, candidate};
 ghost use Rattle.place.specs.Place.{elemsEnd, elemsIn};

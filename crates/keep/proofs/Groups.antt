@@ -1,12 +1,12 @@
 -- What take_group has met.
 use mathlib.Core.Path.{_≡_, refl, sym, ap, _∙_}
 use mathlib.Core.Bool.{Bool, true, false, not, _||_}
-use mathlib.Core.List.{List, [], _∷_}
-use mathlib.Core.Option.{Option, none, some}
+use mathlib.Core.List.{List}
+use mathlib.Core.Option.{some}
 use Prim.Native.Nat.{ℕ, _+_, _-_, _≤_, _<_}
 use native.Mathlib.Omega.{arith}
 use borrow.Author.Tests.{leb-false}
-use lib.Dec.{ltb, leb}
+use lib.Dec.{leb}
 use lib.ListN.{length, getD, set}
 use Rattle.text.specs.Test.{_or_, any, all}
 use Rattle.text.specs.Byte.{isPrint}
@@ -14,39 +14,37 @@ use Rattle.text.specs.String.{Str, same}
 use Rattle.text.specs.Frame.{got, string, endOf, part}
 use Rattle.text.specs.declared.frame.End.{End}
 use Rattle.text.specs.declared.frame.End.the-variants.{At, Unread}
-use Rattle.text.proofs.Tests.{or-false-r}
+use Rattle.text.proofs.Tests.{or-false-r, or-is}
 use Rattle.text.proofs.Frames.{string-ends, string-misses}
 use Rattle.path.specs.Faults.{unsized}
-use Rattle.rows.specs.Strings.{stringsIn, place}
-use Rattle.rows.proofs.Grow.{strings-length, place-any}
-use Rattle.table.specs.Frame.{Entry, group, entryOf}
+use Rattle.sorted.specs.Spans.{spanOf, Sought, inserted}
+use Rattle.sorted.specs.declared.Found.{Found}
+use Rattle.rows.specs.Strings.{stringsIn}
+use Rattle.rows.proofs.Grow.{strings-length}
+use Rattle.table.specs.Frame.{group, entryOf}
 use Rattle.table.specs.Refusal.{Earlier, reads, framed, outOfOrder, kindOf, pastLimit, strays, misplaces, repeats, unlisted, refusal}
 use Rattle.table.specs.Walk.{merged, unsizedBy}
-use Rattle.table.proofs.Numbers.{or-is, long-is, stray-is, number-four, number-plain, merged-clear}
+use Rattle.table.proofs.Numbers.{long-is, stray-is, number-four, number-plain, merged-clear}
 use Rattle.table.proofs.Frames.{group-unread, group-off, group-read}
 use Rattle.table.proofs.Versions.{refused-unread, refused-read}
-use Rattle.keep.specs.Held.{GroupKept}
-
--- a number that does not stand for the strings' count
-pub find-any : (f starts : List ℕ) (n : ℕ) (name : Str) (p : ℕ) → p ≡ place name (stringsIn f starts n 0) → ltb p n ≡ any (same name) (stringsIn f starts n 0)
-find-any f starts n name p e =
-    ap (λ (q : ℕ). ltb q n) e ∙ ap (ltb (place name (stringsIn f starts n 0))) (sym (strings-length f starts n)) ∙ sym (place-any name (stringsIn f starts n 0))
+use Rattle.keep.specs.Held.{Named, GroupKept}
+use Rattle.keep.proofs.Names.{new-span, new-inside, named-grows}
 
 -- a count below its limit
 pub below : (p limit n m : ℕ) (u v six eight nine : Bool) → u ≡ v → m ≡ merged p (u || leb limit n) six eight nine → m ≡ 255 → n < limit
 below p limit n m u v six eight nine x e h = leb-false limit n (or-false-r u _ (sym (or-is u (leb limit n)) ∙ merged-clear p (u || leb limit n) six eight nine (sym e ∙ h) .0))
 
-module _ (f : Str) (pre : (0 < length f) × (getD f 0 0 ≡ 2)) (r : End) (i : r ≡ endOf (string f 1)) (b : Earlier) (last : ℕ) (w : b .kind ≡ last) where
+module _ (f : Str) (pre : (0 < length f) × (getD f 0 0 ≡ 2)) (r : End) (i′ : r ≡ endOf (string f 1)) (b : Earlier) (last : ℕ) (w : b .kind ≡ last) where
   pub group-short : r ≡ Unread → 3 ≡ refusal b (framed (entryOf f))
-  group-short g = refused-unread b f (group-unread f (pre .0) (pre .1) (string-misses f 1 r i g))
+  group-short g = refused-unread b f (group-unread f (pre .0) (pre .1) (string-misses f 1 r i′ g))
 
   module _ (t : ℕ) (g : r ≡ At t) where
     pub group-long : (t ≡ length f → ⊥) → 3 ≡ refusal b (framed (entryOf f))
-    group-long n = refused-unread b f (group-off f (pre .0) (pre .1) _ t (string-ends f 1 r i t g .0) n)
+    group-long n = refused-unread b f (group-off f (pre .0) (pre .1) _ t (string-ends f 1 r i′ t g .0) n)
 
     module _ (n : t ≡ length f) (o : Bool) (q : o ≡ outOfOrder last 2) where
       reading : entryOf f ≡ some (group (part f 2 t))
-      reading = group-read f (pre .0) (pre .1) _ t (string-ends f 1 r i t g .0) n
+      reading = group-read f (pre .0) (pre .1) _ t (string-ends f 1 r i′ t g .0) n
 
       order : o ≡ outOfOrder (b .kind) (kindOf (group (part f 2 t)))
       unfolding kindOf
@@ -56,15 +54,30 @@ module _ (f : Str) (pre : (0 < length f) × (getD f 0 0 ≡ 2)) (r : End) (i : r
       group-four h = refused-read b f _ 4 reading (number-four b _ (sym order ∙ h))
 
       pub group-graded : o ≡ false → (old starts : List ℕ) (k : ℕ) → b .groups ≡ stringsIn old starts k 0
-          → (m : ℕ) (u p : Bool) (z : ℕ) → m ≡ merged 255 (u || leb 64 k) (not p) (ltb z k) false
-          → u ≡ unsizedBy 64 (length (part f 2 t)) → p ≡ all isPrint (part f 2 t) → z ≡ place (part f 2 t) (stringsIn old starts k 0)
+          → (names : List ℕ) → Named old names k (stringsIn old starts k 0)
+          → (m : ℕ) (u p : Bool) (z : Found) → m ≡ merged 255 (u || leb 64 k) (not p) (z .again) false
+          → u ≡ unsizedBy 64 (length (part f 2 t)) → p ≡ all isPrint (part f 2 t) → Sought old names k (part f 2 t) z
           → m ≡ refusal b (framed (entryOf f))
       unfolding pastLimit strays misplaces repeats unlisted
-      group-graded h old starts k e m u p z x y v a =
+      group-graded h old starts k e names N m u p z x y v a =
           let five : (u || leb 64 k) ≡ (unsized (part f 2 t) or leb 64 (length (b .groups))) = rw (e, strings-length old starts k, y, long-is (part f 2 t) (length (part f 2 t)) refl) (or-is (unsized (part f 2 t)) (leb 64 k)) in
-          let eight : ltb z k ≡ any (same (part f 2 t)) (b .groups) = find-any old starts k (part f 2 t) z a ∙ ap (any (same (part f 2 t))) (sym e) in
+          let eight : z .again ≡ any (same (part f 2 t)) (b .groups) = a .told ∙ sym (N .told (part f 2 t)) ∙ ap (any (same (part f 2 t))) (sym e) in
           refused-read b f _ m reading
           (number-plain b _ (sym order ∙ h) m _ (not p) _ false x five (stray-is _ p v) refl eight refl)
 
-      pub group-kept : (old starts : List ℕ) (k : ℕ) → k < 64 → GroupKept old f starts k (set starts k (length old + 1))
-      group-kept old starts k l = record { name = part f 2 t; reads = reading; stands = string-ends f 1 r i t g .0 ∙ ap (λ (j : ℕ). got (part f 2 t) j) n; room = l; starts-set = refl }
+      pub group-kept : (old starts : List ℕ) (k : ℕ) → k < 64 → length old + length f ≤ 16384 → (names : List ℕ) → length names ≡ 64 → Named old names k (stringsIn old starts k 0)
+          → (m : ℕ) (u six : Bool) (z : Found) → m ≡ merged 255 u six (z .again) false → m ≡ 255 → Sought old names k (part f 2 t) z
+          → (names′ : List ℕ) → names′ ≡ inserted names k (z .at) (spanOf (length old + 2) (length old + t))
+          → GroupKept old f starts k (set starts k (length old + 1)) names′
+      group-kept old starts k l small names wide N m u six z x fine a names′ i =
+          let w = string-ends f 1 r i′ t g in
+          record {
+            name = part f 2 t;
+            reads = reading;
+            stands = w .0 ∙ ap (λ (j : ℕ). got (part f 2 t) j) n;
+            room = l;
+            starts-set = refl;
+            named = rw i
+                (named-grows N f (part f 2 t) z (spanOf (length old + 2) (length old + t)) a (merged-clear 255 u six (z .again) false (sym x ∙ fine) .2)
+                (new-span old f 2 t (w .1) (w .2) (omega arith)) (new-inside old f 2 t (w .1) (w .2) (omega arith)) (omega arith));
+          }

@@ -1,70 +1,91 @@
 -- What take_member has met.
 use mathlib.Core.Path.{_≡_, refl, sym, ap, ap₂, _∙_}
 use mathlib.Core.Bool.{Bool, true, false, not, _||_}
-use mathlib.Core.List.{List, [], _∷_}
-use mathlib.Core.Option.{Option, none, some}
-use Prim.Native.Nat.{ℕ, zero, suc, _+_, _-_, _≤_, _<_}
+use mathlib.Core.List.{List, [], _∷_, _++_}
+use mathlib.Core.Option.{some}
+use Prim.Native.Nat.{ℕ, suc, _+_, _-_, _%_, _≤_, _<_}
 use native.Mathlib.Omega.{arith}
-use borrow.Author.Tests.{leb-false, eqb-true, eqb-false, ltb-true, ltb-false, eq-eqb, ne-eqb}
+use borrow.Author.Tests.{leb-false, eqb-false, ltb-true, ltb-false, eq-eqb, ne-eqb}
 use lib.Dec.{eqb, ltb, leb}
-use lib.ListN.{length, getD, set}
-use Rattle.text.specs.Test.{_and_, _or_, any, all, twice}
+use lib.ListN.{length, take, drop, getD, set, length-append, length-drop}
+use lib.Seq.{take-at}
+use Rattle.text.specs.Test.{_and_, _or_, any, all}
 use Rattle.text.specs.Byte.{isPrint}
 use Rattle.text.specs.String.{Str, same}
-use Rattle.text.specs.Frame.{got, string, endOf, part}
+use Rattle.text.specs.Frame.{got, string, stringBytes, endOf, part}
 use Rattle.text.specs.declared.frame.End.{End}
 use Rattle.text.specs.declared.frame.End.the-variants.{At, Unread}
-use Rattle.text.proofs.Tests.{by, and-l, and-r, neither, same→≡, or-false-r}
+use Rattle.text.proofs.Tests.{by, bool-ext, and-l, and-r, both, same→≡, ≡→same, or-false-r, or-is}
 use Rattle.text.proofs.Frames.{string-ends, string-misses}
+use Rattle.text.proofs.Codec.{Took, took-both, string-took, string-gives}
 use Rattle.path.specs.Faults.{unsized}
-use Rattle.place.specs.Place.{strIn}
-use Rattle.rows.specs.Strings.{stringsIn, place, isPair, hasPair, hashFrom}
-use Rattle.rows.proofs.Strings.{hash-small}
-use Rattle.rows.proofs.Grow.{rowsOf, rows-length, strings-length, place-any, place-test, place-le}
+use Rattle.sorted.specs.Spans.{spanOf}
+use Rattle.sorted.specs.declared.Found.{Found}
+use Rattle.hash_set.specs.Set.{Met, added, Holds}
+use Rattle.hash_set.proofs.Sets.{holds-grows, added-long}
+use Rattle.rows.specs.Strings.{stringsIn, place, hashOf}
+use Rattle.rows.proofs.Grow.{rows-length, strings-length, place-any, place-le}
 use Rattle.table.specs.Table.{Member}
-use Rattle.table.specs.Frame.{Entry, member, entryOf}
+use Rattle.table.specs.Frame.{member, entryOf}
 use Rattle.table.specs.Refusal.{Earlier, reads, framed, outOfOrder, kindOf, pastLimit, strays, stray, misplaces, sameMember, repeats, listed, unlisted, refusal}
 use Rattle.table.specs.Walk.{merged, unsizedBy}
-use Rattle.table.proofs.Numbers.{or-is, long-is, stray-is, number-four, number-plain, merged-clear}
+use Rattle.table.proofs.Numbers.{long-is, stray-is, number-four, number-plain, merged-clear}
 use Rattle.table.proofs.Frames.{member-unread, member-userless, member-off, member-read}
 use Rattle.table.proofs.Versions.{refused-unread, refused-read}
-use Rattle.keep.specs.Held.{memberIn, membersIn, Owned, Marked, memberPlace, MemberKept}
+use Rattle.keep.specs.Held.{membersIn, memberBytes, bytesOf, memberPlace, MemberKept}
+use Rattle.keep.proofs.Names.{new-span, new-inside}
 
--- ---- the filter: a place that is not set proves that no earlier member is the same
+-- ---- members as bytes
 
-module _ (g : ℕ) (u : Str) (f users owners : List ℕ) where
-  no-pair : (k i : ℕ) → ((j : ℕ) → i ≤ j → j < i + k → isPair g u f users owners j ≡ false) → hasPair g u f users owners k i ≡ false
-  unfolding hasPair
-  no-pair zero i h = refl
-  no-pair (suc k) i h = neither _ _ (h i (omega arith) (omega arith)) (no-pair k (suc i) (λ j a b. h j (omega arith) (omega arith)))
+module _ (m n : Member) where
+  bytes-told : memberBytes m ≡ memberBytes n → (m .group ≡ n .group) × (m .user ≡ n .user)
+  unfolding memberBytes stringBytes
+  bytes-told e =
+      let a = string-gives (memberBytes m) 0 (m .group) (stringBytes (m .user)) refl in
+      let b = string-gives (memberBytes n) 0 (n .group) (stringBytes (n .user)) refl in
+      let q : got (m .group) (a .0) ≡ got (n .group) (b .0) = sym (a .1) ∙ ap (λ (f : List ℕ). string f 0) e ∙ b .1 in
+      let g : m .group ≡ n .group = cc in
+      let t : a .0 ≡ b .0 = cc in
+      let u : length (m .user) ∷ m .user ≡ length (n .user) ∷ n .user = sym (a .2) ∙ ap₂ drop t e ∙ b .2 in
+      (g, cc)
 
-  same-place : (j : ℕ) → isPair g u f users owners j ≡ true → memberPlace owners f users j ≡ hashFrom g u
-  unfolding isPair
-  same-place j t = ap₂ hashFrom (eqb-true _ _ (and-l _ _ t)) (sym (same→≡ _ _ (and-r _ _ t)))
+  pub member-bytes : sameMember m n ≡ same (memberBytes m) (memberBytes n)
+  unfolding sameMember memberBytes
+  member-bytes =
+      bool-ext _ _
+      (λ t. ≡→same (ap₂ (λ (g u : Str). stringBytes g ++ stringBytes u) (same→≡ _ _ (and-l _ _ t)) (same→≡ _ _ (and-r _ _ t))))
+      (λ t. let k = bytes-told (same→≡ _ _ t) in both _ _ (≡→same (k .0)) (≡→same (k .1)))
 
-  pub member-filter : (seen : List ℕ) (n : ℕ) → Marked seen (memberPlace owners f users) n → getD seen (hashFrom g u) 0 ≡ 0 → hasPair g u f users owners n 0 ≡ false
-  member-filter seen n m z =
-      no-pair n 0 (λ j a b.
-      by (isPair g u f users owners j)
-      (λ t.
-      let o : getD seen (memberPlace owners f users j) 0 ≡ 1 = m j (omega arith) in
-      let s : getD seen (memberPlace owners f users j) 0 ≡ 0 = ap (λ (p : ℕ). getD seen p 0) (same-place j t) ∙ z in
-      absurd (omega arith))
-      (λ t. t))
+any-bytes : (m : Member) (ms : List Member) → any (sameMember m) ms ≡ any (same (memberBytes m)) (bytesOf ms)
+unfolding any bytesOf
+any-bytes m [] = refl
+any-bytes m (n ∷ ms) = ap₂ _or_ (member-bytes m n) (any-bytes m ms)
 
--- ---- pairs are members
+bytes-length : (ms : List Member) → length (bytesOf ms) ≡ length ms
+unfolding bytesOf
+bytes-length [] = refl
+bytes-length (m ∷ ms) = ap suc (bytes-length ms)
 
-module _ (groups : List Str) (name u : Str) (f users owners : List ℕ) (d : twice same groups ≡ false) where
-  pair-is : (j : ℕ) → getD owners j 0 < length groups
-      → isPair (place name groups) u f users owners j ≡ sameMember (record { group = name; user = u }) (memberIn groups owners f users j)
-  unfolding isPair sameMember
-  pair-is j h = ap (λ (t : Bool). t and same u (strIn f (getD users j 0))) (sym (place-test name groups (getD owners j 0) d h))
+pub bytes-snoc : (ms : List Member) (m : Member) → bytesOf (ms ++ (m ∷ [])) ≡ bytesOf ms ++ (memberBytes m ∷ [])
+unfolding bytesOf
+bytes-snoc [] m = refl
+bytes-snoc (n ∷ ms) m = ap (λ (l : List Str). memberBytes n ∷ l) (bytes-snoc ms m)
 
-  pub pairs-any : (k i n : ℕ) → i + k ≤ n → Owned owners n (length groups)
-      → hasPair (place name groups) u f users owners k i ≡ any (sameMember (record { group = name; user = u })) (rowsOf (memberIn groups owners f users) k i)
-  unfolding hasPair any rowsOf
-  pairs-any zero i n l h = refl
-  pairs-any (suc k) i n l h = ap₂ _or_ (pair-is i (h i (omega arith))) (pairs-any k (suc i) n (omega arith) h)
+-- what was taken is that part of the bytes
+part-took : (f : List ℕ) (a t : ℕ) (s : Str) → Took f a s t → part f a t ≡ s
+part-took f a t s k =
+    let l : length s ≡ t - a = omega (arith, sym (length-drop a f) ∙ ap length (k .same) ∙ length-append s (drop t f), length-drop t f, k .fits) in
+    ap (take (t - a)) (k .same) ∙ take-at s (drop t f) (t - a) l
+
+-- ---- their places
+
+pub place-far : (y : Str) → (512 < memberPlace y) × (memberPlace y < 4609)
+unfolding memberPlace
+place-far y = (omega arith, omega arith)
+
+pub place-is-told : (y : Str) (h p : ℕ) → h ≡ hashOf y → p ≡ 513 + h % 4096 → p ≡ memberPlace y
+unfolding memberPlace
+place-is-told y h p e i = rw (i, e)
 
 -- ---- a name without a place is not listed
 
@@ -80,10 +101,6 @@ listed-is name groups p n e l h = let k : p ≡ n → ⊥ = eqb-false _ _ h in o
 
 pub place-small : (name : Str) (f starts : List ℕ) (n p : ℕ) → p ≡ place name (stringsIn f starts n 0) → p ≤ n
 place-small name f starts n p e = omega (arith, place-le name (stringsIn f starts n 0), strings-length f starts n)
-
--- a hash that starts from a place
-pub hash-room : (s name : Str) (f starts : List ℕ) (n p h : ℕ) → n ≤ 64 → p ≡ place name (stringsIn f starts n 0) → h ≡ hashFrom p s → h < 8192
-hash-room s name f starts n p h l e i = let k : p ≤ n = place-small name f starts n p e in rw i (hash-small s p (omega arith))
 
 -- ---- the frame
 
@@ -120,23 +137,37 @@ module _ (f : Str) (pre : (0 < length f) × (getD f 0 0 ≡ 3)) (r : End) (i : r
           pub member-four : (b : Earlier) → b .kind ≡ last → o ≡ true → 4 ≡ refusal b (framed (entryOf f))
           member-four b w h = refused-read b f _ 4 member-reads (number-four b _ (sym (order b w) ∙ h))
 
-          module _ (h : o ≡ false) (old starts : List ℕ) (count : ℕ) (users owners seen : List ℕ) (k : ℕ)
-              (d : twice same (stringsIn old starts count 0) ≡ false) (own : Owned owners k count) (mark : Marked seen (memberPlace owners old users) k)
-              (p place′ hash : ℕ) (u v x y again : Bool)
+          module _ (h : o ≡ false) (old starts : List ℕ) (count : ℕ) (users owners kept : List ℕ) (k : ℕ)
+              (small : length old + length f ≤ 16384) (long : length kept ≡ 4609)
+              (H : Holds memberPlace old kept 512 (bytesOf (membersIn (stringsIn old starts count 0) owners old users k)))
+              (p place′ hash : ℕ) (u v x y : Bool) (z : Found)
               (uu : u ≡ unsizedBy 64 (length name)) (vv : v ≡ unsizedBy 64 (length user)) (xx : x ≡ all isPrint name) (yy : y ≡ all isPrint user)
-              (pp : place′ ≡ place name (stringsIn old starts count 0)) (hh : hash ≡ hashFrom place′ user)
-              (aa : (getD seen hash 0 ≡ 0 → hasPair place′ user old users owners k 0 ≡ false) → again ≡ hasPair place′ user old users owners k 0)
-              (mm : p ≡ merged 255 ((u || v) || leb 512 k) (not x || not y) again (eqb place′ count)) where
-            groups : List Str
-            groups = stringsIn old starts count 0
+              (pp : place′ ≡ place name (stringsIn old starts count 0)) (hh : hash ≡ hashOf (part f 1 t))
+              (zz : Met old kept 512 (513 + hash % 4096) (part f 1 t) z)
+              (mm : p ≡ merged 255 ((u || v) || leb 512 k) (not x || not y) (z .again) (eqb place′ count)) where
+            -- the bytes after the kind byte
+            key-is : part f 1 t ≡ memberBytes this
+            unfolding memberBytes
+            key-is = part-took f 1 t _ (took-both f 1 m t _ _ (string-took f 1 name m (string-ends f 1 r i m g .0)) (string-took f m user t (string-ends f m s c t e .0)))
 
-            pub again-is : again ≡ any (sameMember this) (membersIn (stringsIn old starts count 0) owners old users k)
+            spot : 513 + hash % 4096 ≡ memberPlace (part f 1 t)
+            spot = place-is-told (part f 1 t) hash (513 + hash % 4096) hh refl
+
+            met : Met old kept 512 (memberPlace (part f 1 t)) (part f 1 t) z
+            met = rw spot at zz
+
+            again-is : z .again ≡ any (sameMember this) (membersIn (stringsIn old starts count 0) owners old users k)
+            again-is = met .told ∙ sym (H .told (part f 1 t)) ∙ ap (λ (l : Str). any (same l) (bytesOf (membersIn (stringsIn old starts count 0) owners old users k))) key-is ∙ sym (any-bytes this _)
+
+            count-is : length (bytesOf (membersIn (stringsIn old starts count 0) owners old users k)) ≡ k
             unfolding membersIn
-            again-is =
-                let own′ : Owned owners k (length (stringsIn old starts count 0)) = rw (strings-length old starts count) own in
-                aa (λ z. member-filter place′ user old users owners seen k mark (ap (λ (j : ℕ). getD seen j 0) (sym hh) ∙ z))
-                ∙ ap (λ (j : ℕ). hasPair j user old users owners k 0) pp
-                ∙ pairs-any (stringsIn old starts count 0) name user old users owners d k 0 k (omega arith) own′
+            count-is = bytes-length _ ∙ rows-length _ k 0
+
+            pub spot-fits : 513 + hash % 4096 < length kept
+            spot-fits = omega arith
+
+            pub fits-is : z .at ≤ getD kept 512 0
+            fits-is = met .fits
 
             pub member-graded : (b : Earlier) → b .kind ≡ last → b .groups ≡ stringsIn old starts count 0 → b .members ≡ membersIn (b .groups) owners old users k
                 → p ≡ refusal b (framed (entryOf f))
@@ -147,27 +178,38 @@ module _ (f : Str) (pre : (0 < length f) × (getD f 0 0 ≡ 3)) (r : End) (i : r
                 let five : ((u || v) || leb 512 k) ≡ ((unsized name or unsized user) or leb 512 (length (b .members))) =
                 rw (long, uu, vv, long-is name (length name) refl, long-is user (length user) refl, or-is (unsized name) (unsized user)) (or-is (unsized name or unsized user) (leb 512 k)) in
                 let six : (not x || not y) ≡ (stray name or stray user) = rw (stray-is name x xx, stray-is user y yy) (or-is (stray name) (stray user)) in
-                let eight : again ≡ any (sameMember this) (b .members) = again-is ∙ ap (any (sameMember this)) (sym members) in
+                let eight : z .again ≡ any (sameMember this) (b .members) = again-is ∙ ap (any (sameMember this)) (sym members) in
                 let nine : eqb place′ count ≡ not (listed (b .groups) name) = unlisted-is name (stringsIn old starts count 0) place′ count pp (sym (strings-length old starts count)) ∙ ap (λ (l : List Str). not (listed l name)) (sym gg) in
                 refused-read b f _ p member-reads (number-plain b _ (sym (order b w) ∙ h) p _ _ _ _ mm five six refl eight nine)
 
             module _ (fine : p ≡ 255) where
-              clear-is : (((u || v) || leb 512 k) ≡ false) × (eqb place′ count ≡ false)
-              clear-is = merged-clear 255 ((u || v) || leb 512 k) (not x || not y) again (eqb place′ count) (sym mm ∙ fine)
+              clear-is : (((u || v) || leb 512 k) ≡ false) × (eqb place′ count ≡ false) × (z .again ≡ false)
+              clear-is = merged-clear 255 ((u || v) || leb 512 k) (not x || not y) (z .again) (eqb place′ count) (sym mm ∙ fine)
 
               pub member-room : k < 512
               member-room = leb-false 512 k (or-false-r (u || v) _ (sym (or-is (u || v) (leb 512 k)) ∙ clear-is .0))
 
-              pub member-kept : MemberKept (stringsIn old starts count 0) old f users owners seen k (set users k (length old + m)) (set owners k place′) (set seen hash 1)
-              member-kept = record {
-                group = name;
-                user = user;
-                at = m;
-                reads = member-reads;
-                stands = string-ends f m s c t e .0 ∙ ap (λ (j : ℕ). got user j) n;
-                room = member-room;
-                listed = listed-is name (stringsIn old starts count 0) place′ count pp (sym (strings-length old starts count)) (clear-is .1);
-                users-set = refl;
-                owners-set = ap (set owners k) pp;
-                seen-set = ap (λ (j : ℕ). set seen j 1) (hh ∙ ap (λ (j : ℕ). hashFrom j user) pp);
-              }
+              pub sorted-room : getD kept 512 0 < 512
+              sorted-room = omega (arith, H .few, count-is, member-room)
+
+              pub member-kept : (kept′ : List ℕ) → kept′ ≡ added kept 512 (513 + hash % 4096) (z .at) (spanOf (length old + 1) (length old + t))
+                  → MemberKept (stringsIn old starts count 0) old f users owners k (set users k (length old + m)) (set owners k place′) kept′
+              member-kept kept′ q =
+                  let w = string-ends f m s c t e in
+                  let a : 1 ≤ t = omega (arith, w .1) in
+                  record {
+                    group = name;
+                    user = user;
+                    at = m;
+                    reads = member-reads;
+                    stands = w .0 ∙ ap (λ (j : ℕ). got user j) n;
+                    room = member-room;
+                    listed = listed-is name (stringsIn old starts count 0) place′ count pp (sym (strings-length old starts count)) (clear-is .1);
+                    users-set = refl;
+                    owners-set = ap (set owners k) pp;
+                    keys-long = ap length q ∙ added-long kept 512 (513 + hash % 4096) (z .at) _ (met .fits) (omega (arith, sorted-room)) ∙ long;
+                    held =
+                        rw (q, spot, ← key-is)
+                        (holds-grows f (λ y. (place-far y .0, omega (arith, place-far y .1))) H (part f 1 t) z met (clear-is .2) (spanOf (length old + 1) (length old + t))
+                        (new-span old f 1 t a (w .2) (omega arith)) (new-inside old f 1 t a (w .2) (omega arith)) (omega arith) (omega (arith, count-is, member-room)));
+                  }

@@ -1,17 +1,25 @@
 -- Rows that are kept, by arrays of positions and of group numbers.
-use Prim.Native.Nat.{ℕ, _+_, _<_}
+use Prim.Native.Nat.{ℕ, _+_, _%_, _<_}
 use mathlib.Core.Path.{_≡_}
-use mathlib.Core.Bool.{true}
-use mathlib.Core.List.{List, []}
+use mathlib.Core.List.{List, [], _∷_, _++_}
 use mathlib.Core.Option.{some}
 use lib.ListN.{length, getD, set}
-use Rattle.text.specs.String.{Str}
-use Rattle.text.specs.Frame.{got, string}
+use Rattle.text.specs.Test.{any}
+use Rattle.text.specs.String.{Str, same}
+use Rattle.text.specs.Frame.{got, string, stringBytes}
+use Rattle.sorted.specs.Spans.{stringsOf, Sorted}
+use Rattle.hash_set.specs.Set.{Holds}
 use Rattle.place.specs.Place.{strIn}
-use Rattle.rows.specs.Strings.{place, hashFrom}
+use Rattle.rows.specs.Strings.{stringsIn, place, hashOf}
 use Rattle.rows.proofs.Grow.{rowsOf}
-use Rattle.table.specs.Table.{Member, Rule}
-use Rattle.table.specs.Frame.{group, member, rule, ruleBody, entryOf}
+use Rattle.table.specs.Table.{Member}
+use Rattle.table.specs.Frame.{group, member, entryOf}
+
+-- ---- groups: their names are sorted too
+
+pub record Named (f names : List ℕ) (n : ℕ) (groups : List Str) : Type 0 where
+  pub sorted : Sorted f names n
+  pub told : (y : Str) → any (same y) groups ≡ any (same y) (stringsOf f names n)
 
 -- ---- members: each has the number of its group, and its user stands in the bytes
 
@@ -24,25 +32,31 @@ membersIn groups owners f users n = rowsOf (memberIn groups owners f users) n 0
 abbrev pub Owned : List ℕ → ℕ → ℕ → Type 0
 Owned owners n groups = (i : ℕ) → i < n → getD owners i 0 < groups
 
--- a set place for each of the first n
-abbrev pub Marked : List ℕ → (ℕ → ℕ) → ℕ → Type 0
-Marked seen place n = (i : ℕ) → i < n → getD seen (place i) 0 ≡ 1
+-- "S group, S user": a member as the bytes that it has in a frame
+unfoldable pub memberBytes : Member → Str
+memberBytes m = stringBytes (m .group) ++ stringBytes (m .user)
 
-abbrev pub memberPlace : List ℕ → List ℕ → List ℕ → ℕ → ℕ
-memberPlace owners f users i = hashFrom (getD owners i 0) (strIn f (getD users i 0))
+unfoldable pub bytesOf : List Member → List Str
+bytesOf [] = []
+bytesOf (m ∷ ms) = memberBytes m ∷ bytesOf ms
+
+-- their place in the set of members
+unfoldable pub memberPlace : Str → ℕ
+memberPlace s = 513 + hashOf s % 4096
 
 -- ---- what a row that is kept changes
 
 -- a group
-pub record GroupKept (old f starts : List ℕ) (n : ℕ) (starts′ : List ℕ) : Type 0 where
+pub record GroupKept (old f starts : List ℕ) (n : ℕ) (starts′ names′ : List ℕ) : Type 0 where
   pub name : Str
   pub reads : entryOf f ≡ some (group name)
   pub stands : string f 1 ≡ got name (length f)
   pub room : n < 64
   pub starts-set : starts′ ≡ set starts n (length old + 1)
+  pub named : Named (old ++ f) names′ (n + 1) (stringsIn old starts n 0 ++ (name ∷ []))
 
 -- a member: the user's string stands at `at` of its frame
-pub record MemberKept (groups : List Str) (old f users owners seen : List ℕ) (n : ℕ) (users′ owners′ seen′ : List ℕ) : Type 0 where
+pub record MemberKept (groups : List Str) (old f users owners : List ℕ) (n : ℕ) (users′ owners′ kept′ : List ℕ) : Type 0 where
   pub group : Str
   pub user : Str
   pub at : ℕ
@@ -52,4 +66,5 @@ pub record MemberKept (groups : List Str) (old f users owners seen : List ℕ) (
   pub listed : place group groups < length groups
   pub users-set : users′ ≡ set users n (length old + at)
   pub owners-set : owners′ ≡ set owners n (place group groups)
-  pub seen-set : seen′ ≡ set seen (hashFrom (place group groups) user) 1
+  pub keys-long : length kept′ ≡ 4609
+  pub held : Holds memberPlace (old ++ f) kept′ 512 (bytesOf (membersIn groups owners old users n) ++ (memberBytes (record { group = group; user = user }) ∷ []))

@@ -5,10 +5,11 @@ ghost use Prim.Native.Nat.{_+_, _≤_, _<_};
 ghost use lib.ListN.{length, getD};
 ghost use Rattle.text.specs.Test.{twice};
 ghost use Rattle.text.specs.String.{same};
-ghost use Rattle.rows.specs.Strings.{stringsIn, Laid, place, hasPair};
+ghost use Rattle.hash_set.specs.Set.{Holds};
+ghost use Rattle.rows.specs.Strings.{stringsIn, Laid, place};
 ghost use Rattle.table.specs.Frame.{entryOf};
 ghost use Rattle.table.specs.Refusal.{Earlier, framed, refusal};
-ghost use Rattle.keep.specs.Held.{membersIn, Owned, Marked, memberPlace, GroupKept, MemberKept};
+ghost use Rattle.keep.specs.Held.{Named, membersIn, bytesOf, memberPlace, GroupKept, MemberKept};
 use text::frame::End;
 
 // A frame of kind 2. It is kept where the number is 255; `hints` has its number at its name's hash.
@@ -19,11 +20,12 @@ pub fn take_group(
     starts: &mut [u16; 64],
     n: usize,
     hints: &mut [u8; 1024],
+    names: &mut [u32; 64],
 ) -> u8
     requires { ⌜ (0 < length (now f)) × (getD (now f) 0 0 ≡ 2) ⌝ }
-    requires { ⌜ (length (now old) < 16384) × Laid (now old) (now starts) n × (n ≤ 64) ⌝ }
+    requires { ⌜ (length (now old) + length (now f) ≤ 16384) × (n ≤ 64) × Named (now old) (now names) n (stringsIn (now old) (now starts) n 0) ⌝ }
     ensures { λ r. ⌜ ((b : Earlier) → b .kind ≡ last → b .groups ≡ stringsIn (now (old .entry)) (now (starts .entry)) n 0 → r ≡ refusal b (framed (entryOf (now (f .entry))))) ⌝ }
-    ensures { λ r. ⌜ (r ≡ 255 → GroupKept (now (old .entry)) (now (f .entry)) (now (starts .entry)) n (now (starts .exit))) ⌝ }
+    ensures { λ r. ⌜ (r ≡ 255 → GroupKept (now (old .entry)) (now (f .entry)) (now (starts .entry)) n (now (starts .exit)) (now (names .exit))) ⌝ }
 {
     let e = text::frame::string_end(f, 1);
     let End::At(end) = e else {
@@ -39,43 +41,68 @@ pub fn take_group(
     let name = &f[start..end];
     let five = table::frame::is_unsized(64, name.len()) | (64 <= n);
     let six = !text::string::all_print(name);
-    let again = rows::find(old, starts, n, name) < n;
-    let number = table::frame::number(255, five, six, again, false);
+    let s = sorted::find(old, names, n, name);
+    let number = table::frame::number(255, five, six, s.again, false);
     if number != 255 {
         return number;
     }
+    let from = old.len() + start;
+    let to = old.len() + end;
+    sorted::insert(names, n, s.at, from, to);
     starts[n] = (old.len() + 1) as u16;
-    let h = rows::hash(name, 0) % 1024;
+    let h = rows::hash(name) % 1024;
     hints[h] = n as u8;
     255
 }
 
-// The number of a group's name among the groups; `count` where it is not listed. The hint at its hash is tried first.
-pub fn number_of(old: &[u8], groups: &[u16], count: usize, hints: &[u8], name: &[u8]) -> usize
-    requires { ⌜ Laid (now old) (now groups) count × (count ≤ length (now groups)) × (twice same (stringsIn (now old) (now groups) count 0) ≡ false) × (1024 ≤ length (now hints)) ⌝ }
-    ensures { λ r. ⌜ r ≡ place (now (name .entry)) (stringsIn (now (old .entry)) (now (groups .entry)) count 0) ⌝ }
+// The number of the first of n groups whose name begins at `start`; n where none does.
+fn number_at(groups: &[u16], n: usize, start: usize) -> usize
+    requires { ⌜ n ≤ length (now groups) ⌝ }
 {
-    let h = rows::hash(name, 0) % 1024;
-    rows::find_from(old, groups, count, hints[h] as usize, name)
+    let mut i = 0;
+    while i < n {
+        if groups[i] as usize + 1 == start {
+            return i;
+        }
+        i += 1;
+    }
+    n
 }
 
-// One of the first n members has that group and that user. `seen` is 0 only where none has.
-fn has_member(
-    old: &[u8],
-    users: &[u16],
-    owners: &[u8],
-    n: usize,
-    seen: u8,
-    group: usize,
-    user: &[u8],
-) -> bool
-    requires { ⌜ Laid (now old) (now users) n × (n ≤ length (now users)) × (n ≤ length (now owners)) ⌝ }
-    ensures { λ r. ⌜ ((seen ≡ 0 → hasPair group (now (user .entry)) (now (old .entry)) (now (users .entry)) (now (owners .entry)) n 0 ≡ false) → r ≡ hasPair group (now (user .entry)) (now (old .entry)) (now (users .entry)) (now (owners .entry)) n 0) ⌝ }
+// The same as `number_of`, by the sorted names: where the name is there, its position tells which group to try.
+fn number_by_name(old: &[u8], groups: &[u16], count: usize, names: &[u32], name: &[u8]) -> usize
+    requires { ⌜ Laid (now old) (now groups) count × (count ≤ length (now groups)) × (twice same (stringsIn (now old) (now groups) count 0) ≡ false) × Named (now old) (now names) count (stringsIn (now old) (now groups) count 0) ⌝ }
+    ensures { λ r. ⌜ r ≡ place (now (name .entry)) (stringsIn (now (old .entry)) (now (groups .entry)) count 0) ⌝ }
 {
-    if seen == 0 {
-        return false;
+    let s = sorted::find(old, names, count, name);
+    let at = s.at;
+    if !s.again | (count <= at) {
+        return count;
     }
-    rows::has_pair(old, users, owners, n, group, user)
+    let k = names[at] as usize;
+    let i = number_at(groups, count, k / 65536);
+    rows::find_from(old, groups, count, i, name)
+}
+
+// The number of a group's name among the groups; `count` where it is not listed. The hint at its hash is tried first.
+pub fn number_of(
+    old: &[u8],
+    groups: &[u16],
+    count: usize,
+    hints: &[u8],
+    names: &[u32],
+    name: &[u8],
+) -> usize
+    requires { ⌜ Laid (now old) (now groups) count × (count ≤ length (now groups)) × (twice same (stringsIn (now old) (now groups) count 0) ≡ false) ⌝ }
+    requires { ⌜ (1024 ≤ length (now hints)) × Named (now old) (now names) count (stringsIn (now old) (now groups) count 0) ⌝ }
+    ensures { λ r. ⌜ r ≡ place (now (name .entry)) (stringsIn (now (old .entry)) (now (groups .entry)) count 0) ⌝ }
+{
+    let h = rows::hash(name) % 1024;
+    let hint = hints[h] as usize;
+    if rows::is_number(old, groups, count, hint, name) {
+        return hint;
+    }
+    number_by_name(old, groups, count, names, name)
 }
 
 // A frame of kind 3. It is kept where the number is 255.
@@ -86,16 +113,17 @@ pub fn take_member(
     groups: &[u16; 64],
     count: usize,
     hints: &[u8; 1024],
+    names: &[u32; 64],
     users: &mut [u16; 512],
     owners: &mut [u8; 512],
     n: usize,
-    seen: &mut [u8; 8192],
+    kept: &mut [u32; 4609],
 ) -> u8
     requires { ⌜ (0 < length (now f)) × (getD (now f) 0 0 ≡ 3) ⌝ }
-    requires { ⌜ (length (now old) + length (now f) ≤ 16384) × Laid (now old) (now groups) count × (count ≤ 64) × Laid (now old) (now users) n × (n ≤ 512) ⌝ }
-    requires { ⌜ (twice same (stringsIn (now old) (now groups) count 0) ≡ false) × Owned (now owners) n count × Marked (now seen) (memberPlace (now owners) (now old) (now users)) n ⌝ }
+    requires { ⌜ (length (now old) + length (now f) ≤ 16384) × Laid (now old) (now groups) count × (count ≤ 64) × (twice same (stringsIn (now old) (now groups) count 0) ≡ false) ⌝ }
+    requires { ⌜ Named (now old) (now names) count (stringsIn (now old) (now groups) count 0) × Holds memberPlace (now old) (now kept) 512 (bytesOf (membersIn (stringsIn (now old) (now groups) count 0) (now owners) (now old) (now users) n)) × (length (now kept) ≡ 4609) ⌝ }
     ensures { λ r. ⌜ ((b : Earlier) → b .kind ≡ last → b .groups ≡ stringsIn (now (old .entry)) (now (groups .entry)) count 0 → b .members ≡ membersIn (b .groups) (now (owners .entry)) (now (old .entry)) (now (users .entry)) n → r ≡ refusal b (framed (entryOf (now (f .entry))))) ⌝ }
-    ensures { λ r. ⌜ (r ≡ 255 → MemberKept (stringsIn (now (old .entry)) (now (groups .entry)) count 0) (now (old .entry)) (now (f .entry)) (now (users .entry)) (now (owners .entry)) (now (seen .entry)) n (now (users .exit)) (now (owners .exit)) (now (seen .exit))) ⌝ }
+    ensures { λ r. ⌜ (r ≡ 255 → MemberKept (stringsIn (now (old .entry)) (now (groups .entry)) count 0) (now (old .entry)) (now (f .entry)) (now (users .entry)) (now (owners .entry)) n (now (users .exit)) (now (owners .exit)) (now (kept .exit))) ⌝ }
 {
     let a = text::frame::string_end(f, 1);
     let End::At(middle) = a else {
@@ -115,19 +143,23 @@ pub fn take_member(
     let from = middle + 1;
     let group = &f[start..middle];
     let user = &f[from..end];
-    let g = number_of(old, groups, count, hints, group);
-    let h = rows::hash(user, g);
-    let again = has_member(old, users, owners, n, seen[h], g, user);
+    let after = 1;
+    let key = &f[after..end];
+    let g = number_of(old, groups, count, hints, names, group);
+    let p = 513 + rows::hash(key) % 4096;
+    let s = hash_set::find(old, kept, 512, p, key);
     let five = table::frame::is_unsized(64, group.len())
         | table::frame::is_unsized(64, user.len())
         | (512 <= n);
     let six = !text::string::all_print(group) | !text::string::all_print(user);
-    let number = table::frame::number(255, five, six, again, g == count);
+    let number = table::frame::number(255, five, six, s.again, g == count);
     if number != 255 {
         return number;
     }
     users[n] = (old.len() + middle) as u16;
     owners[n] = g as u8;
-    seen[h] = 1;
+    let begin = old.len() + after;
+    let to = old.len() + end;
+    hash_set::add(kept, 512, p, s.at, begin, to);
     255
 }

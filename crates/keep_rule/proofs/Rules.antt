@@ -1,9 +1,9 @@
 -- What take_rule has met.
-use mathlib.Core.Path.{_≡_, refl, sym, ap, ap₂, _∙_}
+use mathlib.Core.Path.{_≡_, refl, sym, ap, _∙_}
 use mathlib.Core.Bool.{Bool, true, false, not, _||_, _&&_}
-use mathlib.Core.List.{List, [], _∷_}
-use mathlib.Core.Option.{Option, none, some}
-use Prim.Native.Nat.{ℕ, zero, suc, _+_, _-_, _≤_, _<_}
+use mathlib.Core.List.{List, []}
+use mathlib.Core.Option.{some}
+use Prim.Native.Nat.{ℕ, _+_, _%_, _≤_, _<_}
 use native.Mathlib.Omega.{arith}
 use borrow.Author.Tests.{leb-false}
 use lib.Dec.{eqb, ltb, leb}
@@ -11,44 +11,27 @@ use lib.ListN.{length, getD, set}
 use Rattle.text.specs.Test.{_and_, _or_, if_then_else_, any, all}
 use Rattle.text.specs.Byte.{isPrint}
 use Rattle.text.specs.String.{Str, same}
-use Rattle.text.specs.Frame.{got, part}
-use Rattle.text.proofs.Tests.{by, clash, neither, same→≡, or-false-r}
+use Rattle.text.specs.Frame.{part}
+use Rattle.text.proofs.Tests.{clash, or-false-r, or-is}
 use Rattle.path.specs.Faults.{unsized, overLimit, strayByte, keyTwice}
-use Rattle.place.specs.Place.{strIn}
-use Rattle.rows.specs.Strings.{stringsIn, place, hashFrom}
-use Rattle.rows.proofs.Strings.{hash-small}
-use Rattle.rows.proofs.Grow.{rowsOf, strings-rows, strings-length, place-at}
-use Rattle.table.specs.Table.{Rule}
-use Rattle.table.specs.Frame.{Entry, rule, ruleBody, entryOf}
+use Rattle.sorted.specs.Spans.{spanOf}
+use Rattle.sorted.specs.declared.Found.{Found}
+use Rattle.hash_set.specs.Set.{Met, added, Holds}
+use Rattle.hash_set.proofs.Sets.{holds-grows, added-long}
+use Rattle.rows.specs.Strings.{stringsIn, place, hashOf}
+use Rattle.rows.proofs.Grow.{strings-length, place-at}
+use Rattle.table.specs.Frame.{rule, entryOf}
 use Rattle.table.specs.Refusal.{Earlier, reads, framed, outOfOrder, kindOf, unsizedShort, pastLimit, strays, stray, repeats, listed, unlisted, refusal}
 use Rattle.table.specs.Walk.{merged, unsizedBy, RuleAt, RuleRead}
 use Rattle.table.specs.declared.frame.RuleFrame.{RuleFrame}
 use Rattle.table.specs.declared.frame.RuleFrame.the-variants.{Is, Unread}
-use Rattle.table.proofs.Numbers.{or-is, long-is, short-is, stray-is, number-four, number-rule, merged-clear}
+use Rattle.table.proofs.Numbers.{long-is, short-is, stray-is, number-four, number-rule, merged-clear}
 use Rattle.table.proofs.Frames.{rule-read}
 use Rattle.table.proofs.Rules.{rule-told, rule-untold}
 use Rattle.table.proofs.Versions.{refused-unread, refused-read}
-use Rattle.keep.specs.Held.{Marked}
 use Rattle.keep_rule.specs.Kept.{idPlace, RuleKept}
+use Rattle.keep.proofs.Names.{new-span, new-inside}
 use Rattle.keep.proofs.Members.{unlisted-is, listed-is, place-small}
-
--- ---- the filter: a place that is not set proves that no earlier id is the same
-
-no-rows : (s : Str) (g : ℕ → Str) (k i : ℕ) → ((j : ℕ) → i ≤ j → j < i + k → same s (g j) ≡ false) → any (same s) (rowsOf g k i) ≡ false
-unfolding any rowsOf
-no-rows s g zero i h = refl
-no-rows s g (suc k) i h = neither _ _ (h i (omega arith) (omega arith)) (no-rows s g k (suc i) (λ j a b. h j (omega arith) (omega arith)))
-
-id-filter : (s : Str) (f ids seen : List ℕ) (n : ℕ) → Marked seen (idPlace f ids) n → getD seen (hashFrom 0 s) 0 ≡ 0 → any (same s) (stringsIn f ids n 0) ≡ false
-id-filter s f ids seen n m z =
-    ap (any (same s)) (strings-rows f ids n 0)
-    ∙ no-rows s (λ j. strIn f (getD ids j 0)) n 0 (λ j a b.
-    by (same s (strIn f (getD ids j 0)))
-    (λ t.
-    let o : getD seen (idPlace f ids j) 0 ≡ 1 = m j (omega arith) in
-    let e : getD seen (idPlace f ids j) 0 ≡ 0 = ap (λ (x : Str). getD seen (hashFrom 0 x) 0) (sym (same→≡ _ _ t)) ∙ z in
-    absurd (omega arith))
-    (λ t. t))
 
 -- ---- the holder
 
@@ -68,8 +51,15 @@ unfolding if_then_else_
 holder-small true name f starts g count e = place-small name f starts count g e
 holder-small false name f starts g count e = omega arith
 
-pub id-room : (s : Str) (h : ℕ) → h ≡ hashFrom 0 s → h < 8192
-id-room s h e = rw e (hash-small s 0 (omega arith))
+-- ---- the place of an id
+
+pub id-far : (y : Str) → (256 < idPlace y) × (idPlace y < 2305)
+unfolding idPlace
+id-far y = (omega arith, omega arith)
+
+id-spot : (y : Str) (h : ℕ) → h ≡ hashOf y → 257 + h % 2048 ≡ idPlace y
+unfolding idPlace
+id-spot y h e = rw e
 
 -- ---- the frame
 
@@ -95,15 +85,25 @@ module _ (f : Str) (pre : (0 < length f) × (getD f 0 0 ≡ 4)) (r : RuleFrame) 
       unfolding kindOf
       rule-four b w h = refused-read b f _ 4 reading (number-four b (rule (at .rule)) (sym (order b w) ∙ h))
 
-      module _ (h : t ≡ false) (old starts : List ℕ) (count : ℕ) (ids seen : List ℕ) (k : ℕ) (mark : Marked seen (idPlace old ids) k)
-          (m g hash : ℕ) (u v x y z again : Bool)
+      module _ (h : t ≡ false) (old starts : List ℕ) (count : ℕ) (ids kept : List ℕ) (k : ℕ) (small : length old + length f ≤ 16384) (long : length kept ≡ 2305)
+          (H : Holds idPlace old kept 256 (stringsIn old ids k 0))
+          (m g hash : ℕ) (u v x y z : Bool) (q′ : Found)
           (uu : u ≡ unsizedBy 64 (length (part f 5 s))) (vv : v ≡ unsizedBy 32 (length (part f (s + 1) i)))
           (xx : x ≡ all isPrint (part f 5 s)) (yy : y ≡ all isPrint (part f (s + 1) i)) (zz : z ≡ all isPrint (part f (i + 1) o))
-          (gg : g ≡ (if eqb (getD f 3 0) 1 then place (part f 5 s) (stringsIn old starts count 0) else 0)) (hh : hash ≡ hashFrom 0 (part f (s + 1) i))
-          (aa : (getD seen hash 0 ≡ 0 → any (same (part f (s + 1) i)) (stringsIn old ids k 0) ≡ false) → again ≡ any (same (part f (s + 1) i)) (stringsIn old ids k 0))
-          (mm : m ≡ merged p ((u || v) || (ltb 32 (length (part f (i + 1) o)) || leb 256 k)) (not x || (not y || not z)) again (eqb (getD f 3 0) 1 && eqb g count)) where
-        again-is : again ≡ any (same (part f (s + 1) i)) (stringsIn old ids k 0)
-        again-is = aa (λ e. id-filter (part f (s + 1) i) old ids seen k mark (ap (λ (j : ℕ). getD seen j 0) (sym hh) ∙ e))
+          (gg : g ≡ (if eqb (getD f 3 0) 1 then place (part f 5 s) (stringsIn old starts count 0) else 0)) (hh : hash ≡ hashOf (part f (s + 1) i))
+          (qq : Met old kept 256 (257 + hash % 2048) (part f (s + 1) i) q′)
+          (mm : m ≡ merged p ((u || v) || (ltb 32 (length (part f (i + 1) o)) || leb 256 k)) (not x || (not y || not z)) (q′ .again) (eqb (getD f 3 0) 1 && eqb g count)) where
+        met : Met old kept 256 (idPlace (part f (s + 1) i)) (part f (s + 1) i) q′
+        met = rw (id-spot (part f (s + 1) i) hash hh) at qq
+
+        again-is : q′ .again ≡ any (same (part f (s + 1) i)) (stringsIn old ids k 0)
+        again-is = met .told ∙ sym (H .told (part f (s + 1) i))
+
+        pub id-spot-fits : 257 + hash % 2048 < length kept
+        id-spot-fits = omega arith
+
+        pub id-fits : q′ .at ≤ getD kept 256 0
+        id-fits = met .fits
 
         pub rule-graded : (b : Earlier) → b .kind ≡ last → b .groups ≡ stringsIn old starts count 0 → b .ids ≡ stringsIn old ids k 0 → m ≡ refusal b (framed (entryOf f))
         unfolding pastLimit strays repeats unlisted
@@ -128,16 +128,16 @@ module _ (f : Str) (pre : (0 < length f) × (getD f 0 0 ≡ 4)) (r : RuleFrame) 
             let six : (not x || (not y || not z)) ≡ (stray (a .rule .subject) or (stray (a .rule .id) or stray (a .rule .origin))) =
             rw (a .subject, a .id, a .origin, stray-is (part f 5 s) x xx, stray-is (part f (s + 1) i) y yy, stray-is (part f (i + 1) o) z zz, or-is (stray (part f (s + 1) i)) (stray (part f (i + 1) o)))
             (or-is (stray (part f 5 s)) (stray (part f (s + 1) i) or stray (part f (i + 1) o))) in
-            let eight : again ≡ any (same (a .rule .id)) (b .ids) = rw (a .id, d) again-is in
+            let eight : q′ .again ≡ any (same (a .rule .id)) (b .ids) = rw (a .id, d) again-is in
             let nine : (eqb (getD f 3 0) 1 && eqb g count) ≡ (a .rule .byGroup and not (listed (b .groups) (a .rule .subject))) =
             rw (a .byGroup, a .subject, e) (holder-is (eqb (getD f 3 0) 1) (part f 5 s) (stringsIn old starts count 0) g count gg (sym (strings-length old starts count))) in
             refused-read b f _ m reading
-            (number-rule b (a .rule) (sym (order b w) ∙ h) m p _ _ again _ mm (a .path)
+            (number-rule b (a .rule) (sym (order b w) ∙ h) m p _ _ (q′ .again) _ mm (a .path)
             (ap (λ (l : Bool). l or overLimit (a .rule .path)) five) (ap (λ (l : Bool). l or strayByte (a .rule .path)) six) (ap (λ (l : Bool). l or keyTwice (a .rule .path)) eight) nine)
 
         module _ (fine : m ≡ 255) where
-          clear-is : (((u || v) || (ltb 32 (length (part f (i + 1) o)) || leb 256 k)) ≡ false) × ((eqb (getD f 3 0) 1 && eqb g count) ≡ false)
-          clear-is = merged-clear p ((u || v) || (ltb 32 (length (part f (i + 1) o)) || leb 256 k)) (not x || (not y || not z)) again (eqb (getD f 3 0) 1 && eqb g count) (sym mm ∙ fine)
+          clear-is : (((u || v) || (ltb 32 (length (part f (i + 1) o)) || leb 256 k)) ≡ false) × ((eqb (getD f 3 0) 1 && eqb g count) ≡ false) × (q′ .again ≡ false)
+          clear-is = merged-clear p ((u || v) || (ltb 32 (length (part f (i + 1) o)) || leb 256 k)) (not x || (not y || not z)) (q′ .again) (eqb (getD f 3 0) 1 && eqb g count) (sym mm ∙ fine)
 
           pub rule-room : k < 256
           rule-room =
@@ -145,9 +145,15 @@ module _ (f : Str) (pre : (0 < length f) × (getD f 0 0 ≡ 4)) (r : RuleFrame) 
               let a : ((u || v) or (l || leb 256 k)) ≡ false = sym (or-is (u || v) (l || leb 256 k)) ∙ clear-is .0 in
               leb-false 256 k (or-false-r l _ (sym (or-is l (leb 256 k)) ∙ or-false-r (u || v) _ a))
 
-          pub rule-kept : (tops holders : List ℕ) → RuleKept (stringsIn old starts count 0) old f ids tops holders seen k (set ids k (length old + s)) (set tops k (length old + 1)) (set holders k g) (set seen hash 1)
-          rule-kept tops holders =
+          pub id-sorted-room : getD kept 256 0 < 256
+          id-sorted-room = omega (arith, H .few, strings-length old ids k, rule-room)
+
+          pub rule-kept : (tops holders keys′ : List ℕ) → keys′ ≡ added kept 256 (257 + hash % 2048) (q′ .at) (spanOf (length old + (s + 1)) (length old + i))
+              → RuleKept (stringsIn old starts count 0) old f ids tops holders k (set ids k (length old + s)) (set tops k (length old + 1)) (set holders k g) keys′
+          rule-kept tops holders keys′ e =
               let a = at in
+              let w = at .long in
+              let d : i ≤ length f = omega (arith, w .2, w .3) in
               record {
                 kept = a .rule;
                 at = s;
@@ -161,5 +167,9 @@ module _ (f : Str) (pre : (0 < length f) × (getD f 0 0 ≡ 4)) (r : RuleFrame) 
                 ids-set = refl;
                 starts-set = refl;
                 holders-set = refl;
-                seen-set = ap (λ (j : ℕ). set seen j 1) (hh ∙ ap (hashFrom 0) (sym (a .id)));
+                keys-long = ap length e ∙ added-long kept 256 (257 + hash % 2048) (q′ .at) _ (met .fits) (omega (arith, id-sorted-room)) ∙ long;
+                ids-held =
+                    rw (e, id-spot (part f (s + 1) i) hash hh, a .id)
+                    (holds-grows f (λ y. (id-far y .0, omega (arith, id-far y .1))) H (part f (s + 1) i) q′ met (clear-is .2) (spanOf (length old + (s + 1)) (length old + i))
+                    (new-span old f (s + 1) i (w .1) d (omega arith)) (new-inside old f (s + 1) i (w .1) d (omega arith)) (omega arith) (omega (arith, strings-length old ids k, rule-room)));
               }

@@ -1,23 +1,23 @@
 -- What a rule that is kept changes.
-use Prim.Native.Nat.{ℕ, _+_, _<_}
+use Prim.Native.Nat.{ℕ, _+_, _%_, _<_}
 use mathlib.Core.Path.{_≡_}
 use mathlib.Core.Bool.{true}
-use mathlib.Core.List.{List, []}
+use mathlib.Core.List.{List, [], _∷_, _++_}
 use mathlib.Core.Option.{some}
 use lib.ListN.{length, getD, set}
 use Rattle.text.specs.String.{Str}
 use Rattle.text.specs.Frame.{got, string}
-use Rattle.place.specs.Place.{strIn}
-use Rattle.rows.specs.Strings.{hashFrom}
+use Rattle.hash_set.specs.Set.{Holds}
+use Rattle.rows.specs.Strings.{stringsIn, hashOf}
 use Rattle.table.specs.Table.{Rule}
 use Rattle.table.specs.Frame.{rule, ruleBody, entryOf}
 
--- where the filter has a rule's id
-abbrev pub idPlace : List ℕ → List ℕ → ℕ → ℕ
-idPlace f ids i = hashFrom 0 (strIn f (getD ids i 0))
+-- the place of an id in the set of ids
+unfoldable pub idPlace : Str → ℕ
+idPlace s = 257 + hashOf s % 2048
 
 -- its id stands at `at` of its frame
-pub record RuleKept (groups : List Str) (old f ids starts holders seen : List ℕ) (n : ℕ) (ids′ starts′ holders′ seen′ : List ℕ) : Type 0 where
+pub record RuleKept (groups : List Str) (old f ids starts holders : List ℕ) (n : ℕ) (ids′ starts′ holders′ keys′ : List ℕ) : Type 0 where
   pub kept : Rule
   pub at : ℕ
   pub holder : ℕ
@@ -30,4 +30,5 @@ pub record RuleKept (groups : List Str) (old f ids starts holders seen : List �
   pub ids-set : ids′ ≡ set ids n (length old + at)
   pub starts-set : starts′ ≡ set starts n (length old + 1)
   pub holders-set : holders′ ≡ set holders n holder
-  pub seen-set : seen′ ≡ set seen (hashFrom 0 (kept .id)) 1
+  pub keys-long : length keys′ ≡ 2305
+  pub ids-held : Holds idPlace (old ++ f) keys′ 256 (stringsIn old ids n 0 ++ (kept .id ∷ []))

@@ -3,25 +3,15 @@ ghost use mathlib.Core.Path.{_≡_};
 ghost use mathlib.Core.Bool.{false};
 ghost use Prim.Native.Nat.{_+_, _≤_, _<_};
 ghost use lib.ListN.{length, getD};
-ghost use Rattle.text.specs.Test.{if_then_else_, any, twice};
+ghost use Rattle.text.specs.Test.{if_then_else_, twice};
 ghost use Rattle.text.specs.String.{same};
+ghost use Rattle.hash_set.specs.Set.{Holds};
 ghost use Rattle.rows.specs.Strings.{stringsIn, Laid, place};
 ghost use Rattle.table.specs.Frame.{entryOf};
 ghost use Rattle.table.specs.Refusal.{Earlier, framed, refusal};
-ghost use Rattle.keep.specs.Held.{Marked};
+ghost use Rattle.keep.specs.Held.{Named};
 ghost use Rattle.keep_rule.specs.Kept.{idPlace, RuleKept};
 use table::frame::RuleFrame;
-
-// One of the first n ids is the id. `seen` is 0 only where none is.
-fn has_id(old: &[u8], ids: &[u16], n: usize, seen: u8, id: &[u8]) -> bool
-    requires { ⌜ Laid (now old) (now ids) n × (n ≤ length (now ids)) ⌝ }
-    ensures { λ r. ⌜ ((seen ≡ 0 → any (same (now (id .entry))) (stringsIn (now (old .entry)) (now (ids .entry)) n 0) ≡ false) → r ≡ any (same (now (id .entry))) (stringsIn (now (old .entry)) (now (ids .entry)) n 0)) ⌝ }
-{
-    if seen == 0 {
-        return false;
-    }
-    rows::find(old, ids, n, id) < n
-}
 
 // The number of a group's name among the groups; `count` where it is not listed, and 0 for a user.
 fn holder_of(
@@ -29,14 +19,16 @@ fn holder_of(
     groups: &[u16],
     count: usize,
     hints: &[u8],
+    names: &[u32],
     by_group: bool,
     subject: &[u8],
 ) -> usize
-    requires { ⌜ Laid (now old) (now groups) count × (count ≤ length (now groups)) × (twice same (stringsIn (now old) (now groups) count 0) ≡ false) × (1024 ≤ length (now hints)) ⌝ }
+    requires { ⌜ Laid (now old) (now groups) count × (count ≤ length (now groups)) × (twice same (stringsIn (now old) (now groups) count 0) ≡ false) ⌝ }
+    requires { ⌜ (1024 ≤ length (now hints)) × Named (now old) (now names) count (stringsIn (now old) (now groups) count 0) ⌝ }
     ensures { λ r. ⌜ r ≡ (if «by_group» then place (now (subject .entry)) (stringsIn (now (old .entry)) (now (groups .entry)) count 0) else 0) ⌝ }
 {
     if by_group {
-        return keep::number_of(old, groups, count, hints, subject);
+        return keep::number_of(old, groups, count, hints, names, subject);
     }
     0
 }
@@ -49,16 +41,18 @@ pub fn take_rule(
     groups: &[u16; 64],
     count: usize,
     hints: &[u8; 1024],
+    names: &[u32; 64],
     ids: &mut [u16; 256],
     starts: &mut [u16; 256],
     holders: &mut [u8; 256],
     n: usize,
-    seen: &mut [u8; 8192],
+    kept: &mut [u32; 2305],
 ) -> u8
     requires { ⌜ (0 < length (now f)) × (getD (now f) 0 0 ≡ 4) ⌝ }
-    requires { ⌜ (length (now old) + length (now f) ≤ 16384) × Laid (now old) (now groups) count × (count ≤ 64) × Laid (now old) (now ids) n × (n ≤ 256) × Marked (now seen) (idPlace (now old) (now ids)) n × (twice same (stringsIn (now old) (now groups) count 0) ≡ false) ⌝ }
+    requires { ⌜ (length (now old) + length (now f) ≤ 16384) × Laid (now old) (now groups) count × (count ≤ 64) × (twice same (stringsIn (now old) (now groups) count 0) ≡ false) ⌝ }
+    requires { ⌜ Named (now old) (now names) count (stringsIn (now old) (now groups) count 0) × Holds idPlace (now old) (now kept) 256 (stringsIn (now old) (now ids) n 0) × (length (now kept) ≡ 2305) ⌝ }
     ensures { λ r. ⌜ ((b : Earlier) → b .kind ≡ last → b .groups ≡ stringsIn (now (old .entry)) (now (groups .entry)) count 0 → b .ids ≡ stringsIn (now (old .entry)) (now (ids .entry)) n 0 → r ≡ refusal b (framed (entryOf (now (f .entry))))) ⌝ }
-    ensures { λ r. ⌜ (r ≡ 255 → RuleKept (stringsIn (now (old .entry)) (now (groups .entry)) count 0) (now (old .entry)) (now (f .entry)) (now (ids .entry)) (now (starts .entry)) (now (holders .entry)) (now (seen .entry)) n (now (ids .exit)) (now (starts .exit)) (now (holders .exit)) (now (seen .exit))) ⌝ }
+    ensures { λ r. ⌜ (r ≡ 255 → RuleKept (stringsIn (now (old .entry)) (now (groups .entry)) count 0) (now (old .entry)) (now (f .entry)) (now (ids .entry)) (now (starts .entry)) (now (holders .entry)) n (now (ids .exit)) (now (starts .exit)) (now (holders .exit)) (now (kept .exit))) ⌝ }
 {
     let r = table::frame::read_rule(f);
     let RuleFrame::Is {
@@ -80,22 +74,24 @@ pub fn take_rule(
     let id = &f[from..i];
     let origin = &f[then..o];
     let by_group = f[3] == 1;
-    let g = holder_of(old, groups, count, hints, by_group, subject);
-    let h = rows::hash(id, 0);
-    let again = has_id(old, ids, n, seen[h], id);
+    let g = holder_of(old, groups, count, hints, names, by_group, subject);
+    let p = 257 + rows::hash(id) % 2048;
+    let t = hash_set::find(old, kept, 256, p, id);
     let five = (table::frame::is_unsized(64, subject.len())
         | table::frame::is_unsized(32, id.len()))
         | ((32 < origin.len()) | (256 <= n));
     let six = !text::string::all_print(subject)
         | (!text::string::all_print(id) | !text::string::all_print(origin));
     let nine = by_group & (g == count);
-    let number = table::frame::number(fault, five, six, again, nine);
+    let number = table::frame::number(fault, five, six, t.again, nine);
     if number != 255 {
         return number;
     }
     ids[n] = (old.len() + s) as u16;
     starts[n] = (old.len() + 1) as u16;
     holders[n] = g as u8;
-    seen[h] = 1;
+    let begin = old.len() + from;
+    let to = old.len() + i;
+    hash_set::add(kept, 256, p, t.at, begin, to);
     255
 }

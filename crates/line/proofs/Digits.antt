@@ -1,8 +1,8 @@
 -- Decoding pairs of digits, one turn at a time.
-use mathlib.Core.Path.{_≡_, refl, sym, ap, _∙_}
+use mathlib.Core.Path.{_≡_, refl, _∙_}
 use mathlib.Core.Bool.{Bool, true, false, not, cond, _||_}
 use mathlib.Core.List.{List, [], _∷_}
-use Prim.Native.Nat.{ℕ, zero, suc, _+_, _-_, _*_, _/_, _≤_, _<_, zero-le}
+use Prim.Native.Nat.{ℕ, suc, _+_, _-_, _*_, _/_, _≤_, _<_, zero-le}
 use native.Mathlib.Omega.{arith}
 use borrow.Author.Tests.{leb-true, le-ltb, ltb-false}
 use lib.Dec.{ltb, leb}
@@ -10,7 +10,6 @@ use lib.ListN.{length, drop, getD, set, length-drop}
 use lib.Seq.{drop-cons}
 use Rattle.text.specs.Test.{_and_, if_then_else_}
 use Rattle.text.specs.Byte.{isHex, hexValue, isDigit, within}
-use Rattle.text.specs.String.{Str}
 use Rattle.text.specs.Fill.{put}
 use Rattle.text.proofs.Tests.{by, and-right, clash}
 use Rattle.text.proofs.Filling.{Pending, fill-start, fill-set, fill-byte, fill-done}

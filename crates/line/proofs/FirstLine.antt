@@ -3,14 +3,14 @@ use mathlib.Core.Path.{_≡_, refl, sym, ap, _∙_}
 use mathlib.Core.Bool.{Bool, true, false}
 use mathlib.Core.List.{List, [], _∷_}
 use mathlib.Core.Option.{Option, none, some}
-use Prim.Native.Nat.{ℕ, zero, suc, _+_, _-_, _*_, _≤_, _<_}
+use Prim.Native.Nat.{ℕ, suc, _+_, _-_, _*_, _≤_, _<_}
 use native.Mathlib.Omega.{arith}
 use borrow.Author.Tests.{eqb-true, eqb-false, eq-eqb, ne-eqb, ltb-true, ltb-false}
 use lib.Dec.{eqb, ltb}
 use lib.ListN.{length, drop, getD, length-drop}
 use lib.Seq.{drop-drop, getD-drop}
 use Rattle.text.specs.Test.{_and_, if_then_else_}
-use Rattle.text.specs.Byte.{isHex, hexValue}
+use Rattle.text.specs.Byte.{isHex}
 use Rattle.text.specs.String.{Str}
 use Rattle.text.proofs.Tests.{by, and-l, and-r, clash}
 use Rattle.line.specs.Lines.{onto, lines, pair, pairs, nonempty, frame, digits, taken, firstLine}

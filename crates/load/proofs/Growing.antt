@@ -1,31 +1,33 @@
 -- One row more is held.
-use mathlib.Core.Path.{_≡_, refl, sym, ap, ap₂, _∙_}
-use mathlib.Core.Bool.{Bool, true, false}
+use mathlib.Core.Path.{_≡_, refl, sym, ap, _∙_}
+use mathlib.Core.Bool.{true, false}
 use mathlib.Core.List.{List, [], _∷_, _++_, append-nil}
-use mathlib.Core.Option.{Option, none, some}
-use Prim.Native.Nat.{ℕ, zero, suc, _+_, _-_, _≤_, _<_}
-use native.Mathlib.Numerals.{add-one}
+use Prim.Native.Nat.{ℕ, suc, _+_, _-_, _≤_, _<_}
 use native.Mathlib.Omega.{arith}
-use borrow.Author.Tests.{eqb-true, eqb-false, ltb-true, ltb-false, leb-true, leb-false}
-use lib.Dec.{eqb, ltb, leb}
+use borrow.Author.Tests.{eqb-true, eqb-false}
+use lib.Dec.{eqb}
 use lib.ListN.{length, getD, set, length-append, length-set, List·getD-append}
 use lib.Seq.{getD-set-same, getD-set-other}
-use Rattle.text.specs.Test.{if_then_else_, any, twice}
+use Rattle.text.specs.Test.{if_then_else_, any}
 use Rattle.text.specs.String.{Str, same}
-use Rattle.text.specs.Frame.{got, string, part}
+use Rattle.text.specs.Frame.{got, string}
 use Rattle.text.proofs.Tests.{by}
 use Rattle.place.specs.Place.{strEnd, strIn}
 use Rattle.place.proofs.Reading.{str-read}
-use Rattle.rows.specs.Strings.{stringsIn, Laid, place, hashFrom}
-use Rattle.rows.proofs.Strings.{hash-small}
-use Rattle.rows.proofs.Grow.{rowsOf, rows-same, rows-grow, strings-length, string-front, old-start, new-start, old-string, strings-grow, laid-grow, laid-stays, strings-stay, place-at, place-le, twice-snoc}
+use Rattle.hash_set.specs.Set.{Holds as InSet}
+use Rattle.hash_set.proofs.Sets.{holds-longer}
+use Rattle.rows.specs.Strings.{stringsIn, place}
+use Rattle.rows.proofs.Grow.{rows-same, rows-grow, strings-length, string-front, new-start, old-string, strings-grow, laid-grow, laid-stays, strings-stay, place-at, twice-snoc}
 use Rattle.table.specs.Table.{Member, Rule}
-use Rattle.table.specs.Frame.{Entry, version, group, member, rule, ruleBody, entryOf}
+use Rattle.table.specs.Frame.{version, group, member, rule, ruleBody}
 use Rattle.table.specs.Refusal.{Earlier, with}
 use Rattle.table.specs.Text.{maybe, asRule}
 use Rattle.table.proofs.Inside.{inside-string, inside-rule, reads-more, reads-after}
-use Rattle.keep.specs.Held.{memberIn, membersIn, Owned, Marked, memberPlace, GroupKept, MemberKept}
+use Rattle.keep.specs.Held.{Named, memberIn, membersIn, Owned, bytesOf, memberPlace, GroupKept, MemberKept}
+use Rattle.keep.proofs.Names.{named-longer}
+use Rattle.keep.proofs.Members.{bytes-snoc, place-far}
 use Rattle.keep_rule.specs.Kept.{idPlace, RuleKept}
+use Rattle.keep_rule.proofs.Rules.{id-far}
 use Rattle.load.specs.declared.row.Counts.{Counts}
 use Rattle.load.specs.Held.{idsOf, RulesAt, HoldersAt, Holds, Held, counted}
 
@@ -81,28 +83,6 @@ holders-stay groups name holders (r ∷ rs) i h = (
   holders-stay groups name holders rs (suc i) (h .1),
 )
 
--- ---- a place that is set
-
-mark-old : (seen : List ℕ) (p h : ℕ) → h < length seen → getD seen p 0 ≡ 1 → getD (set seen h 1) p 0 ≡ 1
-mark-old seen p h l e =
-    by (eqb p h)
-    (λ t. let z : p ≡ h = eqb-true _ _ t in ap (λ (j : ℕ). getD (set seen h 1) j 0) z ∙ getD-set-same seen h 1 0 l)
-    (λ t. getD-set-other seen h p 1 0 (eqb-false _ _ t) ∙ e)
-
--- n places, and one more
-marked-grow : (seen : List ℕ) (place place′ : ℕ → ℕ) (n h : ℕ) → h < length seen → Marked seen place n → ((j : ℕ) → j < n → place′ j ≡ place j) → place′ n ≡ h
-    → Marked (set seen h 1) place′ (n + 1)
-marked-grow seen place place′ n h l m old new j k =
-    by (eqb j n)
-    (λ t. let z : j ≡ n = eqb-true _ _ t in ap (λ (i : ℕ). getD (set seen h 1) (place′ i) 0) z ∙ ap (λ (i : ℕ). getD (set seen h 1) i 0) new ∙ getD-set-same seen h 1 0 l)
-    (λ t.
-    let z : j ≡ n → ⊥ = eqb-false _ _ t in
-    let y : j < n = omega arith in
-    ap (λ (i : ℕ). getD (set seen h 1) i 0) (old j y) ∙ mark-old seen (place j) h l (m j y))
-
-marked-same : (seen : List ℕ) (place place′ : ℕ → ℕ) (n : ℕ) → Marked seen place n → ((j : ℕ) → j < n → place′ j ≡ place j) → Marked seen place′ n
-marked-same seen place place′ n m old j k = ap (λ (i : ℕ). getD seen i 0) (old j k) ∙ m j k
-
 -- ---- the bytes grow
 
 module _ {named : List Str} {members : List Member} {rules : List Rule} {old : List ℕ} {c : Counts} {groups users owners ids starts holders : List ℕ} (f : List ℕ)
@@ -135,29 +115,32 @@ module _ {named : List Str} {members : List Member} {rules : List Rule} {old : L
 
 -- ---- each kind
 
-same-arrays : {b : Earlier} {rules : List Rule} {f : List ℕ} {c : Counts} {groups users owners ids ids′ starts starts′ holders holders′ ms is is′ : List ℕ}
-    → ids′ ≡ ids → starts′ ≡ starts → holders′ ≡ holders → is′ ≡ is
-    → Held b rules f c groups users owners ids starts holders ms is → Held b rules f c groups users owners ids′ starts′ holders′ ms is′
-same-arrays d s h i H = rw (d, s, h, i) H
+same-arrays : {b : Earlier} {rules : List Rule} {f : List ℕ} {c : Counts} {groups users owners ids ids′ starts starts′ holders holders′ names ms is : List ℕ}
+    → ids′ ≡ ids → starts′ ≡ starts → holders′ ≡ holders
+    → Held b rules f c groups users owners ids starts holders names ms is → Held b rules f c groups users owners ids′ starts′ holders′ names ms is
+same-arrays d s h H = rw (d, s, h) H
 
-module _ {b : Earlier} {rules : List Rule} {old : List ℕ} {c : Counts} {groups users owners ids starts holders ms is : List ℕ} (f : List ℕ)
-    (G : Held b rules old c groups users owners ids starts holders ms is) where
+module _ {b : Earlier} {rules : List Rule} {old : List ℕ} {c : Counts} {groups users owners ids starts holders names ms is : List ℕ} (f : List ℕ)
+    (G : Held b rules old c groups users owners ids starts holders names ms is) where
   H : Holds (b .groups) (b .members) rules old c groups users owners ids starts holders
   H = G .holds
 
-  members-stay-marked : Marked ms (memberPlace owners (old ++ f) users) (c .members)
-  members-stay-marked = marked-same ms (memberPlace owners old users) (memberPlace owners (old ++ f) users) (c .members) (G .members-marked) (λ j k. ap (hashFrom (getD owners j 0)) (user-stays f H j k))
+  names-stay : Named (old ++ f) names (c .groups) (b .groups)
+  names-stay = named-longer (G .named) f
 
-  ids-stay-marked : Marked is (idPlace (old ++ f) ids) (c .rules)
-  ids-stay-marked = marked-same is (idPlace old ids) (idPlace (old ++ f) ids) (c .rules) (G .ids-marked) (λ j k. ap (hashFrom 0) (string-front old f (getD ids j 0) (H .ids-laid j k)))
+  members-set-stays : InSet memberPlace (old ++ f) ms 512 (bytesOf (b .members))
+  members-set-stays = holds-longer f (λ y. place-far y .0) (G .members-set)
 
-  pub grow-version : (v t : Str) → Held (with b (version v t)) (rules ++ maybe (asRule (version v t)) []) (old ++ f) (counted c 1) groups users owners ids starts holders ms is
+  ids-set-stays : InSet idPlace (old ++ f) is 256 (b .ids)
+  ids-set-stays = holds-longer f (λ y. id-far y .0) (G .ids-set)
+
+  pub grow-version : (v t : Str) → Held (with b (version v t)) (rules ++ maybe (asRule (version v t)) []) (old ++ f) (counted c 1) groups users owners ids starts holders names ms is
   unfolding with counted if_then_else_ maybe asRule
   grow-version v t =
       rw (append-nil rules)
-      (record { kind = refl; told-ids = G .told-ids; holds = holds-stay f H 1; members-marked = members-stay-marked; ids-marked = ids-stay-marked; seen-long = G .seen-long })
+      (record { kind = refl; told-ids = G .told-ids; holds = holds-stay f H 1; named = names-stay; members-set = members-set-stays; ids-set = ids-set-stays; sets-long = G .sets-long })
 
-  module _ {groups′ : List ℕ} (K : GroupKept old f groups (c .groups) groups′) (fresh : any (same (K .name)) (b .groups) ≡ false) where
+  module _ {groups′ names′ : List ℕ} (K : GroupKept old f groups (c .groups) groups′ names′) (fresh : any (same (K .name)) (b .groups) ≡ false) where
     v : ℕ
     v = length old + 1
 
@@ -195,13 +178,13 @@ module _ {b : Earlier} {rules : List Rule} {old : List ℕ} {c : Counts} {groups
           long = (length-set groups (c .groups) (length old + 1) ∙ H .long .0, H .long .1, H .long .2, H .long .3, H .long .4, H .long .5);
         }
 
-    pub grow-group : Held (with b (group (K .name))) (rules ++ maybe (asRule (group (K .name))) []) (old ++ f) (counted c 2) groups′ users owners ids starts holders ms is
+    pub grow-group : Held (with b (group (K .name))) (rules ++ maybe (asRule (group (K .name))) []) (old ++ f) (counted c 2) groups′ users owners ids starts holders names′ ms is
     unfolding with counted if_then_else_ maybe asRule
     grow-group =
         rw (append-nil rules, K .starts-set)
-        (record { kind = refl; told-ids = G .told-ids; holds = holds-group; members-marked = members-stay-marked; ids-marked = ids-stay-marked; seen-long = G .seen-long })
+        (record { kind = refl; told-ids = G .told-ids; holds = holds-group; named = rw (H .groups-are) (K .named); members-set = members-set-stays; ids-set = ids-set-stays; sets-long = G .sets-long })
 
-  module _ {users′ owners′ ms′ : List ℕ} (K : MemberKept (stringsIn old groups (c .groups) 0) old f users owners ms (c .members) users′ owners′ ms′) where
+  module _ {users′ owners′ ms′ : List ℕ} (K : MemberKept (stringsIn old groups (c .groups) 0) old f users owners (c .members) users′ owners′ ms′) where
     abbrev n : ℕ
     n = c .members
 
@@ -249,11 +232,6 @@ module _ {b : Earlier} {rules : List Rule} {old : List ℕ} {c : Counts} {groups
         (λ t. let z : j ≡ n = eqb-true _ _ t in rw (z, new-owner) (omega (arith, K .listed, strings-length old groups (c .groups))))
         (λ t. let z : j ≡ n → ⊥ = eqb-false _ _ t in let y : j < n = omega arith in rw (old-owner j y) (H .owned j y))
 
-    hash-fits : hashFrom p (K .user) < length ms
-    hash-fits =
-        let a : p < 8192 = omega (arith, K .listed, strings-length old groups (c .groups), H .few .0) in
-        omega (arith, hash-small (K .user) p a, G .seen-long .0)
-
     holds-member : Holds (b .groups) (b .members ++ (record { group = K .group; user = K .user } ∷ [])) rules (old ++ f) (record { kind = 3; groups = c .groups; members = n + 1; rules = c .rules }) groups us os ids starts holders
     holds-member =
         let S = holds-stay f H 3 in
@@ -273,21 +251,26 @@ module _ {b : Earlier} {rules : List Rule} {old : List ℕ} {c : Counts} {groups
           long = (H .long .0, length-set users n (length old + K .at) ∙ H .long .1, length-set owners n p ∙ H .long .2, H .long .3, H .long .4, H .long .5);
         }
 
-    pub grow-member : Held (with b (member (record { group = K .group; user = K .user }))) (rules ++ maybe (asRule (member (record { group = K .group; user = K .user }))) []) (old ++ f) (counted c 3) groups users′ owners′ ids starts holders ms′ is
+    grown-set : InSet memberPlace (old ++ f) ms′ 512 (bytesOf (b .members ++ (record { group = K .group; user = K .user } ∷ [])))
+    grown-set =
+        let m : b .members ≡ membersIn (stringsIn old groups (c .groups) 0) owners old users n = H .members-are ∙ ap (λ (l : List Str). membersIn l owners old users n) (H .groups-are) in
+        rw (bytes-snoc (b .members) (record { group = K .group; user = K .user }), m) (K .held)
+
+    pub grow-member : Held (with b (member (record { group = K .group; user = K .user }))) (rules ++ maybe (asRule (member (record { group = K .group; user = K .user }))) []) (old ++ f) (counted c 3) groups users′ owners′ ids starts holders names ms′ is
     unfolding with counted if_then_else_ maybe asRule
     grow-member =
-        rw (append-nil rules, K .users-set, K .owners-set, K .seen-set)
+        rw (append-nil rules, K .users-set, K .owners-set)
         (record {
           kind = refl;
           told-ids = G .told-ids;
           holds = holds-member;
-          members-marked = marked-grow ms (memberPlace owners old users) (memberPlace os (old ++ f) us) n (hashFrom p (K .user)) hash-fits (G .members-marked)
-              (λ j k. ap₂ hashFrom (old-owner j k) (old-user j k)) (ap₂ hashFrom new-owner new-user-at);
-          ids-marked = ids-stay-marked;
-          seen-long = (length-set ms (hashFrom p (K .user)) 1 ∙ G .seen-long .0, G .seen-long .1);
+          named = names-stay;
+          members-set = grown-set;
+          ids-set = ids-set-stays;
+          sets-long = (K .keys-long, G .sets-long .1);
         })
 
-  module _ {ids′ starts′ holders′ is′ : List ℕ} (K : RuleKept (stringsIn old groups (c .groups) 0) old f ids starts holders is (c .rules) ids′ starts′ holders′ is′) where
+  module _ {ids′ starts′ holders′ is′ : List ℕ} (K : RuleKept (stringsIn old groups (c .groups) 0) old f ids starts holders (c .rules) ids′ starts′ holders′ is′) where
     abbrev m : ℕ
     m = c .rules
 
@@ -308,12 +291,6 @@ module _ {b : Earlier} {rules : List Rule} {old : List ℕ} {c : Counts} {groups
 
     new-id : (strIn (old ++ f) (length old + K .at) ≡ x .id) × (strEnd (old ++ f) (length old + K .at) ≤ length (old ++ f))
     new-id = new-string old f (K .at) (x .id) (K .last) (K .stands)
-
-    new-id-at : strIn (old ++ f) (getD ds m 0) ≡ x .id
-    new-id-at = ap (strIn (old ++ f)) (new-start old f ids m (length old + K .at) (H .ids-laid) wide-ids) ∙ new-id .0
-
-    hash-fits-id : hashFrom 0 (x .id) < length is
-    hash-fits-id = omega (arith, hash-small (x .id) 0 (omega arith), G .seen-long .1)
 
     rules-long : length (rules ++ (x ∷ [])) ≡ m + 1
     rules-long = length-append rules (x ∷ []) ∙ ap (λ (k : ℕ). k + 1) (H .rules-count)
@@ -337,16 +314,16 @@ module _ {b : Earlier} {rules : List Rule} {old : List ℕ} {c : Counts} {groups
           long = (H .long .0, H .long .1, H .long .2, length-set ids m (length old + K .at) ∙ H .long .3, length-set starts m (length old + 1) ∙ H .long .4, length-set holders m (K .holder) ∙ H .long .5);
         }
 
-    pub grow-rule : Held (with b (rule x)) (rules ++ maybe (asRule (rule x)) []) (old ++ f) (counted c 4) groups users owners ids′ starts′ holders′ ms is′
+    pub grow-rule : Held (with b (rule x)) (rules ++ maybe (asRule (rule x)) []) (old ++ f) (counted c 4) groups users owners ids′ starts′ holders′ names ms is′
     unfolding with counted if_then_else_ maybe asRule
     grow-rule =
-        same-arrays (K .ids-set) (K .starts-set) (K .holders-set) (K .seen-set)
+        same-arrays (K .ids-set) (K .starts-set) (K .holders-set)
         (record {
           kind = refl;
           told-ids = ap (λ (l : List Str). l ++ (x .id ∷ [])) (G .told-ids) ∙ sym (ids-snoc rules x);
           holds = holds-rule;
-          members-marked = members-stay-marked;
-          ids-marked = marked-grow is (idPlace old ids) (idPlace (old ++ f) ds) m (hashFrom 0 (x .id)) hash-fits-id (G .ids-marked)
-              (λ j k. ap (hashFrom 0) (old-string old f ids m (length old + K .at) (H .ids-laid) wide-ids j k)) (ap (hashFrom 0) new-id-at);
-          seen-long = (G .seen-long .0, length-set is (hashFrom 0 (x .id)) 1 ∙ G .seen-long .1);
+          named = names-stay;
+          members-set = members-set-stays;
+          ids-set = rw (G .told-ids ∙ H .ids-are) (K .ids-held);
+          sets-long = (G .sets-long .0, K .keys-long);
         })

@@ -1,15 +1,13 @@
 -- A turn of `load`, and each way out of it.
-use mathlib.Core.Path.{_≡_, refl, sym, ap, ap₂, _∙_, subst}
-use mathlib.Core.Bool.{Bool, true, false}
+use mathlib.Core.Path.{_≡_, refl, sym, ap, _∙_}
 use mathlib.Core.List.{List, [], _∷_, _++_, append-nil}
 use mathlib.Core.Option.{Option, none, some}
-use Prim.Native.Nat.{ℕ, zero, suc, _+_, _-_, _*_, _/_, _≤_, _<_}
+use Prim.Native.Nat.{ℕ, zero, suc, _+_, _-_, _/_, _≤_, _<_}
 use native.Mathlib.Omega.{arith}
 use borrow.Author.Tests.{eq-eqb, ne-eqb, le-ltb, lt-ltb}
-use lib.Dec.{eqb, ltb}
-use lib.ListN.{length, take, drop, getD, drop-of-length-le}
+use lib.ListN.{length, take, drop, getD, replicate, drop-of-length-le}
 use lib.Seq.{length-take-le, take-at, drop-at, take-add, getD-take, getD-drop, append-snoc}
-use Rattle.text.specs.Test.{if_then_else_, twice}
+use Rattle.text.specs.Test.{if_then_else_, any, twice}
 use Rattle.text.specs.String.{Str}
 use Rattle.text.specs.Frame.{part}
 use Rattle.text.specs.Fill.{put}
@@ -17,8 +15,7 @@ use Rattle.text.proofs.Filling.{put-length}
 use Rattle.line.specs.Lines.{lines, frame, digits, firstLine}
 use Rattle.line.specs.declared.Line as lined
 use Rattle.line.specs.declared.Line.the-variants as hexed
-use Rattle.line.proofs.FirstLine.{Read, line-read, Unhex, line-unhex}
-use Rattle.line.proofs.Digits.{digits-half}
+use Rattle.line.proofs.FirstLine.{Read, line-read, line-unhex}
 use Rattle.table.specs.Table.{Member, Rule}
 use Rattle.table.specs.Frame.{Entry, version, group, member, rule, entryOf}
 use Rattle.table.specs.Refusal.{Line, notHex, reads, framed, decoded, lineOf, Earlier, first, with, after, refusal}
@@ -26,13 +23,15 @@ use Rattle.table.specs.Text.{unless, judge, check, maybe, collect, read, entrie
 use Rattle.table.specs.declared.Checked.{Checked}
 use Rattle.table.specs.declared.Checked.the-variants as checked
 use Rattle.load.specs.declared.row.Counts.{Counts}
-use Rattle.load.specs.declared.Loaded.{Loaded}
 use Rattle.load.specs.declared.Loaded.the-variants.{Table, Refused}
 use Rattle.rows.specs.Strings.{stringsIn}
 use Rattle.rows.proofs.Grow.{rowsOf}
-use Rattle.keep.specs.Held.{membersIn}
-use Rattle.load.specs.Held.{idsOf, RulesAt, HoldersAt, Holds, Held, counted}
-use Rattle.load.specs.Loaded.{Grown, Kept, Outcome}
+use Rattle.sorted.proofs.Growing.{none as none-sorted, none-there as no-name}
+use Rattle.hash_set.proofs.Sets.{holds-none}
+use Rattle.keep.specs.Held.{membersIn, bytesOf, memberPlace}
+use Rattle.keep_rule.specs.Kept.{idPlace}
+use Rattle.load.specs.Held.{idsOf, RulesAt, HoldersAt, Held, counted}
+use Rattle.load.specs.Loaded.{Grown, Outcome}
 
 -- ---- stored bytes
 
@@ -49,6 +48,12 @@ module _ (d : List ℕ) (at : ℕ) (s : List ℕ) (h : at ≤ length d) where
 
 part-first : (l : List ℕ) (u e : ℕ) → u < e → getD (part l u e) 0 0 ≡ getD l u 0
 part-first l u e h = getD-take (e - u) (drop u l) 0 0 (omega arith) ∙ getD-drop u l 0 0 ∙ ap (λ (i : ℕ). getD l i 0) (omega arith)
+
+-- an array of which nothing is stored
+pub zeros : (n p : ℕ) → getD (replicate {A = ℕ} n 0) p 0 ≡ 0
+zeros zero p = refl
+zeros (suc n) zero = refl
+zeros (suc n) (suc p) = zeros n p
 
 -- ---- a line of the text
 
@@ -109,11 +114,11 @@ collect-cons f e es = refl
 
 -- ---- the invariant
 
-pub record Going (text buf : List ℕ) (c : Counts) (groups users owners ids starts holders ms is : List ℕ) (from used number : ℕ) : Type 0 where
+pub record Going (text buf : List ℕ) (c : Counts) (groups users owners ids starts holders names ms is : List ℕ) (from used number : ℕ) : Type 0 where
   pub b : Earlier
   pub rules : List Rule
   pub judged : check text ≡ judge number b (lines (drop from text))
-  pub held : Held b rules (take used buf) c groups users owners ids starts holders ms is
+  pub held : Held b rules (take used buf) c groups users owners ids starts holders names ms is
   pub groups-left : tableOf text .groups ≡ b .groups ++ collect asGroup (entries (lines (drop from text)))
   pub members-left : tableOf text .members ≡ b .members ++ collect asMember (entries (lines (drop from text)))
   pub rules-left : tableOf text .rules ≡ rules ++ collect asRule (entries (lines (drop from text)))
@@ -139,12 +144,12 @@ module _ (text : List ℕ) where
     check-judges h = rw (le-ltb 32768 (length text) fits, ne-eqb (length text) 0 h)
 
     -- nothing is held yet
-    pub load-start : (length text ≡ 0 → ⊥) → (buf groups users owners ids starts holders ms is : List ℕ) → 16384 ≤ length buf
+    pub load-start : (length text ≡ 0 → ⊥) → (buf groups users owners ids starts holders names ms is : List ℕ) → 16384 ≤ length buf
         → (length groups ≡ 64) × (length users ≡ 512) × (length owners ≡ 512) × (length ids ≡ 256) × (length starts ≡ 256) × (length holders ≡ 256)
-        → (length ms ≡ 8192) × (length is ≡ 8192)
-        → Going text buf (record { kind = 0; groups = 0; members = 0; rules = 0 }) groups users owners ids starts holders ms is 0 0 1
-    unfolding first stringsIn membersIn rowsOf idsOf RulesAt HoldersAt twice
-    load-start h buf groups users owners ids starts holders ms is room long seen =
+        → (length ms ≡ 4609) × (length is ≡ 2305) → ((p : ℕ) → getD ms p 0 ≡ 0) → ((p : ℕ) → getD is p 0 ≡ 0)
+        → Going text buf (record { kind = 0; groups = 0; members = 0; rules = 0 }) groups users owners ids starts holders names ms is 0 0 1
+    unfolding first stringsIn membersIn rowsOf idsOf RulesAt HoldersAt twice any bytesOf
+    load-start h buf groups users owners ids starts holders names ms is room long sets ms-none is-none =
         let t = start-table text in
         record {
           b = first;
@@ -168,9 +173,10 @@ module _ (text : List ℕ) where
               few = (omega arith, omega arith, omega arith);
               long = long;
             };
-            members-marked = λ i k. absurd (omega arith);
-            ids-marked = λ i k. absurd (omega arith);
-            seen-long = seen;
+            named = record { sorted = none-sorted [] names; told = λ y. sym (no-name [] names y) };
+            members-set = holds-none memberPlace [] ms 512 ms-none;
+            ids-set = holds-none idPlace [] is 256 is-none;
+            sets-long = sets;
           };
           groups-left = t .0;
           members-left = t .1;
@@ -181,8 +187,8 @@ module _ (text : List ℕ) where
 
 -- ---- the end
 
-module _ {text buf : List ℕ} {c : Counts} {groups users owners ids starts holders ms is : List ℕ} {from used number : ℕ}
-    (G : Going text buf c groups users owners ids starts holders ms is from used number) where
+module _ {text buf : List ℕ} {c : Counts} {groups users owners ids starts holders names ms is : List ℕ} {from used number : ℕ}
+    (G : Going text buf c groups users owners ids starts holders names ms is from used number) where
   pub line-room : (from ≤ length text) × (used + (length text - from) / 2 ≤ length buf)
   line-room = (G .within .0, omega (arith, G .paced, G .within))
 
@@ -240,7 +246,7 @@ module _ {text buf : List ℕ} {c : Counts} {groups users owners ids starts hold
     frame-same : part buf′ used (used + len) ≡ f
     frame-same = ap (λ (l : List ℕ). part l used (used + len)) o ∙ put-part buf used f here (used + len) (ap (λ (n : ℕ). used + n) (R .size))
 
-    pub held-again : Held (G .b) (G .rules) (take used buf′) c groups users owners ids starts holders ms is
+    pub held-again : Held (G .b) (G .rules) (take used buf′) c groups users owners ids starts holders names ms is
     held-again = rw old-same (G .held)
 
     line-is : lineOf (R .line) ≡ framed (entryOf (part buf′ used (used + len)))
@@ -249,16 +255,16 @@ module _ {text buf : List ℕ} {c : Counts} {groups users owners ids starts hold
     judged-line : check text ≡ unless (refusal (G .b) (framed (entryOf (part buf′ used (used + len))))) number (judge (number + 1) (after (G .b) (framed (entryOf (part buf′ used (used + len))))) (lines (drop next text)))
     judged-line = G .judged ∙ ap (judge number (G .b)) (R .first) ∙ judge-line number (G .b) (R .line) (lines (drop next text)) _ line-is
 
-    module _ {groups′ users′ owners′ ids′ starts′ holders′ ms′ is′ : List ℕ} (m : ℕ)
-        (ens : (b : Earlier) (rules : List Rule) → Held b rules (take used buf′) c groups users owners ids starts holders ms is
-        → (m ≡ refusal b (framed (entryOf (part buf′ used (used + len))))) × (m ≡ 255 → Grown b rules (take used buf′) (part buf′ used (used + len)) c groups′ users′ owners′ ids′ starts′ holders′ ms′ is′)) where
+    module _ {groups′ users′ owners′ ids′ starts′ holders′ names′ ms′ is′ : List ℕ} (m : ℕ)
+        (ens : (b : Earlier) (rules : List Rule) → Held b rules (take used buf′) c groups users owners ids starts holders names ms is
+        → (m ≡ refusal b (framed (entryOf (part buf′ used (used + len))))) × (m ≡ 255 → Grown b rules (take used buf′) (part buf′ used (used + len)) c groups′ users′ owners′ ids′ starts′ holders′ names′ ms′ is′)) where
       pub load-refused : (m ≡ 255 → ⊥) → check text ≡ checked.Refused m number
       load-refused n =
           let q = ens (G .b) (G .rules) held-again .0 in
           judged-line ∙ ap (λ (k : ℕ). unless k number (judge (number + 1) (after (G .b) (framed (entryOf (part buf′ used (used + len))))) (lines (drop next text)))) (sym q) ∙ unless-not m number _ n
 
       module _ (fine : m ≡ 255) where
-        W : Grown (G .b) (G .rules) (take used buf′) (part buf′ used (used + len)) c groups′ users′ owners′ ids′ starts′ holders′ ms′ is′
+        W : Grown (G .b) (G .rules) (take used buf′) (part buf′ used (used + len)) c groups′ users′ owners′ ids′ starts′ holders′ names′ ms′ is′
         W = ens (G .b) (G .rules) held-again .1 fine
 
         reads-this : framed (entryOf (part buf′ used (used + len))) ≡ reads (W .this)
@@ -267,7 +273,7 @@ module _ {text buf : List ℕ} {c : Counts} {groups users owners ids starts hold
         entries-here : entries (lines (drop from text)) ≡ W .this ∷ entries (lines (drop next text))
         entries-here = ap entries (R .first) ∙ entries-cons (R .line) (lines (drop next text)) (W .this) (line-is ∙ reads-this)
 
-        pub load-again : (c′ : Counts) → c′ ≡ counted c (getD buf′ used 0) → Going text buf′ c′ groups′ users′ owners′ ids′ starts′ holders′ ms′ is′ next (used + len) (number + 1)
+        pub load-again : (c′ : Counts) → c′ ≡ counted c (getD buf′ used 0) → Going text buf′ c′ groups′ users′ owners′ ids′ starts′ holders′ names′ ms′ is′ next (used + len) (number + 1)
         unfolding after
         load-again c′ p =
             let q = ens (G .b) (G .rules) held-again .0 in

@@ -1,8 +1,8 @@
 -- What take_row has met.
-use mathlib.Core.Path.{_≡_, refl, sym, ap, _∙_}
-use mathlib.Core.Bool.{Bool, true, false}
-use mathlib.Core.List.{List, [], _∷_, _++_}
-use mathlib.Core.Option.{Option, none, some}
+use mathlib.Core.Path.{_≡_, sym, ap, _∙_}
+use mathlib.Core.Bool.{false}
+use mathlib.Core.List.{List}
+use mathlib.Core.Option.{some}
 use Prim.Native.Nat.{ℕ, _+_, _-_, _≤_, _<_}
 use native.Mathlib.Omega.{arith}
 use lib.ListN.{length, take, drop, getD, length-drop}
@@ -10,17 +10,18 @@ use lib.Seq.{length-take-le}
 use Rattle.text.specs.Test.{any, twice}
 use Rattle.text.specs.String.{Str, same}
 use Rattle.text.specs.Frame.{part}
-use Rattle.rows.specs.Strings.{stringsIn, Laid}
+use Rattle.rows.specs.Strings.{stringsIn}
 use Rattle.table.specs.Table.{Rule}
-use Rattle.table.specs.Frame.{Entry, version, group, member, rule, entryOf}
-use Rattle.table.specs.Refusal.{Earlier, Line, reads, unreadable, framed, repeats, refusal}
+use Rattle.table.specs.Frame.{version, group, member, rule, entryOf}
+use Rattle.table.specs.Refusal.{Earlier, reads, framed, repeats, refusal}
 use Rattle.table.proofs.Numbers.{refusal-clear}
 use Rattle.table.proofs.Versions.{refused-unread}
 use Rattle.table.proofs.Frames.{kind-unknown}
-use Rattle.keep.specs.Held.{membersIn, GroupKept, MemberKept}
-use Rattle.keep_rule.specs.Kept.{RuleKept}
+use Rattle.hash_set.specs.Set.{Holds as InSet}
+use Rattle.keep.specs.Held.{Named, membersIn, bytesOf, memberPlace, GroupKept, MemberKept}
+use Rattle.keep_rule.specs.Kept.{idPlace, RuleKept}
 use Rattle.load.specs.declared.row.Counts.{Counts}
-use Rattle.load.specs.Held.{Holds, Held, counted}
+use Rattle.load.specs.Held.{Held}
 use Rattle.load.specs.Loaded.{Grown}
 use Rattle.load.proofs.Growing.{grow-version, grow-group, grow-member, grow-rule}
 
@@ -30,9 +31,6 @@ module _ (buf : List ℕ) (used end : ℕ) (pre : (used < end) × (end ≤ lengt
 
   pub part-long : length (part buf used end) ≡ end - used
   part-long = length-take-le (end - used) (drop used buf) (omega (arith, length-drop used buf, pre .1))
-
-  pub old-room : length (take used buf) < 16384
-  old-room = omega (arith, front-long, pre .0, pre .2)
 
   pub both-room : length (take used buf) + length (part buf used end) ≤ 16384
   both-room = omega (arith, front-long, part-long, pre .0, pre .2)
@@ -46,19 +44,19 @@ fresh : (b : Earlier) (f name : Str) → entryOf f ≡ some (group name) → ref
 unfolding framed repeats
 fresh b f name i h = let k : refusal b (reads (group name)) ≡ 255 = rw i at h in refusal-clear b (group name) k .4
 
-module _ {b : Earlier} {rules : List Rule} {old : List ℕ} {c : Counts} {groups users owners ids starts holders ms is : List ℕ}
-    (H : Held b rules old c groups users owners ids starts holders ms is) (f : List ℕ) (r : ℕ) where
+module _ {b : Earlier} {rules : List Rule} {old : List ℕ} {c : Counts} {groups users owners ids starts holders names ms is : List ℕ}
+    (H : Held b rules old c groups users owners ids starts holders names ms is) (f : List ℕ) (r : ℕ) where
   pub row-version : getD f 0 0 ≡ 1 → ((b : Earlier) → b .kind ≡ c .kind → r ≡ refusal b (framed (entryOf f))) → (r ≡ 255 → (v : Str) × (t : Str) × (entryOf f ≡ some (version v t)))
-      → (r ≡ refusal b (framed (entryOf f))) × (r ≡ 255 → Grown b rules old f c groups users owners ids starts holders ms is)
+      → (r ≡ refusal b (framed (entryOf f))) × (r ≡ 255 → Grown b rules old f c groups users owners ids starts holders names ms is)
   row-version k n e = (
     n b (H .kind),
     λ x. let v = e x in record { this = version (v .0) (v .1); reads = v .2; held = rw k (grow-version f H (v .0) (v .1)) },
   )
 
-  pub row-group : {groups′ : List ℕ} → getD f 0 0 ≡ 2
+  pub row-group : {groups′ names′ : List ℕ} → getD f 0 0 ≡ 2
       → ((b : Earlier) → b .kind ≡ c .kind → b .groups ≡ stringsIn old groups (c .groups) 0 → r ≡ refusal b (framed (entryOf f)))
-      → (r ≡ 255 → GroupKept old f groups (c .groups) groups′)
-      → (r ≡ refusal b (framed (entryOf f))) × (r ≡ 255 → Grown b rules old f c groups′ users owners ids starts holders ms is)
+      → (r ≡ 255 → GroupKept old f groups (c .groups) groups′ names′)
+      → (r ≡ refusal b (framed (entryOf f))) × (r ≡ 255 → Grown b rules old f c groups′ users owners ids starts holders names′ ms is)
   row-group k n e =
       let q = n b (H .kind) (H .holds .groups-are) in (
         q,
@@ -67,8 +65,8 @@ module _ {b : Earlier} {rules : List Rule} {old : List ℕ} {c : Counts} {groups
 
   pub row-member : {users′ owners′ ms′ : List ℕ} → getD f 0 0 ≡ 3
       → ((b : Earlier) → b .kind ≡ c .kind → b .groups ≡ stringsIn old groups (c .groups) 0 → b .members ≡ membersIn (b .groups) owners old users (c .members) → r ≡ refusal b (framed (entryOf f)))
-      → (r ≡ 255 → MemberKept (stringsIn old groups (c .groups) 0) old f users owners ms (c .members) users′ owners′ ms′)
-      → (r ≡ refusal b (framed (entryOf f))) × (r ≡ 255 → Grown b rules old f c groups users′ owners′ ids starts holders ms′ is)
+      → (r ≡ 255 → MemberKept (stringsIn old groups (c .groups) 0) old f users owners (c .members) users′ owners′ ms′)
+      → (r ≡ refusal b (framed (entryOf f))) × (r ≡ 255 → Grown b rules old f c groups users′ owners′ ids starts holders names ms′ is)
   row-member k n e = (
     n b (H .kind) (H .holds .groups-are) (H .holds .members-are),
     λ x. let K = e x in record { this = member (record { group = K .group; user = K .user }); reads = K .reads; held = rw k (grow-member f H K) },
@@ -76,8 +74,8 @@ module _ {b : Earlier} {rules : List Rule} {old : List ℕ} {c : Counts} {groups
 
   pub row-rule : {ids′ starts′ holders′ is′ : List ℕ} → getD f 0 0 ≡ 4
       → ((b : Earlier) → b .kind ≡ c .kind → b .groups ≡ stringsIn old groups (c .groups) 0 → b .ids ≡ stringsIn old ids (c .rules) 0 → r ≡ refusal b (framed (entryOf f)))
-      → (r ≡ 255 → RuleKept (stringsIn old groups (c .groups) 0) old f ids starts holders is (c .rules) ids′ starts′ holders′ is′)
-      → (r ≡ refusal b (framed (entryOf f))) × (r ≡ 255 → Grown b rules old f c groups users owners ids′ starts′ holders′ ms is′)
+      → (r ≡ 255 → RuleKept (stringsIn old groups (c .groups) 0) old f ids starts holders (c .rules) ids′ starts′ holders′ is′)
+      → (r ≡ refusal b (framed (entryOf f))) × (r ≡ 255 → Grown b rules old f c groups users owners ids′ starts′ holders′ names ms is′)
   row-rule k n e = (
     n b (H .kind) (H .holds .groups-are) (H .told-ids ∙ H .holds .ids-are),
     λ x. let K = e x in record { this = rule (K .kept); reads = K .reads; held = rw k (grow-rule f H K) },
@@ -86,6 +84,16 @@ module _ {b : Earlier} {rules : List Rule} {old : List ℕ} {c : Counts} {groups
 pub row-unknown : (b : Earlier) (f : List ℕ) (k : ℕ) → 0 < length f → getD f 0 0 ≡ k → (k ≡ 1 → ⊥) → (k ≡ 2 → ⊥) → (k ≡ 3 → ⊥) → (k ≡ 4 → ⊥) → 3 ≡ refusal b (framed (entryOf f))
 row-unknown b f k h e p q s t = refused-unread b f (kind-unknown f k h e p q s t)
 
-pub all-distinct : {b : Earlier} {rules : List Rule} {old : List ℕ} {c : Counts} {groups users owners ids starts holders ms is : List ℕ}
-    → Held b rules old c groups users owners ids starts holders ms is → twice same (stringsIn old groups (c .groups) 0) ≡ false
-all-distinct H = rw (H .holds .groups-are) at (H .holds .distinct)
+module _ {b : Earlier} {rules : List Rule} {old : List ℕ} {c : Counts} {groups users owners ids starts holders names ms is : List ℕ}
+    (H : Held b rules old c groups users owners ids starts holders names ms is) where
+  pub all-distinct : twice same (stringsIn old groups (c .groups) 0) ≡ false
+  all-distinct = rw (H .holds .groups-are) at (H .holds .distinct)
+
+  pub all-named : Named old names (c .groups) (stringsIn old groups (c .groups) 0)
+  all-named = rw (H .holds .groups-are) at (H .named)
+
+  pub members-in : InSet memberPlace old ms 512 (bytesOf (membersIn (stringsIn old groups (c .groups) 0) owners old users (c .members)))
+  members-in = rw (H .holds .members-are ∙ ap (λ (l : List Str). membersIn l owners old users (c .members)) (H .holds .groups-are)) at (H .members-set)
+
+  pub ids-in : InSet idPlace old is 256 (stringsIn old ids (c .rules) 0)
+  ids-in = rw (H .told-ids ∙ H .holds .ids-are) at (H .ids-set)

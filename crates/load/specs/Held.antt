@@ -1,7 +1,7 @@
 -- What the arrays of a loaded table hold.
 use Prim.Native.Nat.{ℕ, suc, _+_, _≤_, _<_}
 use mathlib.Core.Path.{_≡_}
-use mathlib.Core.Bool.{Bool, true, false}
+use mathlib.Core.Bool.{true, false}
 use mathlib.Core.List.{List, [], _∷_}
 use lib.Dec.{eqb}
 use lib.ListN.{length, getD}
@@ -10,9 +10,10 @@ use Rattle.text.specs.String.{Str, same}
 use Rattle.text.specs.Frame.{got}
 use Rattle.rows.specs.Strings.{stringsIn, Laid}
 use Rattle.table.specs.Table.{Member, Rule}
-use Rattle.table.specs.Frame.{Entry, ruleBody}
+use Rattle.table.specs.Frame.{ruleBody}
 use Rattle.table.specs.Refusal.{Earlier}
-use Rattle.keep.specs.Held.{membersIn, Owned, Marked, memberPlace}
+use Rattle.hash_set.specs.Set.{Holds as InSet}
+use Rattle.keep.specs.Held.{Named, membersIn, Owned, bytesOf, memberPlace}
 use Rattle.keep_rule.specs.Kept.{idPlace}
 use Rattle.load.specs.declared.row.Counts.{Counts}
 
@@ -48,14 +49,15 @@ pub record Holds (named : List Str) (members : List Member) (rules : List Rule) 
   pub few : (c .groups ≤ 64) × (c .members ≤ 512) × (c .rules ≤ 256)
   pub long : (length groups ≡ 64) × (length users ≡ 512) × (length owners ≡ 512) × (length ids ≡ 256) × (length starts ≡ 256) × (length holders ≡ 256)
 
--- while rows come: what they told is held, and the filters are set for it
-pub record Held (b : Earlier) (rules : List Rule) (f : List ℕ) (c : Counts) (groups users owners ids starts holders members-seen ids-seen : List ℕ) : Type 0 where
+-- while rows come: what they told is held, and the sets of names, members and ids have it too
+pub record Held (b : Earlier) (rules : List Rule) (f : List ℕ) (c : Counts) (groups users owners ids starts holders names member-keys id-keys : List ℕ) : Type 0 where
   pub kind : b .kind ≡ c .kind
   pub told-ids : b .ids ≡ idsOf rules
   pub holds : Holds (b .groups) (b .members) rules f c groups users owners ids starts holders
-  pub members-marked : Marked members-seen (memberPlace owners f users) (c .members)
-  pub ids-marked : Marked ids-seen (idPlace f ids) (c .rules)
-  pub seen-long : (length members-seen ≡ 8192) × (length ids-seen ≡ 8192)
+  pub named : Named f names (c .groups) (b .groups)
+  pub members-set : InSet memberPlace f member-keys 512 (bytesOf (b .members))
+  pub ids-set : InSet idPlace f id-keys 256 (b .ids)
+  pub sets-long : (length member-keys ≡ 4609) × (length id-keys ≡ 2305)
 
 -- the counts after one row more
 unfoldable pub counted : Counts → ℕ → Counts

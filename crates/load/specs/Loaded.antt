@@ -1,7 +1,7 @@
 -- The answer of `load`, and what it leaves in the arrays.
 use Prim.Native.Nat.{ℕ, _≤_}
 use mathlib.Core.Path.{_≡_}
-use mathlib.Core.List.{List, _++_, [], _∷_}
+use mathlib.Core.List.{List, _++_, []}
 use mathlib.Core.Option.{some}
 use lib.ListN.{length, take, getD}
 use Rattle.text.specs.String.{Str}
@@ -16,10 +16,10 @@ use Rattle.load.specs.declared.Loaded.the-variants.{Table, Refused}
 use Rattle.load.specs.Held.{Holds, Held, counted}
 
 -- one row more is held
-pub record Grown (b : Earlier) (rules : List Rule) (old f : List ℕ) (c : Counts) (groups users owners ids starts holders members-seen ids-seen : List ℕ) : Type 0 where
+pub record Grown (b : Earlier) (rules : List Rule) (old f : List ℕ) (c : Counts) (groups users owners ids starts holders names member-keys id-keys : List ℕ) : Type 0 where
   pub this : Entry
   pub reads : entryOf f ≡ some this
-  pub held : Held (with b this) (rules ++ maybe (asRule this) []) (old ++ f) (counted c (getD f 0 0)) groups users owners ids starts holders members-seen ids-seen
+  pub held : Held (with b this) (rules ++ maybe (asRule this) []) (old ++ f) (counted c (getD f 0 0)) groups users owners ids starts holders names member-keys id-keys
 
 -- the text is accepted, and the arrays hold its table
 pub record Kept (text : Str) (buf : List ℕ) (used : ℕ) (c : Counts) (groups users owners ids starts holders : List ℕ) : Type 0 where

@@ -37,8 +37,9 @@ pub fn load(
         return Loaded::Refused { number: 4, line: 1 };
     }
     let mut hints = [0u8; 1024];
-    let mut members_seen = [0u8; 8192];
-    let mut ids_seen = [0u8; 8192];
+    let mut names = [0u32; 64];
+    let mut member_keys = [0u32; 4609];
+    let mut id_keys = [0u32; 2305];
     let mut c = Counts {
         kind: 0,
         groups: 0,
@@ -69,8 +70,9 @@ pub fn load(
             ids,
             starts,
             holders,
-            &mut members_seen,
-            &mut ids_seen,
+            &mut names,
+            &mut member_keys,
+            &mut id_keys,
         );
         if number != 255 {
             return Loaded::Refused {

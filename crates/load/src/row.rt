@@ -67,12 +67,13 @@ pub fn take_row(
     ids: &mut [u16; 256],
     starts: &mut [u16; 256],
     holders: &mut [u8; 256],
-    memberseen: &mut [u8; 8192],
-    idseen: &mut [u8; 8192],
+    names: &mut [u32; 64],
+    memberkeys: &mut [u32; 4609],
+    idkeys: &mut [u32; 2305],
 ) -> u8
     requires { ⌜ (used < end) × (end ≤ length (now buf)) × (end ≤ 16384) ⌝ }
-    requires { ⌜ ((b : Earlier) × (rules : List Rule) × Held b rules (take used (now buf)) c (now groups) (now users) (now owners) (now ids) (now starts) (now holders) (now memberseen) (now idseen)) ⌝ }
-    ensures { λ r. ⌜ ((b : Earlier) (rules : List Rule) → Held b rules (take used (now (buf .entry))) c (now (groups .entry)) (now (users .entry)) (now (owners .entry)) (now (ids .entry)) (now (starts .entry)) (now (holders .entry)) (now (memberseen .entry)) (now (idseen .entry)) → (r ≡ refusal b (framed (entryOf (part (now (buf .entry)) used end)))) × (r ≡ 255 → Grown b rules (take used (now (buf .entry))) (part (now (buf .entry)) used end) c (now (groups .exit)) (now (users .exit)) (now (owners .exit)) (now (ids .exit)) (now (starts .exit)) (now (holders .exit)) (now (memberseen .exit)) (now (idseen .exit)))) ⌝ }
+    requires { ⌜ ((b : Earlier) × (rules : List Rule) × Held b rules (take used (now buf)) c (now groups) (now users) (now owners) (now ids) (now starts) (now holders) (now names) (now memberkeys) (now idkeys)) ⌝ }
+    ensures { λ r. ⌜ ((b : Earlier) (rules : List Rule) → Held b rules (take used (now (buf .entry))) c (now (groups .entry)) (now (users .entry)) (now (owners .entry)) (now (ids .entry)) (now (starts .entry)) (now (holders .entry)) (now (names .entry)) (now (memberkeys .entry)) (now (idkeys .entry)) → (r ≡ refusal b (framed (entryOf (part (now (buf .entry)) used end)))) × (r ≡ 255 → Grown b rules (take used (now (buf .entry))) (part (now (buf .entry)) used end) c (now (groups .exit)) (now (users .exit)) (now (owners .exit)) (now (ids .exit)) (now (starts .exit)) (now (holders .exit)) (now (names .exit)) (now (memberkeys .exit)) (now (idkeys .exit)))) ⌝ }
 {
     let old = &buf[..used];
     let f = &buf[used..end];
@@ -81,7 +82,7 @@ pub fn take_row(
         return table::frame::version_number(f, c.kind);
     }
     if k == 2 {
-        return keep::take_group(old, f, c.kind, groups, c.groups, hints);
+        return keep::take_group(old, f, c.kind, groups, c.groups, hints, names);
     }
     if k == 3 {
         return keep::take_member(
@@ -91,10 +92,11 @@ pub fn take_row(
             groups,
             c.groups,
             hints,
+            names,
             users,
             owners,
             c.members,
-            memberseen,
+            memberkeys,
         );
     }
     if k == 4 {
@@ -105,11 +107,12 @@ pub fn take_row(
             groups,
             c.groups,
             hints,
+            names,
             ids,
             starts,
             holders,
             c.rules,
-            idseen,
+            idkeys,
         );
     }
     3

@@ -12,7 +12,7 @@ use lib.Seq.{drop-length}
 use Rattle.text.specs.Test.{_and_, if_then_else_, twice}
 use Rattle.text.specs.String.{Str, joined}
 use Rattle.text.specs.Frame.{Parsed, got, unread, andThen, _>>=_, ret, byte, string, stringBytes, times}
-use Rattle.text.proofs.Tests.{by, and-l, and-r, both}
+use Rattle.text.proofs.Tests.{by, and-l, and-r}
 use Rattle.text.proofs.Frames.{times-length}
 use Rattle.text.proofs.Codec.{then-got, got-move, Took, took-both, byte-took, string-took, times-took, Gives, then-gives, byte-gives, string-gives, times-gives}
 use Rattle.path.specs.Path.{Key, Elem, Path}

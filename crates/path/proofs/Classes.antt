@@ -4,13 +4,13 @@ use mathlib.Core.Bool.{Bool, true, false, not, _&&_, _||_}
 use Prim.Native.Nat.{ℕ}
 use mathlib.Core.List.{[], _∷_}
 use native.Mathlib.Omega.{arith}
-use lib.Dec.{eqb, ltb, leb}
+use lib.Dec.{eqb, leb}
 use lib.ListN.{length, getD}
 use Rattle.text.specs.Test.{_or_, _and_, if_then_else_, any}
 use Rattle.text.specs.Byte.{isName, isPrint, isStar}
 use Rattle.text.specs.String.{Str, bytes, same}
 use Rattle.text.proofs.Tests.{by, same→≡}
-use Rattle.path.specs.Faults.{unsized, outsideName, outsideValue, starred, halfWild, grade}
+use Rattle.path.specs.Faults.{unsized, outsideName, outsideValue, halfWild, grade}
 use Rattle.path.specs.Walk.{unsizedBy, nameGrade, elemNameGrade, valueGrade}
 
 -- the test of a byte, as the program makes it

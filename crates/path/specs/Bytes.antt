@@ -1,9 +1,8 @@
 -- Path bytes: how a path is read from a frame, and the bytes that stand for it.
-use Prim.Native.Nat.{ℕ}
 use mathlib.Core.List.{List, _∷_, _++_}
 use lib.ListN.{length}
 use Rattle.text.specs.String.{Str, joined}
-use Rattle.text.specs.Frame.{Parsed, got, unread, Reader, _>>=_, ret, byte, string, stringBytes, times}
+use Rattle.text.specs.Frame.{Reader, _>>=_, ret, byte, string, stringBytes, times}
 use Rattle.path.specs.Path.{Key, Elem, Path}
 
 -- ---- reading

@@ -1,7 +1,6 @@
 -- What a path may not hold: a predicate for each of the refusal numbers 5 to 8.
 use Prim.Native.Nat.{ℕ}
 use mathlib.Core.Bool.{Bool, _||_, not}
-use mathlib.Core.List.{List}
 use lib.ListN.{length}
 use lib.Dec.{ltb, eqb}
 use Rattle.text.specs.Test.{_and_, _or_, any, twice}

@@ -1,17 +1,16 @@
 -- The answers of the programs that walk over path bytes, said of what is read there.
 use Prim.Native.Nat.{ℕ}
-use mathlib.Core.Bool.{Bool, true, false, _||_}
+use mathlib.Core.Bool.{Bool, false, _||_}
 use mathlib.Core.List.{List}
 use lib.ListN.{length}
 use lib.Dec.{eqb, ltb}
 use Rattle.text.specs.Test.{_and_, _or_, any, twice}
-use Rattle.text.specs.Byte.{isStar}
 use Rattle.text.specs.String.{Str, bytes, same}
 use Rattle.text.specs.Frame.{Parsed, got, unread}
 use Rattle.text.specs.Refusal.{clear}
 use Rattle.path.specs.Path.{Key, Elem, Path}
 use Rattle.path.specs.Bytes.{path}
-use Rattle.path.specs.Faults.{unsized, keyOver, elemOver, overLimit, outsideName, outsideValue, keyStray, elemStray, starred, halfWild, keyMisplaced, elemMisplaced, sameName, grade, pathRefusal, goodPath}
+use Rattle.path.specs.Faults.{unsized, keyOver, elemOver, outsideName, outsideValue, keyStray, elemStray, starred, halfWild, keyMisplaced, elemMisplaced, sameName, grade, goodPath}
 use Rattle.path.specs.declared.frame.Walk.{Walk}
 use Rattle.path.specs.declared.frame.Walk.the-variants.{To, Unread}
 

@@ -1,21 +1,20 @@
 -- The text of a good path is read to that path.
 use mathlib.Core.Path.{_≡_, refl, sym, ap, _∙_}
-use mathlib.Core.Bool.{Bool, true, false, _||_, not}
+use mathlib.Core.Bool.{Bool, true, false}
 use mathlib.Core.List.{List, [], _∷_, _++_, append-assoc, append-nil, List·Memᴰ·head, List·Memᴰ·tail}
 use Prim.Native.Nat.{ℕ, zero, suc, _+_, _-_, _≤_, _<_}
 use native.Mathlib.Omega.{arith}
-use borrow.Author.Tests.{eqb-true, eqb-false, ltb-true, ltb-false, lt-ltb, le-ltb, eq-eqb, ne-eqb, not-false}
+use borrow.Author.Tests.{eqb-true, ltb-false, lt-ltb, le-ltb, eq-eqb, ne-eqb}
 use lib.Dec.{eqb, ltb}
-use lib.ListN.{length, take, drop, getD, length-drop, length-append, List·getD-eq-default}
+use lib.ListN.{length, drop, getD, length-drop, List·getD-eq-default}
 use lib.Seq.{drop-drop, take-at, drop-at}
 use Rattle.text.specs.Test.{_or_, if_then_else_, _∈_, any}
-use Rattle.text.specs.Byte.{isName, isStar}
 use Rattle.text.specs.String.{Str, joined}
-use Rattle.text.specs.Frame.{Parsed, got, unread, andThen, Reader, _>>=_, ret, part}
+use Rattle.text.specs.Frame.{got, andThen, Reader, _>>=_, ret, part}
 use Rattle.text.proofs.Tests.{by, clash, or-false-l, or-false-r, none-any}
 use Rattle.text.proofs.Codec.{Gives, then-gives, first-byte, joined-nil, joined-cons}
 use Rattle.path.specs.Path.{Key, Elem, Path}
-use Rattle.path.specs.Faults.{unsized, keyOver, elemOver, overLimit, outsideName, outsideValue, keyStray, elemStray, strayByte}
+use Rattle.path.specs.Faults.{unsized, keyOver, elemOver, overLimit, outsideName, keyStray, elemStray, strayByte}
 use Rattle.path_text.specs.Text.{isMark, escaped, keyText, elemText}
 use Rattle.path_text.specs.TextReader.{literal, upTo, name, item, value, each, key, element, elements}
 use Rattle.path_text.proofs.Sound.{escaped-plain, escaped-mark}

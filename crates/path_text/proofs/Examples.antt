@@ -1,16 +1,13 @@
 -- Examples, by computation.
 use mathlib.Core.Path.{_≡_, refl}
-use mathlib.Core.Bool.{Bool, true, false}
-use mathlib.Core.List.{List, [], _∷_, map}
-use mathlib.Core.Option.{Option, none, some, Option·map}
-use Prim.Native.Nat.{ℕ}
+use mathlib.Core.List.{[], _∷_}
+use mathlib.Core.Option.{Option, some}
 use Rattle.text.specs.Test.{_and_, _or_, if_then_else_, any, twice}
 use Rattle.text.specs.String.{Str, bytes, same, joined}
 use Rattle.text.specs.Frame.{_>>=_, ret, stringBytes}
 use Rattle.path.specs.Bytes.{counted, keyBytes, elemBytes, pathBytes}
 use Rattle.path.specs.Faults.{unsized, keyOver, elemOver, overLimit, outsideName, outsideValue, keyStray, elemStray, strayByte, halfWild, keyMisplaced, elemMisplaced, misplaced, keyTwice, goodPath}
 use Rattle.path.specs.Spells.{whole}
-use Rattle.path_text.specs.Text.{escaped, keyText, elemText, pathText}
 use Rattle.path_text.specs.TextReader.{literal, upTo, name, item, value, each, key, element, elements, readText}
 use Rattle.path_text.specs.Calls.{bytesFor}
 

@@ -15,7 +15,7 @@ use Rattle.text.specs.Frame.{Parsed, got, unread, andThen, Reader, _>>=_, ret, 
 use Rattle.text.specs.Fill.{put, Wrote}
 use Rattle.text.proofs.Tests.{by, and-left, and-right}
 use Rattle.text.proofs.Filling.{wrote-more, wrote-byte, wrote-before}
-use Rattle.path.specs.Bytes.{counted, keyBytes}
+use Rattle.path.specs.Bytes.{counted}
 use Rattle.path_text.specs.Text.{isMark}
 use Rattle.path_text.specs.TextReader.{literal, upTo, name, item, value, each, key}
 use Rattle.path_text.specs.Steps.{itemIn, itemOf, Within, Room}

@@ -1,19 +1,18 @@
 -- Path text and path bytes: each is read to the good path that it spells, and they return to each other.
 use mathlib.Core.Path.{_≡_, refl, sym, ap, _∙_}
-use mathlib.Core.Bool.{Bool, true, false, not}
-use mathlib.Core.List.{List, [], _∷_, _++_, append-nil}
+use mathlib.Core.Bool.{true, false}
+use mathlib.Core.List.{[], _∷_}
 use mathlib.Core.Option.{Option, none, some, Option·map}
 use Prim.Native.Nat.{ℕ, _-_, _≤_}
 use native.Mathlib.Omega.{arith}
 use borrow.Author.Tests.{eq-eqb, ne-eqb, eqb-false, not-true}
 use lib.Dec.{eqb, ltb}
-use lib.ListN.{length, drop, length-drop, length-append}
-use lib.Seq.{drop-length}
+use lib.ListN.{length, length-drop, length-append}
 use Rattle.text.specs.Test.{_and_, _or_, if_then_else_, any}
 use Rattle.text.specs.String.{Str, bytes, same, joined}
-use Rattle.text.specs.Frame.{Parsed, got, unread}
-use Rattle.text.proofs.Tests.{by, clash, same→≡, ≡→same, or-false-l, or-false-r}
-use Rattle.text.proofs.Codec.{Took, joined-nil}
+use Rattle.text.specs.Frame.{got}
+use Rattle.text.proofs.Tests.{by, clash, same→≡, or-false-l, or-false-r}
+use Rattle.text.proofs.Codec.{joined-nil}
 use Rattle.path.specs.Path.{Elem, Path}
 use Rattle.path.specs.Bytes.{pathBytes}
 use Rattle.path.specs.Faults.{unsized, elemOver, overLimit, strayByte, misplaced, keyTwice, goodPath}

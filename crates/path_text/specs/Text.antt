@@ -1,7 +1,7 @@
 -- Path text.
 use Prim.Native.Nat.{ℕ}
 use mathlib.Core.Bool.{Bool, _||_}
-use mathlib.Core.List.{List, [], _∷_, _++_}
+use mathlib.Core.List.{[], _∷_, _++_}
 use lib.Dec.{eqb}
 use Rattle.text.specs.Test.{if_then_else_}
 use Rattle.text.specs.String.{Str, bytes, joined}

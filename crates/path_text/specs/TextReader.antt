@@ -1,14 +1,14 @@
 -- Reading path text. This is no part of what has to be believed: it is proved to answer exactly the good path whose text it is given
 -- (proofs/RoundTrip).
 use Prim.Native.Nat.{ℕ, zero, suc, _+_}
-use mathlib.Core.Bool.{Bool, _||_}
+use mathlib.Core.Bool.{_||_}
 use mathlib.Core.List.{List, [], _∷_}
 use mathlib.Core.Option.{Option, none, some}
 use lib.ListN.{length, drop, getD}
-use lib.Dec.{eqb, leb, ltb}
+use lib.Dec.{eqb, ltb}
 use Rattle.text.specs.Test.{if_then_else_}
 use Rattle.text.specs.String.{Str, bytes, same}
-use Rattle.text.specs.Frame.{Parsed, got, unread, Reader, _>>=_, ret, part}
+use Rattle.text.specs.Frame.{got, unread, Reader, _>>=_, ret, part}
 use Rattle.path.specs.Path.{Key, Elem, Path}
 use Rattle.path.specs.Spells.{whole}
 use Rattle.path_text.specs.Text.{isMark}

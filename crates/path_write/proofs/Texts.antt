@@ -7,7 +7,7 @@ use Prim.Native.Nat.{ℕ, _-_, _/_, _≤_}
 use native.Mathlib.Omega.{arith}
 use lib.ListN.{length}
 use Rattle.text.specs.Test.{_and_, if_then_else_}
-use Rattle.text.specs.String.{Str, bytes}
+use Rattle.text.specs.String.{Str}
 use Rattle.text.specs.Frame.{Parsed, got, unread}
 use Rattle.text.proofs.Tests.{clash, and-r}
 use Rattle.path.specs.Path.{Path}

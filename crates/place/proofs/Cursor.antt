@@ -1,11 +1,10 @@
 -- What stands at a position is its first part and the rest, and what lies within the bytes has its parts there.
-use mathlib.Core.Path.{_≡_, refl, sym, ap, _∙_, subst}
+use mathlib.Core.Path.{_≡_, refl, ap}
 use mathlib.Core.List.{List, [], _∷_}
 use Prim.Native.Nat.{ℕ, zero, suc, _+_, _-_, _≤_, _<_}
 use native.Mathlib.Omega.{arith}
-use lib.ListN.{length, take, drop, getD, length-take, length-drop}
-use Rattle.path.specs.Path.{Key, Elem, Path}
-use Rattle.place.specs.Place.{strEnd, strIn, keyEnd, keyIn, keysEnd, keysIn, keyCount, elemEnd, elemIn, elemsEnd, elemsIn, pathEnd, pathIn}
+use lib.ListN.{length, getD, length-take, length-drop}
+use Rattle.place.specs.Place.{strEnd, strIn, keyEnd, keyIn, keysEnd, keysIn, keyCount, elemEnd, elemIn, elemsEnd, elemsIn, pathEnd}
 
 module _ (f : List ℕ) where
   pub str-grows : (p : ℕ) → p < strEnd f p

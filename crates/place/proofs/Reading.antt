@@ -1,19 +1,18 @@
 -- The readers by position give what the format's reader gives, exactly where the end lies within the bytes.
-use mathlib.Core.Path.{_≡_, refl, sym, ap, _∙_}
-use mathlib.Core.Bool.{Bool, true, false}
-use mathlib.Core.List.{List, [], _∷_}
+use mathlib.Core.Path.{_≡_, refl}
+use mathlib.Core.List.{List}
 use Prim.Native.Nat.{ℕ, zero, suc, _+_, _-_, _≤_, _<_}
 use native.Mathlib.Omega.{arith}
 use borrow.Author.Tests.{ltb-true, ltb-false}
 use lib.Dec.{ltb}
 use lib.ListN.{length, getD}
-use Rattle.text.specs.Frame.{Parsed, got, unread, _>>=_, ret, byte, string, times}
+use Rattle.text.specs.Frame.{Parsed, got, unread, _>>=_, ret, string, times}
 use Rattle.text.proofs.Tests.{by}
 use Rattle.text.proofs.Frames.{byte-got, byte-unread, string-got, string-none, string-unread}
-use Rattle.path.specs.Path.{Key, Elem, Path}
+use Rattle.path.specs.Path.{Path}
 use Rattle.path.specs.Bytes.{key, element, path}
 use Rattle.place.specs.Place.{strEnd, strIn, keyEnd, keyIn, keysEnd, keysIn, keyCount, elemEnd, elemIn, elemsEnd, elemsIn, pathEnd, pathIn}
-use Rattle.place.proofs.Cursor.{str-grows, keys-grow, elems-grow, elem-room, path-room}
+use Rattle.place.proofs.Cursor.{str-grows, keys-grow, elems-grow, path-room}
 
 split : {X : Type 0} (a b : ℕ) → (a < b → X) → (b ≤ a → X) → X
 split a b l r = by (ltb a b) (λ e. l (ltb-true a b e)) (λ e. r (ltb-false a b e))

@@ -8,7 +8,6 @@ use Rattle.text.specs.Refusal.{clear}
 use Rattle.rpc.specs.Request.{requestFault}
 use Rattle.rpc.specs.Verdict.{rpcWord}
 use Rattle.rpc.specs.Call.{rpcVerdict}
-use Rattle.rpc.specs.declared.verdict.Verdict.{Verdict}
 use Rattle.rpc.specs.declared.verdict.Verdict.the-variants.{Refused}
 use Rattle.rotation.specs.State.{textIn}
 use Rattle.rotation.specs.declared.Record.{Record}

@@ -1,7 +1,6 @@
 -- Demand 1, kept: a refusal leaves what was lent.
-use Prim.Native.Nat.{ℕ, _*_, _%_, _^_}
-use mathlib.Core.Path.{_≡_, refl, sym, ap, _∙_}
-use mathlib.Core.List.{List}
+use Prim.Native.Nat.{ℕ, _%_, _^_}
+use mathlib.Core.Path.{_≡_, refl}
 use mathlib.Core.Option.{Option, none, some}
 use native.Mathlib.Omega.{arith}
 use lib.Dec.{leb}
@@ -12,11 +11,10 @@ use Rattle.text.proofs.Tests.{by}
 use Rattle.path_text.specs.Calls.{bytesFor, textFor, answer, lent}
 use Rattle.table.specs.declared.Checked.{Checked}
 use Rattle.table.specs.declared.Checked.the-variants.{Accepted, Refused}
-use Rattle.rotation.specs.Calls.{stepped, start, uploadAnswer, upload, storedBy, uploadStore, finalize, close}
+use Rattle.rotation.specs.Calls.{stepped, start, upload, storedBy, uploadStore, finalize, close}
 use Rattle.rotation.specs.declared.Record.{Record}
-use Rattle.upload.specs.Offered.{offeredCheck}
 use Rattle.burgee.specs.Word.{upper, filledWord, checkedWord}
-use Rattle.promises.specs.AnyBytes.{PublicCall, PathRead, PathWrite, TableCheck, GroupCount, PathVerdict, TreeVerdict, PolicyCheck, RpcVerdict, Start, Upload, Finalize, Close, ProbePath, ProbeTree, ProbeRpc, Lending, word, before, after, AnyBytes}
+use Rattle.promises.specs.AnyBytes.{PathRead, PathWrite, TableCheck, GroupCount, PathVerdict, TreeVerdict, PolicyCheck, RpcVerdict, Start, Upload, Finalize, Close, ProbePath, ProbeTree, ProbeRpc, Lending, word, before, after, AnyBytes}
 
 -- a length's word has nothing in bits 0 to 7
 length-word : (n : ℕ) → upper n % 2 ^ 8 ≡ 0

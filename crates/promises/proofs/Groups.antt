@@ -1,19 +1,18 @@
 -- The group count's promise, kept.
-use mathlib.Core.Path.{_≡_, refl, ap, _∙_, subst}
+use mathlib.Core.Path.{_≡_, refl, ap, _∙_}
 use mathlib.Core.Bool.{Bool, true, false}
 use mathlib.Core.List.{List, [], _∷_}
-use Prim.Native.Nat.{ℕ, zero, suc, _+_}
+use Prim.Native.Nat.{ℕ, suc, _+_}
 use native.Mathlib.Omega.{arith}
 use lib.ListN.{length}
 use Rattle.text.specs.Test.{_or_, if_then_else_, any, only}
 use Rattle.text.specs.String.{Str}
 use Rattle.text.proofs.Tests.{by, clash}
-use Rattle.table.specs.Table.{Member, Table}
+use Rattle.table.specs.Table.{Member}
 use Rattle.table.specs.Text.{check, tableOf}
 use Rattle.table.specs.Group.{lists, numbered, memberships, groupsOf, counted, badUser, countFor, groupCount}
 use Rattle.table.specs.declared.Checked.the-variants.{Accepted}
-use Rattle.table.specs.declared.Counted.{Counted}
-use Rattle.table.specs.declared.Counted.the-variants.{Count, NoGroup}
+use Rattle.table.specs.declared.Counted.the-variants.{Count}
 use Rattle.promises.specs.First.{First, here, later}
 use Rattle.promises.specs.Groups.{GroupPromise}
 

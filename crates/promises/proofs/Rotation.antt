@@ -1,24 +1,21 @@
 -- The rotation's promise, kept.
 use mathlib.Core.Path.{_≡_, refl, sym, ap, _∙_}
-use mathlib.Core.Bool.{Bool, true, false, not}
+use mathlib.Core.Bool.{Bool, true, false}
 use mathlib.Core.List.{List, [], _∷_}
 use mathlib.Core.Option.{Option, none, some}
 use Prim.Native.Nat.{ℕ}
 use native.Mathlib.Omega.{arith}
-use borrow.Author.Tests.{eqb-true}
-use lib.Dec.{eqb}
 use lib.ListN.{length}
 use Rattle.text.specs.Test.{if_then_else_}
 use Rattle.text.specs.String.{Str}
 use Rattle.text.specs.Fill.{put}
 use Rattle.text.specs.Refusal.{_when_else_, clear}
-use Rattle.text.proofs.Tests.{by}
 use Rattle.table.specs.Text.{unless, isAccepted}
 use Rattle.table.specs.declared.Checked.{Checked}
 use Rattle.table.specs.declared.Checked.the-variants.{Accepted, Refused}
-use Rattle.rotation.specs.State.{slotStart, candidateSlot, inForce}
-use Rattle.rotation.specs.Calls.{started, uploaded, finalized, closed, stepped, start, uploadAnswer, upload, storedBy, uploadStore, finalize, close}
-use Rattle.rotation.specs.Machine.{Call, Start, Upload, Finalize, Close, Machine, lacking, machineRefusal, machineNext, machineForce, Lent, heldText, machineOf, forceText, Whole, offered, machineAnswer, machineStep, answers, leaves, Follows, end, machineEnd}
+use Rattle.rotation.specs.State.{slotStart, candidateSlot}
+use Rattle.rotation.specs.Calls.{started, uploaded, finalized, closed, stepped, start, upload, storedBy, uploadStore, finalize, close}
+use Rattle.rotation.specs.Machine.{Call, Start, Upload, Finalize, Close, Machine, lacking, machineRefusal, machineNext, machineForce, Lent, machineOf, Whole, offered, machineAnswer, machineStep, answers, leaves, Follows, end, machineEnd}
 use Rattle.rotation.specs.declared.Record.{Record}
 use Rattle.rotation.proofs.Follows.{stepped-answer, follows, same-end, same-force}
 use Rattle.upload.specs.Offered.{offeredCheck}

@@ -1,24 +1,23 @@
 -- The RPC verdict's promise, kept.
 use mathlib.Core.Path.{_≡_, refl, ap, _∙_, subst}
-use mathlib.Core.Bool.{Bool, true, false, not}
+use mathlib.Core.Bool.{Bool}
 use mathlib.Core.List.{List, [], _∷_}
 use mathlib.Core.Option.{Option, none, some}
-use Prim.Native.Nat.{ℕ, zero, suc, _+_}
+use Prim.Native.Nat.{ℕ, suc, _+_}
 use native.Mathlib.Omega.{arith}
-use lib.Dec.{eqb, ltb}
+use lib.Dec.{ltb}
 use lib.ListN.{length}
-use Rattle.text.specs.Test.{_and_, _or_, if_then_else_, any}
+use Rattle.text.specs.Test.{if_then_else_}
 use Rattle.text.specs.String.{Str}
-use Rattle.text.specs.Refusal.{_when_else_, clear}
-use Rattle.text.proofs.Tests.{by, clash}
+use Rattle.text.specs.Refusal.{clear}
+use Rattle.text.proofs.Tests.{by}
 use Rattle.rfc8259.specs.Json.{Json}
 use Rattle.rfc8259.specs.Parser.{parse}
-use Rattle.policy.specs.Policy.{Rule, Policy, treeJudgement, judgement, policyOfTree, policyOf}
+use Rattle.policy.specs.Policy.{Policy, treeJudgement, judgement, policyOfTree, policyOf}
 use Rattle.rpc.specs.Request.{Request, requestFault}
 use Rattle.rpc.specs.Verdict.{ruleMatches, firstFrom, allowed, decided, verdict, permits}
 use Rattle.rpc.specs.Call.{request, verdictBy, unless, rpcVerdict}
-use Rattle.rpc.specs.declared.verdict.Verdict.{Verdict}
-use Rattle.rpc.specs.declared.verdict.Verdict.the-variants.{Denied, Permitted, Default}
+use Rattle.rpc.specs.declared.verdict.Verdict.the-variants.{Denied, Permitted}
 use Rattle.rpc.proofs.Promises.{denied, permitted, by-default, permits-exactly, nobody}
 use Rattle.promises.specs.First.{First, here, later}
 use Rattle.promises.specs.Rpc.{RpcPromise}

@@ -1,26 +1,22 @@
 -- Demand 3, kept.
-use mathlib.Core.Path.{_≡_, refl, sym, ap, _∙_}
-use mathlib.Core.Bool.{Bool, true, false, not}
-use mathlib.Core.List.{[]}
+use mathlib.Core.Path.{_≡_, refl}
+use mathlib.Core.Bool.{Bool, true, false}
 use mathlib.Core.Option.{Option, none, some}
 use Prim.Native.Nat.{ℕ}
 use native.Mathlib.Omega.{arith}
-use borrow.Author.Tests.{not-true, eqb-true}
-use lib.Dec.{eqb}
+use borrow.Author.Tests.{not-true}
 use Rattle.text.specs.Test.{_or_, if_then_else_}
 use Rattle.text.specs.String.{Str}
 use Rattle.text.specs.Refusal.{_when_else_, clear}
-use Rattle.text.proofs.Tests.{by, clash, or-false-l, or-false-r}
+use Rattle.text.proofs.Tests.{clash, or-false-r}
 use Rattle.path.specs.Path.{Path}
 use Rattle.path.specs.Faults.{overLimit, strayByte, misplaced, keyTwice, goodPath}
 use Rattle.path_text.specs.TextReader.{readText}
 use Rattle.path_text.proofs.RoundTrip.{text-reader}
-use Rattle.table.specs.Table.{Table}
 use Rattle.table.specs.Text.{check, tableOf}
 use Rattle.table.specs.Group.{badUser}
-use Rattle.table.specs.declared.Checked.{Checked}
 use Rattle.table.specs.declared.Checked.the-variants.{Accepted}
-use Rattle.verdict.specs.Verdict.{Request, decider, tree}
+use Rattle.verdict.specs.Verdict.{decider, tree}
 use Rattle.verdict.proofs.Theorems.{verdict, verdict-unique, tree-verdict, reordered}
 use Rattle.acceptance.specs.Reordering.{ReorderedLines}
 use Rattle.acceptance.proofs.Reordered.{accepted-again, tables-reordered, accepted-orderly}

@@ -6,8 +6,8 @@ use mathlib.Core.Bool.{Bool, true, false}
 use mathlib.Core.List.{List, [], _∷_, _++_}
 use Rattle.text.specs.String.{Str, bytes}
 use Rattle.path.specs.Path.{Key, Elem, Path}
-use Rattle.table.specs.Table.{Member, Rule, Table}
-use Rattle.verdict.specs.Verdict.{Request, decider}
+use Rattle.table.specs.Table.{Member, Rule}
+use Rattle.verdict.specs.Verdict.{decider}
 use Rattle.verdict_text.specs.Calls.{decidedBy, pathVerdict, treeVerdict}
 use Rattle.verdict_text.specs.declared.PathAnswer.{PathAnswer}
 use Rattle.verdict_text.specs.declared.PathAnswer.the-variants.{Permit, Deny, Default}

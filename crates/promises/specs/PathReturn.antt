@@ -2,7 +2,7 @@
 -- The definitions named here are those of the contracts of `burgee_path_read` and `burgee_path_write`: `bytesFor` and `textFor` say what
 -- the calls answer and leave, for all bytes. What a path's text and bytes are is said by `pathText` and `pathBytes`, and which paths are
 -- good by `goodPath`.
-use Prim.Native.Nat.{ℕ, _≤_}
+use Prim.Native.Nat.{_≤_}
 use mathlib.Core.Path.{_≡_}
 use mathlib.Core.Bool.{true}
 use mathlib.Core.Option.{some}

@@ -12,7 +12,7 @@ use Rattle.text.specs.Fill.{put}
 use Rattle.table.specs.declared.Checked.the-variants.{Accepted, Refused}
 use Rattle.rotation.specs.State.{slotStart, candidateSlot, inForce}
 use Rattle.rotation.specs.Calls.{started, uploaded, finalized, closed}
-use Rattle.rotation.specs.Machine.{Call, Start, Upload, Finalize, Close, Lent, heldText, machineOf, forceText, Whole, answers, leaves, Follows, end}
+use Rattle.rotation.specs.Machine.{Call, Start, Upload, Finalize, Close, Lent, heldText, forceText, Whole, answers, leaves, Follows, end}
 use Rattle.upload.specs.Offered.{offeredCheck}
 
 -- ---- one step

@@ -2,7 +2,7 @@
 -- readable line that it goes over to, and the limits on groups, members and rules bound by how much all readable lines together are longer.
 use mathlib.Core.Path.{_≡_, refl, sym, ap, _∙_}
 use mathlib.Core.Bool.{true, false}
-use mathlib.Core.List.{List, [], _∷_, _++_}
+use mathlib.Core.List.{List, [], _∷_}
 use mathlib.Core.Option.{Option, none, some}
 use Prim.Native.Nat.{ℕ, _+_, _*_, _-_, _≤_, _<_}
 use native.Mathlib.Omega.{arith}
@@ -11,11 +11,10 @@ use lib.Dec.{eqb, leb, ltb}
 use lib.ListN.{length, drop, getD, length-append, length-drop}
 use Rattle.text.specs.Test.{_or_, if_then_else_}
 use Rattle.text.specs.String.{Str, bytes, joined}
-use Rattle.text.specs.Frame.{Parsed, got, unread, Reader, _>>=_, ret, byte, run, string, stringBytes}
+use Rattle.text.specs.Frame.{got, unread, _>>=_, ret, byte, run, string, stringBytes}
 use Rattle.text.proofs.Tests.{by, clash, or-false-l, or-false-r}
 use Rattle.path.specs.Faults.{unsized, overLimit}
-use Rattle.text.proofs.Frames.{byte-got, byte-unread}
-use Rattle.text.proofs.Codec.{never-got, then-got, got-move, Took, byte-took, string-took}
+use Rattle.text.proofs.Codec.{never-got, then-got, got-move, byte-took, string-took}
 use Rattle.path_text.specs.Text.{escaped}
 use Rattle.path_text.specs.Calls.{textFor}
 use Rattle.path_text.proofs.Longest.{value-length, text-twice}

@@ -1,20 +1,18 @@
 -- The number reader reads the texts of `Number`, where no digit, point or e follows.
-use mathlib.Core.Path.{_≡_, refl, sym, ap, _∙_}
-use mathlib.Core.Logic.{_⊎_, inl, inr}
+use mathlib.Core.Path.{_≡_, refl}
 use mathlib.Core.Bool.{Bool, true, false}
 use mathlib.Core.List.{List, [], _∷_, _++_}
-use mathlib.Core.Option.{Option, none, some}
-use Prim.Native.Nat.{ℕ, zero, suc, _≤_, _<_}
+use mathlib.Core.Option.{some}
+use Prim.Native.Nat.{ℕ}
 use native.Mathlib.Omega.{arith}
 use borrow.Author.Tests.{ne-eqb}
 use Rattle.text.specs.Test.{_or_}
-use Rattle.text.specs.Byte.{within}
 use Rattle.rfc8259.specs.Abnf.{is}
-use Rattle.rfc8259.specs.Abnf.{Lang, One, one, _then_, seq, _else_, first, second, Opt, absent, present, Star, done, more}
+use Rattle.rfc8259.specs.Abnf.{one, _then_, seq, first, second, Opt, absent, present}
 use Rattle.rfc8259.specs.Grammar.{DIGIT, digit1-9, e-or-E, minus-or-plus, Digits, Int, Frac, Exp, Number}
-use Rattle.rfc8259.specs.Parser.{_>>=_, skip, lead, may, readDigits, readInt, readFrac, readExp, readNumber}
-use Rattle.text.proofs.Tests.{by, or-cases, or-false-l, or-false-r, neither}
-use Rattle.rfc8259.proofs.Basics.{split, empty-handed, starts, lit, in-range, Cut, Reads, Apart, Within, starts-within, reads-within, push, skip-sound, skip-star, skip-stop, skips, leads, mays, may-one, bound-reads}
+use Rattle.rfc8259.specs.Parser.{readDigits, readInt, readFrac, readExp, readNumber}
+use Rattle.text.proofs.Tests.{by, or-false-l, or-false-r}
+use Rattle.rfc8259.proofs.Basics.{split, empty-handed, starts, lit, in-range, Cut, Reads, Apart, Within, starts-within, reads-within, push, skips, leads, mays, may-one, bound-reads}
 
 -- what would carry a number on: after its fraction, after its whole part and fraction
 unfoldable pub pointed : ℕ → Bool

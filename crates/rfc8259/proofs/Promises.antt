@@ -1,16 +1,15 @@
 -- The parser and the grammar agree; the grammar is unambiguous.
-use mathlib.Core.Path.{_≡_, refl, sym, ap, _∙_, subst, subst₂}
-use mathlib.Core.Bool.{Bool, true, false}
-use mathlib.Core.List.{List, [], _∷_, _++_, append-assoc, append-nil}
-use mathlib.Core.Option.{Option, none, some}
+use mathlib.Core.Path.{_≡_, refl, sym, ap, _∙_, subst₂}
+use mathlib.Core.Bool.{false}
+use mathlib.Core.List.{List, [], _∷_, _++_, append-nil}
+use mathlib.Core.Option.{some}
 use Prim.Native.Nat.{ℕ}
-use Rattle.rfc8259.specs.Abnf.{Rule, One, one, Star, done, more}
 use Rattle.rfc8259.specs.Json.{Json}
-use Rattle.rfc8259.specs.Grammar.{white, Ws, Value, Text, json}
-use Rattle.rfc8259.specs.Parser.{_>>=_, skip, readValue, atEnd, parse}
+use Rattle.rfc8259.specs.Grammar.{white, Ws, Text, json}
+use Rattle.rfc8259.specs.Parser.{skip, readValue, atEnd, parse}
 use Rattle.rfc8259.proofs.Basics.{empty-handed, bound, binds, starts, skip-sound, skip-star}
 use Rattle.rfc8259.proofs.Numbers.{numeric}
-use Rattle.rfc8259.proofs.Scalars.{Cuts, ReadsTo, ws-stops}
+use Rattle.rfc8259.proofs.Scalars.{ws-stops}
 use Rattle.rfc8259.proofs.Values.{value-read}
 
 ended : (j k : Json) (t : List ℕ) → atEnd j t ≡ some k → (t ≡ []) × (j ≡ k)

@@ -1,22 +1,20 @@
 -- The readers that drop the white space after what they read; the scalars.
 use mathlib.Core.Path.{_≡_, refl, sym, ap, _∙_, subst}
-use mathlib.Core.Logic.{_⊎_, inl, inr}
-use mathlib.Core.Bool.{Bool, true, false, cond}
+use mathlib.Core.Bool.{true, false}
 use mathlib.Core.List.{List, [], _∷_, _++_, append-assoc}
-use mathlib.Core.Option.{Option, none, some}
-use Prim.Native.Nat.{ℕ, zero, suc, _≤_, _<_}
+use mathlib.Core.Option.{some}
+use Prim.Native.Nat.{ℕ, _≤_}
 use native.Mathlib.Omega.{arith}
 use borrow.Author.Tests.{eqb-true, ne-eqb}
 use Rattle.text.specs.Test.{_or_}
-use Rattle.text.specs.Byte.{within}
 use Rattle.text.specs.String.{bytes}
 use Rattle.rfc8259.specs.Abnf.{is}
-use Rattle.rfc8259.specs.Abnf.{Lang, Rule, One, one, _then_, seq, _else_, first, second, Opt, absent, present, Star, done, more}
+use Rattle.rfc8259.specs.Abnf.{Rule, one, seq, first, second, absent, present, done, more}
 use Rattle.rfc8259.specs.Json.{Json, jnull, jtrue, jfalse, jnumber, jstring}
 use Rattle.rfc8259.specs.Grammar.{white, Ws, Sign, sign, DIGIT, digit1-9, e-or-E, Number, Quoted, quoted, Scalar, false-text, null-text, true-text, number, string}
 use Rattle.rfc8259.specs.Parser.{Reader, _>>=_, skip, plainly, readChars, readWord, readNumber, spaced, readScalar}
-use Rattle.text.proofs.Tests.{by, clash, or-cases, neither}
-use Rattle.rfc8259.proofs.Basics.{split, empty-handed, bound, binds, starts, lit, in-range, Cut, Reads, push, skip-sound, skip-star, skip-stop}
+use Rattle.text.proofs.Tests.{by}
+use Rattle.rfc8259.proofs.Basics.{split, empty-handed, bound, binds, starts, lit, in-range, push, skip-sound, skip-star, skip-stop}
 use Rattle.rfc8259.proofs.Numbers.{pointed, numeric, number-read}
 use Rattle.rfc8259.proofs.Strings.{chars-sound, chars-complete}
 

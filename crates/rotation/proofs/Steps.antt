@@ -1,16 +1,14 @@
 -- The refusal of each call, and what a refusal leaves.
-use mathlib.Core.Path.{_≡_, refl, sym, ap, _∙_}
-use mathlib.Core.Bool.{Bool, true, false, not}
+use mathlib.Core.Path.{_≡_, _∙_}
 use Prim.Native.Nat.{ℕ}
 use borrow.Author.Tests.{eq-eqb, ne-eqb}
-use lib.Dec.{eqb}
 use Rattle.text.specs.Test.{if_then_else_}
-use Rattle.text.specs.Refusal.{_when_else_, clear}
+use Rattle.text.specs.Refusal.{clear}
 use Rattle.table.specs.Text.{unless}
 use Rattle.table.specs.declared.Checked.{Checked}
 use Rattle.table.specs.declared.Checked.the-variants.{Accepted, Refused}
-use Rattle.rotation.specs.State.{given, noLength, off, on, recordRefusal, candidateSlot}
-use Rattle.rotation.specs.Calls.{startRefusal, offRefusal, noCandidate, finalizeRefusal, otherKind, probeRefusal, started, finalized, closed, stepped, start, finalize, close}
+use Rattle.rotation.specs.State.{given, off, on, recordRefusal}
+use Rattle.rotation.specs.Calls.{startRefusal, offRefusal, noCandidate, finalizeRefusal, otherKind, probeRefusal, stepped}
 use Rattle.rotation.specs.declared.Record.{Record}
 use Rattle.rotation.specs.declared.Stepped.{Stepped}
 

@@ -2,13 +2,12 @@
 use mathlib.Core.Path.{_≡_, refl, sym, ap, _∙_}
 use mathlib.Core.Bool.{Bool, true, false, not, _&&_, _||_}
 use Prim.Native.Nat.{ℕ, _≤_, _<_}
-use borrow.Author.Tests.{eq-eqb, ne-eqb, lt-ltb, le-ltb}
+use borrow.Author.Tests.{lt-ltb, le-ltb}
 use lib.Dec.{eqb, ltb}
 use Rattle.text.specs.Test.{_and_, _or_, if_then_else_}
-use Rattle.table.proofs.Numbers.{or-is}
+use Rattle.text.proofs.Tests.{or-is}
 use Rattle.rotation.specs.State.{given, off, shortStore, badKind, badSlot, badLength, badRecord, recordRefusal, candidateSlot, inForce}
 use Rattle.rotation.specs.declared.Record.{Record}
-use Rattle.rotation.specs.declared.InForce.{InForce}
 use Rattle.rotation.specs.declared.InForce.the-variants.{Text, Factory}
 
 and-is : (a b : Bool) → (a && b) ≡ (a and b)

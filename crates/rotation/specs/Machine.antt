@@ -11,7 +11,7 @@ use Rattle.text.specs.Refusal.{_when_else_, clear}
 use Rattle.table.specs.Text.{unless, isAccepted}
 use Rattle.table.specs.declared.Checked.{Checked}
 use Rattle.table.specs.declared.Checked.the-variants.{Accepted}
-use Rattle.rotation.specs.State.{given, on, shortStore, badRecord, candidateSlot, textIn, inForce}
+use Rattle.rotation.specs.State.{given, on, shortStore, badRecord, candidateSlot, textIn}
 use Rattle.rotation.specs.Calls.{start, upload, uploadStore, finalize, close}
 use Rattle.rotation.specs.declared.Record.{Record}
 use Rattle.rotation.specs.declared.InForce.{InForce}

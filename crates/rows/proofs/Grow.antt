@@ -1,18 +1,18 @@
 -- A row more: the rows before stay as they were.
-use mathlib.Core.Path.{_≡_, refl, sym, ap, ap₂, _∙_, subst}
+use mathlib.Core.Path.{_≡_, refl, sym, ap, ap₂, _∙_}
 use mathlib.Core.Bool.{Bool, true, false}
 use mathlib.Core.List.{List, [], _∷_, _++_}
 use Prim.Native.Nat.{ℕ, zero, suc, _+_, _-_, _≤_, _<_}
 use native.Mathlib.Numerals.{add-one}
 use native.Mathlib.Omega.{arith}
-use borrow.Author.Tests.{eqb-true, eqb-false, ltb-true, ltb-false, lt-ltb}
+use borrow.Author.Tests.{eqb-true, eqb-false, ltb-true, lt-ltb}
 use lib.Dec.{eqb, ltb, eqb·zero-suc, eqb·suc-zero, eqb·suc-suc, leb·suc-suc}
 use lib.ListN.{length, getD, set, length-append, List·getD-append}
 use lib.Seq.{getD-set-same, getD-set-other}
 use Rattle.text.specs.Test.{_and_, _or_, if_then_else_, any, twice}
 use Rattle.text.specs.String.{Str, same}
 use Rattle.text.proofs.Frames.{part-front}
-use Rattle.text.proofs.Tests.{by, clash, same→≡, same-sym, none-any, or-false-l, or-false-r, neither}
+use Rattle.text.proofs.Tests.{by, and-l, and-r, same→≡, same-sym, or-false-l, or-false-r, neither}
 use Rattle.place.specs.Place.{strEnd, strIn}
 use Rattle.rows.specs.Strings.{stringsIn, Laid, place}
 
@@ -141,6 +141,11 @@ pub place-is : (name : Str) (f starts : List ℕ) (n o : ℕ) → twice same (st
 place-is name f starts n o d h e =
     let l : o < length (stringsIn f starts n 0) = omega (arith, strings-length f starts n) in
     eqb-true _ _ (sym (place-test name (stringsIn f starts n 0) o d l) ∙ ap (same name) (strings-at f starts n o h) ∙ e)
+
+-- the same, as `is_number` tells it
+pub number-is : (name : Str) (f starts : List ℕ) (n o : ℕ) → twice same (stringsIn f starts n 0) ≡ false → (ltb o n and same name (strIn f (getD starts o 0))) ≡ true
+    → o ≡ place name (stringsIn f starts n 0)
+number-is name f starts n o d e = place-is name f starts n o d (ltb-true o n (and-l _ _ e)) (and-r _ _ e)
 
 -- a name that has no place is none of them
 pub place-any : (name : Str) (xs : List Str) → any (same name) xs ≡ ltb (place name xs) (length xs)

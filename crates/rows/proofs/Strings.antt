@@ -1,18 +1,17 @@
 -- Lookups among strings, one turn at a time.
-use mathlib.Core.Path.{_≡_, refl, sym, ap, _∙_}
+use mathlib.Core.Path.{_≡_}
 use mathlib.Core.Bool.{Bool, true, false}
-use mathlib.Core.List.{List, [], _∷_, _++_}
-use Prim.Native.Nat.{ℕ, zero, suc, _+_, _-_, _≤_, _<_}
+use mathlib.Core.List.{List, _∷_}
+use Prim.Native.Nat.{ℕ, suc, _+_, _-_, _≤_, _<_}
 use native.Mathlib.Numerals.{add-one}
 use native.Mathlib.Omega.{arith}
-use lib.Dec.{eqb}
+use lib.Dec.{ltb}
 use lib.ListN.{length, getD}
-use borrow.Author.Tests.{ne-eqb, eq-eqb}
-use Rattle.text.specs.Test.{_and_, _or_, if_then_else_}
+use borrow.Author.Tests.{le-ltb, lt-ltb}
+use Rattle.text.specs.Test.{_and_, if_then_else_}
 use Rattle.text.specs.String.{Str, same}
 use Rattle.place.specs.Place.{strEnd, strIn}
-use Rattle.rows.specs.Strings.{stringsIn, place, isPair, hasPair, factors, hashFrom}
-use Rattle.rows.proofs.Mixing.{mix-small}
+use Rattle.rows.specs.Strings.{stringsIn, place}
 
 -- where a string lies
 module _ (f : List ℕ) (at : ℕ) (h : strEnd f at ≤ length f) where
@@ -43,35 +42,13 @@ module _ (f starts : List ℕ) (n : ℕ) (name : Str) (i : ℕ) where
 pub find-start : (f starts : List ℕ) (n : ℕ) (name : Str) → place name (stringsIn f starts n 0) ≡ 0 + place name (stringsIn f starts (n - 0) 0)
 find-start f starts n name = let e : n - 0 ≡ n = omega arith in rw e (omega arith)
 
--- ---- has_pair
+-- ---- is_number
 
-module _ (owner : ℕ) (name : Str) (f starts owners : List ℕ) (n i : ℕ) where
-  pub pair-pass : i < n → isPair owner name f starts owners i ≡ false → hasPair owner name f starts owners (n - i) i ≡ hasPair owner name f starts owners (n - (i + 1)) (i + 1)
-  unfolding hasPair _or_
-  pair-pass h e = let k : n - i ≡ suc (n - (i + 1)) = omega arith in rw (k, e, add-one)
+module _ (n i : ℕ) (t : Bool) where
+  pub number-past : n ≤ i → false ≡ (ltb i n and t)
+  unfolding _and_
+  number-past h = rw (le-ltb i n h)
 
-  pub pair-hit : i < n → isPair owner name f starts owners i ≡ true → hasPair owner name f starts owners (n - i) i ≡ true
-  unfolding hasPair _or_
-  pair-hit h e = let k : n - i ≡ suc (n - (i + 1)) = omega arith in rw (k, e)
-
-  pub pair-end : n ≤ i → hasPair owner name f starts owners (n - i) i ≡ false
-  unfolding hasPair
-  pair-end h = let k : n - i ≡ 0 = omega arith in rw k
-
-pub pair-start : (owner : ℕ) (name : Str) (f starts owners : List ℕ) (n : ℕ) → hasPair owner name f starts owners n 0 ≡ hasPair owner name f starts owners (n - 0) 0
-pair-start owner name f starts owners n = let e : n - 0 ≡ n = omega arith in rw e
-
-module _ (owner : ℕ) (name : Str) (f starts owners : List ℕ) (i : ℕ) where
-  pub pair-other : (getD owners i 0 ≡ owner → ⊥) → false ≡ isPair owner name f starts owners i
-  unfolding isPair _and_
-  pair-other h = rw (ne-eqb _ _ h)
-
-  pub pair-owned : (r : Bool) → getD owners i 0 ≡ owner → r ≡ same name (strIn f (getD starts i 0)) → r ≡ isPair owner name f starts owners i
-  unfolding isPair _and_
-  pair-owned r h e = rw (eq-eqb _ _ h, e)
-
--- ---- hash
-
-pub hash-small : (s : Str) (h : ℕ) → h < 8192 → hashFrom h s < 8192
-unfolding hashFrom
-hash-small s h l = omega (arith, mix-small factors h s)
+  pub number-under : (r : Bool) → i < n → r ≡ t → r ≡ (ltb i n and t)
+  unfolding _and_
+  number-under r h e = rw (lt-ltb i n h, e)

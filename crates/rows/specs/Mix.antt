@@ -1,6 +1,6 @@
 -- A hash of strings. Nothing but equal strings having equal hashes is needed of it.
 use Prim.Native.Nat.{ℕ, _+_, _*_, _%_, _<_}
-use mathlib.Core.List.{List, [], _∷_}
+use mathlib.Core.List.{[], _∷_}
 use Rattle.text.specs.String.{Str}
 use Rattle.rows.specs.declared.mix.Seed.{Seed}
 

@@ -1,11 +1,8 @@
 -- Strings in decoded bytes, by the positions of their length bytes.
 use Prim.Native.Nat.{ℕ, zero, suc, _/_, _≤_, _<_}
-use mathlib.Core.Path.{_≡_}
-use mathlib.Core.Bool.{Bool, false}
 use mathlib.Core.List.{List, [], _∷_}
-use lib.Dec.{eqb}
 use lib.ListN.{length, getD}
-use Rattle.text.specs.Test.{_and_, _or_, if_then_else_}
+use Rattle.text.specs.Test.{if_then_else_}
 use Rattle.text.specs.String.{Str, same}
 use Rattle.place.specs.Place.{strEnd, strIn}
 use Rattle.rows.specs.declared.mix.Seed.{Seed}
@@ -25,18 +22,9 @@ unfoldable pub place : Str → List Str → ℕ
 place name [] = 0
 place name (s ∷ ss) = if same name s then 0 else suc (place name ss)
 
--- number i has that owner and that name
-unfoldable pub isPair : ℕ → Str → List ℕ → List ℕ → List ℕ → ℕ → Bool
-isPair owner name f starts owners i = eqb (getD owners i 0) owner and same name (strIn f (getD starts i 0))
-
--- one of n from number i on is such
-unfoldable pub hasPair : ℕ → Str → List ℕ → List ℕ → List ℕ → ℕ → ℕ → Bool
-hasPair owner name f starts owners zero i = false
-hasPair owner name f starts owners (suc n) i = isPair owner name f starts owners i or hasPair owner name f starts owners n (suc i)
-
 -- a number that equal strings share
 abbrev pub factors : Seed
 factors = record { first = 1201626857; second = 1150305587 }
 
-unfoldable pub hashFrom : ℕ → Str → ℕ
-hashFrom seed s = mix factors seed s / 524288
+unfoldable pub hashOf : Str → ℕ
+hashOf s = mix factors 0 s / 524288

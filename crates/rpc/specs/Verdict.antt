@@ -3,7 +3,7 @@ use mathlib.Core.Bool.{Bool, true, false}
 use mathlib.Core.List.{List, [], _∷_}
 use mathlib.Core.Option.{Option, none, some}
 use Prim.Native.Nat.{ℕ, suc, _+_, _*_, _%_, _^_}
-use Rattle.text.specs.Test.{_and_, _or_, if_then_else_, all, any}
+use Rattle.text.specs.Test.{_and_, if_then_else_, all, any}
 use Rattle.text.specs.String.{Str}
 use Rattle.policy.specs.Policy.{Header, Rule, Policy}
 use Rattle.rpc.specs.Pattern.{matches}

@@ -1,20 +1,18 @@
 -- Frames, read step by step.
-use mathlib.Core.Path.{_≡_, refl, sym, ap, _∙_}
-use mathlib.Core.Bool.{Bool, true, false, _||_}
-use mathlib.Core.List.{List, [], _∷_}
-use mathlib.Core.Option.{Option, none, some}
+use mathlib.Core.Path.{_≡_, refl, _∙_}
+use mathlib.Core.Option.{none, some}
 use Prim.Native.Nat.{ℕ, _+_, _-_, _≤_, _<_}
 use native.Mathlib.Omega.{arith}
 use borrow.Author.Tests.{eq-eqb, ne-eqb, le-leb}
-use lib.Dec.{eqb, leb}
+use lib.Dec.{leb}
 use lib.ListN.{length, getD}
 use Rattle.text.specs.Test.{if_then_else_}
 use Rattle.text.specs.String.{Str}
-use Rattle.text.specs.Frame.{Parsed, got, unread, _>>=_, ret, byte, part, run, string}
+use Rattle.text.specs.Frame.{got, unread, _>>=_, ret, part, run, string}
 use Rattle.text.proofs.Tests.{by}
 use Rattle.text.proofs.Frames.{byte-got}
-use Rattle.table.specs.Table.{Member, Rule}
-use Rattle.table.specs.Frame.{Entry, version, group, member, rule, unknown, versionBody, groupBody, memberBody, ruleBody, ruleEntry, body, entry, whole, entryOf}
+use Rattle.table.specs.Table.{Rule}
+use Rattle.table.specs.Frame.{version, group, member, rule, unknown, versionBody, groupBody, memberBody, ruleBody, ruleEntry, body, entry, whole, entryOf}
 
 -- after the kind byte
 pub entry-body : (f : Str) (k : ℕ) → 0 < length f → getD f 0 0 ≡ k → entryOf f ≡ whole f (body k f 1)

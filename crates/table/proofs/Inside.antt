@@ -4,18 +4,15 @@ use mathlib.Core.Bool.{Bool, true, false}
 use mathlib.Core.List.{List, [], _∷_, _++_, append-nil}
 use Prim.Native.Nat.{ℕ, zero, suc, _+_, _-_, _≤_, _<_}
 use native.Mathlib.Omega.{arith}
-use borrow.Author.Tests.{ltb-true, ltb-false, leb-true, leb-false, lt-ltb, le-leb}
+use borrow.Author.Tests.{ltb-true, ltb-false, leb-true, leb-false, le-leb}
 use lib.Dec.{ltb, leb, eqb}
-use lib.ListN.{length, take, drop, getD, length-append, length-drop, List·getD-append}
+use lib.ListN.{length, drop, getD, length-append, length-drop, List·getD-append}
 use lib.Seq.{getD-append-add, drop-append-add, drop-append-le, take-append-le}
 use Rattle.text.specs.Test.{_or_, if_then_else_}
-use Rattle.text.specs.String.{Str}
 use Rattle.text.specs.Frame.{Parsed, got, unread, andThen, Reader, _>>=_, ret, byte, part, run, string, times}
 use Rattle.text.proofs.Tests.{by}
 use Rattle.text.proofs.Frames.{byte-got, byte-unread}
-use Rattle.path.specs.Path.{Key, Elem, Path}
 use Rattle.path.specs.Bytes.{key, element, path}
-use Rattle.table.specs.Table.{Rule}
 use Rattle.table.specs.Frame.{unknown, code, ruleBody}
 
 abbrev pub Inside : {A : Type 0} → Reader A → Type 0

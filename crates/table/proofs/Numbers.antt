@@ -1,28 +1,21 @@
 -- The smallest number, as the programs find it.
 use mathlib.Core.Path.{_≡_, refl, sym, ap, _∙_}
 use mathlib.Core.Bool.{Bool, true, false, not, _||_}
-use mathlib.Core.List.{List}
-use Prim.Native.Nat.{ℕ, _+_, _≤_, _<_}
+use Prim.Native.Nat.{ℕ, _<_}
 use native.Mathlib.Omega.{arith}
 use borrow.Author.Tests.{eq-eqb, ne-eqb}
-use lib.Dec.{eqb, ltb, leb}
+use lib.Dec.{eqb, ltb}
 use lib.ListN.{length}
-use Rattle.text.specs.Test.{_and_, _or_, if_then_else_, all, any}
+use Rattle.text.specs.Test.{_or_, if_then_else_, all}
 use Rattle.text.specs.Byte.{isPrint}
 use Rattle.text.specs.String.{Str}
 use Rattle.text.specs.Refusal.{_when_else_, clear}
-use Rattle.text.proofs.Tests.{or-false-l}
+use Rattle.text.proofs.Tests.{or-false-l, or-is}
 use Rattle.path.specs.Faults.{unsized, overLimit, strayByte, misplaced, keyTwice, grade, pathRefusal}
 use Rattle.table.specs.Table.{Rule}
-use Rattle.table.specs.Frame.{Entry, version, group, member, rule}
+use Rattle.table.specs.Frame.{Entry, rule}
 use Rattle.table.specs.Refusal.{Earlier, reads, outOfOrder, kindOf, pastLimit, strays, misplaces, repeats, unlisted, refusal, stray, unsizedShort}
 use Rattle.table.specs.Walk.{merged, unsizedBy}
-
--- the library's `||` is `or`
-pub or-is : (a b : Bool) → (a || b) ≡ (a or b)
-unfolding _or_
-or-is true b = refl
-or-is false b = refl
 
 -- ---- order of kinds
 
@@ -113,7 +106,7 @@ unfolding if_then_else_
 when-clear n m true h e = absurd (omega arith)
 when-clear n m false h e = (refl, e)
 
-pub merged-clear : (p : ℕ) (five six eight nine : Bool) → merged p five six eight nine ≡ 255 → (five ≡ false) × (nine ≡ false)
+pub merged-clear : (p : ℕ) (five six eight nine : Bool) → merged p five six eight nine ≡ 255 → (five ≡ false) × (nine ≡ false) × (eight ≡ false)
 unfolding merged
 merged-clear p five six eight nine e =
     let a = when-clear 5 _ (five || eqb p 5) (omega arith) e in
@@ -121,7 +114,7 @@ merged-clear p five six eight nine e =
     let c = when-clear 7 _ (eqb p 7) (omega arith) (b .1) in
     let d = when-clear 8 _ (eight || eqb p 8) (omega arith) (c .1) in
     let n = when-clear 9 _ nine (omega arith) (d .1) in
-    (or-false-l five (eqb p 5) (sym (or-is five (eqb p 5)) ∙ a .0), n .0)
+    (or-false-l five (eqb p 5) (sym (or-is five (eqb p 5)) ∙ a .0), n .0, or-false-l eight (eqb p 8) (sym (or-is eight (eqb p 8)) ∙ d .0))
 
 -- a line that nothing refuses
 pub refusal-clear : (b : Earlier) (e : Entry) → refusal b (reads e) ≡ 255

@@ -1,8 +1,7 @@
 -- The frame of a rule, read step by step.
 use mathlib.Core.Path.{_≡_, refl, sym, ap, _∙_, subst}
-use mathlib.Core.Bool.{Bool, true, false, _||_, _&&_, not}
-use mathlib.Core.List.{List, [], _∷_}
-use mathlib.Core.Option.{Option, none, some}
+use mathlib.Core.Bool.{Bool, true, false, _||_, _&&_}
+use mathlib.Core.Option.{none}
 use Prim.Native.Nat.{ℕ, _+_, _-_, _≤_, _<_}
 use native.Mathlib.Omega.{arith}
 use borrow.Author.Tests.{ltb-true, ltb-false}
@@ -10,8 +9,8 @@ use lib.Dec.{eqb, ltb}
 use lib.ListN.{length, getD}
 use Rattle.text.specs.Test.{_and_, _or_, if_then_else_}
 use Rattle.text.specs.String.{Str}
-use Rattle.text.specs.Frame.{Parsed, got, unread, _>>=_, ret, byte, part, run, string}
-use Rattle.text.proofs.Tests.{by, clash, and-left, and-right}
+use Rattle.text.specs.Frame.{got, unread, _>>=_, ret, part, string}
+use Rattle.text.proofs.Tests.{by, clash, and-left, and-right, or-is}
 use Rattle.text.specs.Frame.{endOf}
 use Rattle.text.specs.declared.frame.End.{End}
 use Rattle.text.specs.declared.frame.End.the-variants as ends
@@ -28,8 +27,7 @@ use Rattle.table.specs.Frame.{unknown, code, ruleBody, entryOf}
 use Rattle.table.specs.Walk.{RuleAt, RuleRead}
 use Rattle.table.specs.declared.frame.RuleFrame.{RuleFrame}
 use Rattle.table.specs.declared.frame.RuleFrame.the-variants.{Is, Unread}
-use Rattle.table.proofs.Numbers.{or-is}
-use Rattle.table.proofs.Frames.{rule-none, rule-off, rule-read}
+use Rattle.table.proofs.Frames.{rule-none, rule-off}
 
 -- ---- a code byte
 

@@ -1,12 +1,9 @@
 -- What version_number has met.
-use mathlib.Core.Path.{_≡_, refl, sym, ap, _∙_}
+use mathlib.Core.Path.{_≡_, refl, sym, _∙_}
 use mathlib.Core.Bool.{Bool, true, false, not}
-use mathlib.Core.List.{List}
-use mathlib.Core.Option.{Option, none, some}
-use Prim.Native.Nat.{ℕ, _+_, _-_, _≤_, _<_}
-use native.Mathlib.Omega.{arith}
-use lib.ListN.{length, getD, length-take, length-drop}
-use lib.Seq.{length-take-le}
+use mathlib.Core.Option.{none, some}
+use Prim.Native.Nat.{ℕ, _+_, _-_, _<_}
+use lib.ListN.{length, getD}
 use Rattle.text.specs.Test.{all}
 use Rattle.text.specs.Byte.{isPrint}
 use Rattle.text.specs.String.{Str}
@@ -15,7 +12,7 @@ use Rattle.text.specs.declared.frame.End.{End}
 use Rattle.text.specs.declared.frame.End.the-variants.{At, Unread}
 use Rattle.text.proofs.Frames.{string-ends, string-misses}
 use Rattle.table.specs.Frame.{Entry, version, entryOf}
-use Rattle.table.specs.Refusal.{Earlier, reads, framed, unreadable, outOfOrder, kindOf, pastLimit, strays, misplaces, repeats, unlisted, refusal}
+use Rattle.table.specs.Refusal.{Earlier, reads, framed, outOfOrder, kindOf, pastLimit, strays, misplaces, repeats, unlisted, refusal}
 use Rattle.table.specs.Walk.{merged, unsizedBy}
 use Rattle.table.proofs.Numbers.{short-is, stray-is, number-four, number-plain}
 use Rattle.table.proofs.Frames.{version-unread, version-off, version-read}

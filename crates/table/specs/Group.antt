@@ -1,10 +1,10 @@
 -- "One call answers how many groups a user belongs to; each user's memberships are a set over at most 64 groups."
 use Prim.Native.Nat.{ℕ, suc}
-use mathlib.Core.Bool.{Bool, not}
+use mathlib.Core.Bool.{Bool}
 use mathlib.Core.List.{List, [], _∷_}
 use lib.ListN.{length}
-use Rattle.text.specs.Test.{_and_, _or_, if_then_else_, any}
-use Rattle.text.specs.String.{Str, same}
+use Rattle.text.specs.Test.{_or_, if_then_else_, any}
+use Rattle.text.specs.String.{Str}
 use Rattle.path.specs.Faults.{unsized}
 use Rattle.table.specs.Table.{Member, Table}
 use Rattle.table.specs.Refusal.{stray, sameMember}

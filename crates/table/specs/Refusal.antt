@@ -1,6 +1,6 @@
 -- The refusal numbers 2 to 9 of a line, judged against the lines before it: a predicate for each, and the smallest that holds.
 use Prim.Native.Nat.{ℕ}
-use mathlib.Core.Bool.{Bool, true, false, not}
+use mathlib.Core.Bool.{Bool, false, not}
 use mathlib.Core.List.{List, [], _∷_, _++_}
 use mathlib.Core.Option.{Option, none, some}
 use lib.Dec.{eqb, ltb, leb}
@@ -11,7 +11,7 @@ use Rattle.text.specs.String.{Str, same}
 use Rattle.text.specs.Refusal.{_when_else_, clear}
 use Rattle.path.specs.Faults.{unsized, overLimit, strayByte, misplaced, keyTwice}
 use Rattle.line.specs.Lines.{frame}
-use Rattle.table.specs.Table.{Member, Rule}
+use Rattle.table.specs.Table.{Member}
 use Rattle.table.specs.Frame.{Entry, version, group, member, rule, entryOf}
 
 -- what a line is

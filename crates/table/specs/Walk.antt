@@ -2,11 +2,9 @@
 use Prim.Native.Nat.{ℕ, _+_, _≤_}
 use mathlib.Core.Path.{_≡_}
 use mathlib.Core.Bool.{Bool, _||_}
-use mathlib.Core.List.{List}
-use mathlib.Core.Option.{Option, none}
+use mathlib.Core.Option.{none}
 use lib.Dec.{eqb, ltb}
 use lib.ListN.{length, getD}
-use Rattle.text.specs.Test.{if_then_else_}
 use Rattle.text.specs.String.{Str}
 use Rattle.text.specs.Refusal.{_when_else_, clear}
 use Rattle.text.specs.Frame.{got, part, string}

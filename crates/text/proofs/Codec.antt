@@ -1,6 +1,5 @@
 -- Reading and writing: what is read is written back the same, and what is written is read.
 use mathlib.Core.Path.{_≡_, refl, sym, ap, _∙_}
-use mathlib.Core.Bool.{Bool, true, false}
 use mathlib.Core.List.{List, [], _∷_, _++_, append-assoc}
 use Prim.Native.Nat.{ℕ, zero, suc, _+_, _-_, _≤_, _<_}
 use native.Mathlib.Numerals.{add-one}
@@ -10,7 +9,7 @@ use lib.Dec.{ltb, leb}
 use lib.ListN.{length, take, drop, getD, length-drop, length-append, take-append-drop}
 use lib.Seq.{drop-cons, drop-drop, length-take-le, take-at, drop-at}
 use Rattle.text.specs.String.{Str, joined}
-use Rattle.text.specs.Frame.{Parsed, got, unread, andThen, Reader, _>>=_, ret, byte, part, run, string, stringBytes, times}
+use Rattle.text.specs.Frame.{Parsed, got, unread, andThen, Reader, _>>=_, ret, byte, part, string, stringBytes, times}
 use Rattle.text.proofs.Tests.{by}
 use Rattle.text.proofs.Frames.{byte-got, byte-unread, string-got, string-none, string-unread}
 

@@ -1,12 +1,12 @@
 -- What the tests of specs/Test and specs/String decide, each as the fact that it stands for.
 use mathlib.Core.Path.{_≡_, refl, sym, ap, ap₂, _∙_, subst}
 use mathlib.Core.Logic.{_⊎_, inl, inr}
-use mathlib.Core.Bool.{Bool, true, false, not, _&&_, _||_}
-use mathlib.Core.List.{List, [], _∷_, _++_, List·Memᴰ, List·Memᴰ·head, List·Memᴰ·tail, List·Memᴰ·not-nil}
+use mathlib.Core.Bool.{Bool, true, false, _&&_, _||_}
+use mathlib.Core.List.{List, [], _∷_, List·Memᴰ·head, List·Memᴰ·tail, List·Memᴰ·not-nil}
 use Prim.Native.Nat.{ℕ}
-use borrow.Author.Tests.{eqb-true, eq-eqb, not-true}
+use borrow.Author.Tests.{eqb-true, eq-eqb}
 use native.Mathlib.Omega.{arith}
-use Rattle.text.specs.Test.{_and_, _or_, if_then_else_, _∈_, all, any, only, twice}
+use Rattle.text.specs.Test.{_and_, _or_, if_then_else_, _∈_, all, any, only}
 use Rattle.text.specs.String.{Str, same}
 
 -- ---- Bool
@@ -92,6 +92,11 @@ or-swap false true false t = refl
 or-swap false false r t = refl
 
 -- the library's `||` and `&&`, which byte tests and programs use
+pub or-is : (a b : Bool) → (a || b) ≡ (a or b)
+unfolding _or_
+or-is true b = refl
+or-is false b = refl
+
 pub or-join : (a b c : Bool) → (a or (b or c)) ≡ ((a || b) or c)
 unfolding _or_
 or-join true b c = refl

@@ -2,7 +2,6 @@
 -- unfold only where a proof asks for it.
 use mathlib.Core.Bool.{Bool, true, false}
 use mathlib.Core.List.{List, [], _∷_, List·Memᴰ}
-use Prim.Native.Nat.{ℕ}
 
 infixr 35 _and_
 infixr 30 _or_

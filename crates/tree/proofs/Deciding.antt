@@ -1,9 +1,9 @@
 -- The heaviest rule that covers a joined path has the action of the best.
-use mathlib.Core.Path.{_≡_, refl, sym, ap, _∙_}
+use mathlib.Core.Path.{_≡_, sym, ap, _∙_}
 use mathlib.Core.Bool.{Bool, true, false, xor}
-use mathlib.Core.List.{List, [], _∷_, List·Memᴰ·head, List·Memᴰ·tail, List·Memᴰ·not-nil}
+use mathlib.Core.List.{List, List·Memᴰ·head, List·Memᴰ·tail, List·Memᴰ·not-nil}
 use mathlib.Core.Option.{Option, none, some}
-use Prim.Native.Nat.{ℕ, zero, suc, _+_, _*_, _/_, _≤_, _<_}
+use Prim.Native.Nat.{ℕ, zero, suc, _+_, _≤_, _<_}
 use native.Mathlib.Nat.{add-zero}
 use native.Mathlib.Decide.{decLt}
 use native.Mathlib.Omega.{arith}
@@ -18,7 +18,7 @@ use Rattle.verdict.specs.Join.{coversBoth}
 use Rattle.verdict.specs.Order.{better, Numbered, choose, rank}
 use Rattle.verdict.specs.Verdict.{action}
 use Rattle.verdict.proofs.Order.{better-order, better-rank, rank-permit}
-use Rattle.verdict.proofs.Choose.{Wins, Chosen, chosen}
+use Rattle.verdict.proofs.Choose.{Chosen, chosen}
 use Rattle.verdict.proofs.Paths.{covers-both, covers-join-left}
 use Rattle.place.specs.Place.{pathIn}
 use Rattle.judge.specs.Rules.{ruleIn, rulesIn, Laid}

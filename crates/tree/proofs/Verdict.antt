@@ -1,11 +1,10 @@
 -- The rule that the loop chooses is the one that MIXED names.
-use mathlib.Core.Path.{_≡_, sym, ap, _∙_}
+use mathlib.Core.Path.{_≡_, sym, ap}
 use mathlib.Core.Bool.{Bool, true, false, xor}
 use Rattle.text.specs.Test.{_and_, _∈_}
 use Rattle.text.proofs.Tests.{by, bool-ext, and-l, and-r, both}
 use Rattle.path.specs.Faults.{keyTwice}
 use Rattle.table.specs.Table.{Rule, Table}
-use Rattle.verdict.specs.Cover.{covers}
 use Rattle.verdict.specs.Join.{agree, join}
 use Rattle.verdict.specs.Order.{better, earlier, choose}
 use Rattle.verdict.specs.Verdict.{Request, at, applies, matches, decider, action, permits, fits, opposes}

@@ -1,7 +1,6 @@
 -- An accepted text fits its slot; what an upload answers, leaves of the record and stores.
-use mathlib.Core.Path.{_≡_, refl, sym, ap, _∙_}
-use mathlib.Core.Bool.{Bool, true, false}
-use Prim.Native.Nat.{ℕ, _*_, _+_, _≤_, _<_}
+use mathlib.Core.Path.{_≡_, ap, _∙_}
+use Prim.Native.Nat.{ℕ, _+_, _≤_}
 use native.Mathlib.Omega.{arith}
 use borrow.Author.Tests.{eq-eqb, ne-eqb, eqb-true, ltb-false}
 use lib.Dec.{eqb, ltb}
@@ -18,7 +17,7 @@ use Rattle.policy.specs.Policy.{judgement}
 use Rattle.policy_text.specs.Answer.{checkOf}
 use Rattle.policy_text.specs.declared.check.Check.{Check}
 use Rattle.policy_text.specs.declared.check.Check.the-variants as policy
-use Rattle.rotation.specs.State.{shortStore, badRecord, recordRefusal, slotStart, candidateSlot}
+use Rattle.rotation.specs.State.{shortStore, recordRefusal, slotStart, candidateSlot}
 use Rattle.rotation.specs.Calls.{offRefusal, uploaded, stepped, uploadAnswer, upload, storedBy, uploadStore}
 use Rattle.rotation.specs.declared.Record.{Record}
 use Rattle.rotation.specs.declared.Stepped.{Stepped}

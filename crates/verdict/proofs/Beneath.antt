@@ -2,21 +2,20 @@
 use mathlib.Core.Path.{_≡_, refl, sym, ap, _∙_}
 use mathlib.Core.Logic.{_↔_}
 use mathlib.Core.Bool.{Bool, true, false, xor}
-use mathlib.Core.List.{List, [], _∷_}
 use mathlib.Core.Option.{Option, none, some}
 use Prim.Native.Nat.{ℕ}
 use native.Mathlib.Omega.{arith}
 use Rattle.text.specs.Test.{_and_, _∈_}
-use Rattle.text.proofs.Tests.{clash, by, and-l, and-r, both, and-false}
-use Rattle.path.specs.Path.{Elem, Path}
+use Rattle.text.proofs.Tests.{clash, and-l, and-r, both, and-false}
+use Rattle.path.specs.Path.{Path}
 use Rattle.path.specs.Faults.{keyTwice}
 use Rattle.table.specs.Table.{Rule, Table}
 use Rattle.verdict.specs.Cover.{covers}
 use Rattle.verdict.specs.Join.{agree, join}
 use Rattle.verdict.specs.Order.{better, earlier, Numbered, choose}
-use Rattle.verdict.specs.Verdict.{Request, at, applies, matches, decider, action, permits, fits, opposes, Tree, ALL, NONE, MIXED, word, answer, tree}
+use Rattle.verdict.specs.Verdict.{Request, at, applies, matches, decider, action, permits, fits, opposes, ALL, NONE, MIXED, word, answer, tree}
 use Rattle.verdict.specs.Laws.{Orderly, Everywhere}
-use Rattle.verdict.proofs.Order.{Order, better-order, earlier-order}
+use Rattle.verdict.proofs.Order.{better-order, earlier-order}
 use Rattle.verdict.proofs.Choose.{Wins, Chosen, chosen, tied-same}
 use Rattle.verdict.proofs.Paths.{covers-refl, covers-trans, covered-agree, join-covers, covers-join-left, covers-join-right, join-once}
 

@@ -4,12 +4,12 @@ use mathlib.Core.Logic.{_⊎_, inl, inr}
 use mathlib.Core.Bool.{Bool, true, false, not}
 use mathlib.Core.List.{List, [], _∷_, Memᴰ·append-left, Memᴰ·append-right, List·Memᴰ·append-cases}
 use borrow.Author.Tests.{not-true}
-use Rattle.text.specs.Test.{_and_, _or_, _∈_, all, any, only, twice}
-use Rattle.text.specs.String.{Str, same}
-use Rattle.text.proofs.Tests.{clash, by, bool-ext, and-l, and-r, ands, both, or-l, or-r, or-cases, or-false-l, or-false-r, neither, same→≡, same-refl, ≡→same, all→, →all, any→, →any, none-any, only→, →only}
+use Rattle.text.specs.Test.{_and_, _or_, _∈_, any, only, twice}
+use Rattle.text.specs.String.{same}
+use Rattle.text.proofs.Tests.{clash, by, bool-ext, and-l, and-r, both, or-l, or-r, or-cases, or-false-l, or-false-r, neither, same→≡, same-refl, ≡→same, all→, →all, any→, →any, none-any, only→, →only}
 use Rattle.path.specs.Path.{Key, Elem, Path}
 use Rattle.path.specs.Faults.{sameName, keyTwice}
-use Rattle.verdict.specs.Cover.{wild, given, definite, sameKey, holds, meets, covers}
+use Rattle.verdict.specs.Cover.{wild, definite, holds, meets, covers}
 use Rattle.verdict.specs.Join.{conflict, clashes, agrees, agree, meld, join, meetsBoth, coversBoth}
 use Rattle.verdict.proofs.Twice.{→none, twice→, twice-only, twice-append}
 

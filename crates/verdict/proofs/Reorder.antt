@@ -1,22 +1,21 @@
 -- The answers do not depend on the order of a table's groups, members and rules.
-use mathlib.Core.Path.{_≡_, refl, sym, ap, ap₂, _∙_, subst}
-use mathlib.Core.Bool.{Bool, true, false, xor}
-use mathlib.Core.List.{List, [], _∷_, List·Memᴰ·head, List·Memᴰ·tail, List·Permᴰ, List·Permᴰ·nil, List·Permᴰ·cons, List·Permᴰ·swap, List·Permᴰ·trans, Permᴰ·symm}
+use mathlib.Core.Path.{_≡_, refl, sym, ap, ap₂, _∙_}
+use mathlib.Core.Bool.{Bool, true, false}
+use mathlib.Core.List.{List, _∷_, List·Memᴰ·head, List·Memᴰ·tail, List·Permᴰ, List·Permᴰ·nil, List·Permᴰ·cons, List·Permᴰ·swap, List·Permᴰ·trans, Permᴰ·symm}
 use mathlib.Core.Option.{Option, none, some}
-use Rattle.text.specs.Test.{_and_, if_then_else_, _∈_, any, twice}
-use Rattle.text.specs.String.{Str, same}
-use Rattle.text.proofs.Tests.{clash, by, bool-ext, on-cons, any→, →any, same→≡, ≡→same}
-use Rattle.path.specs.Path.{Path}
+use Rattle.text.specs.Test.{_∈_, any, twice}
+use Rattle.text.specs.String.{Str}
+use Rattle.text.proofs.Tests.{clash, by, bool-ext, on-cons, any→, →any}
 use Rattle.table.specs.Table.{Member, Rule, Table}
 use Rattle.table.specs.Refusal.{sameMember}
 use Rattle.table.specs.Group.{lists}
-use Rattle.verdict.specs.Join.{agree, join}
-use Rattle.verdict.specs.Order.{better, earlier, Numbered, choose}
-use Rattle.verdict.specs.Verdict.{Request, at, concerns, applies, matches, decider, action, permits, fits, opposes, Tree, ALL, NONE, MIXED, word, answer, tree}
-use Rattle.verdict.specs.Laws.{sameId, Orderly, Reordered, idOf, byId, mixed, SameAnswers}
+use Rattle.verdict.specs.Join.{join}
+use Rattle.verdict.specs.Order.{Numbered}
+use Rattle.verdict.specs.Verdict.{Request, at, concerns, applies, matches, decider, action, permits, fits, opposes, answer, tree}
+use Rattle.verdict.specs.Laws.{sameId, Orderly, Reordered, idOf, byId, mixed}
 use Rattle.verdict.proofs.Twice.{first-alone, rest-alone, →alone}
 use Rattle.verdict.proofs.Order.{Order, better-order, earlier-order}
-use Rattle.verdict.proofs.Choose.{Wins, Chosen, chosen, tied-same, same-id-turned}
+use Rattle.verdict.proofs.Choose.{Chosen, chosen, tied-same, same-id-turned}
 use Rattle.verdict.proofs.Beneath.{decided}
 
 -- ---- permutations

@@ -1,5 +1,5 @@
 -- Joined paths: when two paths fit, and the path that has what both have.
-use mathlib.Core.Bool.{Bool, true, false, not}
+use mathlib.Core.Bool.{Bool, true, not}
 use mathlib.Core.List.{List, [], _∷_, _++_}
 use Rattle.text.specs.Test.{_and_, _or_, all, any, only}
 use Rattle.text.specs.String.{same}

@@ -1,9 +1,8 @@
 -- What is to be shown of the verdicts, as types. The theorems are in proofs/Theorems.
-use Prim.Native.Nat.{ℕ}
 use mathlib.Core.Path.{_≡_}
 use mathlib.Core.Logic.{_↔_}
 use mathlib.Core.Bool.{Bool, true, false}
-use mathlib.Core.List.{List, List·Permᴰ}
+use mathlib.Core.List.{List·Permᴰ}
 use mathlib.Core.Option.{Option, none, some}
 use lib.ListN.{getElem?}
 use Rattle.text.specs.Test.{_∈_, twice}

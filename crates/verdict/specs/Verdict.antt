@@ -1,7 +1,6 @@
 -- The single-path verdict and the tree verdict, over a rule table and a request as mathematical values.
 use Prim.Native.Nat.{ℕ}
 use mathlib.Core.Bool.{Bool, true, false, xor}
-use mathlib.Core.List.{List}
 use mathlib.Core.Option.{Option, none, some}
 use lib.Dec.{eqb}
 use Rattle.text.specs.Test.{_and_, if_then_else_}

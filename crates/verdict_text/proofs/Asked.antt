@@ -1,7 +1,6 @@
 -- The tests on a request, one by one.
-use mathlib.Core.Path.{_≡_, refl, sym, ap, _∙_}
+use mathlib.Core.Path.{_≡_, sym, ap, _∙_}
 use mathlib.Core.Bool.{Bool, true, false, not, _||_}
-use mathlib.Core.List.{List}
 use Prim.Native.Nat.{ℕ, _≤_, _<_}
 use borrow.Author.Tests.{lt-ltb, le-ltb}
 use lib.Dec.{eqb, ltb}
@@ -10,11 +9,10 @@ use Rattle.text.specs.Test.{_or_, if_then_else_, all}
 use Rattle.text.specs.Byte.{isPrint}
 use Rattle.text.specs.String.{Str}
 use Rattle.text.specs.Refusal.{_when_else_, clear}
-use Rattle.text.proofs.Tests.{by}
+use Rattle.text.proofs.Tests.{or-is}
 use Rattle.path.specs.Faults.{unsized}
 use Rattle.table.specs.Refusal.{stray}
 use Rattle.table.specs.Group.{badUser}
-use Rattle.table.proofs.Numbers.{or-is}
 use Rattle.verdict_text.specs.Calls.{badMode, badOrigin}
 
 module _ (s : Str) where

@@ -1,13 +1,13 @@
 -- The path text of a request, and the answers by what refuses the request.
-use mathlib.Core.Path.{_≡_, refl, sym, ap, ap₂, _∙_}
-use mathlib.Core.Bool.{Bool, true, false, not}
-use mathlib.Core.List.{List, []}
-use mathlib.Core.Option.{Option, none, some, Option·map}
-use Prim.Native.Nat.{ℕ, _≤_, _<_}
+use mathlib.Core.Path.{_≡_, refl, sym, ap₂, _∙_}
+use mathlib.Core.Bool.{Bool, true, false}
+use mathlib.Core.List.{List}
+use mathlib.Core.Option.{Option, none, some}
+use Prim.Native.Nat.{ℕ, _≤_}
 use native.Mathlib.Omega.{arith}
-use borrow.Author.Tests.{eq-eqb, ne-eqb, le-leb, not-true}
-use lib.Dec.{eqb, leb}
-use lib.ListN.{length, take, drop, length-append}
+use borrow.Author.Tests.{ne-eqb, le-leb, not-true}
+use lib.Dec.{leb}
+use lib.ListN.{length, take, length-append}
 use lib.Seq.{take-at}
 use Rattle.text.specs.Test.{_or_, if_then_else_}
 use Rattle.text.specs.String.{Str}
@@ -17,9 +17,7 @@ use Rattle.text.proofs.Tests.{by, or-false-r}
 use Rattle.path.specs.Path.{Path}
 use Rattle.path.specs.Bytes.{path, pathBytes}
 use Rattle.path.specs.Faults.{overLimit, strayByte, misplaced, keyTwice, goodPath}
-use Rattle.path.specs.Spells.{Spells, Reads}
 use Rattle.path.proofs.Bytes.{bytes-whole}
-use Rattle.path_text.specs.Text.{pathText}
 use Rattle.path_text.specs.TextReader.{readText}
 use Rattle.path_text.specs.Calls.{bytesFor, answer, lent}
 use Rattle.path_text.specs.declared.Filled.{Filled}

@@ -1,7 +1,7 @@
 -- The answers of the two verdict calls, over the texts that they are given.
 use Prim.Native.Nat.{ℕ, _+_, _*_, _%_}
 use mathlib.Core.Bool.{Bool, true, false, not}
-use mathlib.Core.List.{List, []}
+use mathlib.Core.List.{[]}
 use mathlib.Core.Option.{Option, none, some}
 use lib.Dec.{eqb, ltb}
 use lib.ListN.{length}
@@ -10,7 +10,6 @@ use Rattle.text.specs.String.{Str}
 use Rattle.text.specs.Refusal.{_when_else_, clear}
 use Rattle.path.specs.Path.{Path}
 use Rattle.path_text.specs.TextReader.{readText}
-use Rattle.table.specs.Table.{Table}
 use Rattle.table.specs.Refusal.{stray}
 use Rattle.table.specs.Text.{check, tableOf}
 use Rattle.table.specs.Group.{badUser}

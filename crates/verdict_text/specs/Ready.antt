@@ -1,11 +1,11 @@
 -- What the verdicts take of a loaded table.
 use Prim.Native.Nat.{ℕ, _≤_, _<_}
 use mathlib.Core.Path.{_≡_}
-use mathlib.Core.Bool.{Bool, true}
+use mathlib.Core.Bool.{true}
 use mathlib.Core.List.{List, []}
 use lib.ListN.{length, getD}
 use Rattle.text.specs.String.{Str}
-use Rattle.table.specs.Table.{Rule, Table}
+use Rattle.table.specs.Table.{Table}
 use Rattle.table.specs.Group.{lists}
 use Rattle.path.specs.Path.{Path}
 use Rattle.verdict.specs.Verdict.{Request}

@@ -1,16 +1,14 @@
 -- A loaded table is ready for the verdicts.
-use mathlib.Core.Path.{_≡_, refl, sym, ap, _∙_}
-use mathlib.Core.Bool.{Bool, true, false}
-use mathlib.Core.List.{List, [], _∷_}
-use mathlib.Core.Option.{Option}
-use Prim.Native.Nat.{ℕ, zero, suc, _+_, _≤_, _<_}
+use mathlib.Core.Path.{_≡_, sym, ap, _∙_}
+use mathlib.Core.Bool.{Bool, true}
+use mathlib.Core.List.{List, []}
+use Prim.Native.Nat.{ℕ, _+_, _≤_, _<_}
 use native.Mathlib.Omega.{arith}
 use lib.ListN.{length, take, getD}
 use Rattle.text.specs.String.{Str}
 use Rattle.rows.proofs.Grow.{strings-length}
 use Rattle.keep.specs.Held.{Owned}
-use Rattle.table.specs.Table.{Rule, Table}
-use Rattle.table.specs.Text.{check, tableOf}
+use Rattle.table.specs.Text.{tableOf}
 use Rattle.table.specs.declared.Checked.the-variants as checked
 use Rattle.load.specs.declared.row.Counts.{Counts}
 use Rattle.load.specs.declared.Loaded.{Loaded}

@@ -1,6 +1,6 @@
 -- The rules that a table's reader read are those that stand at their positions.
 use mathlib.Core.Path.{_≡_, refl, sym, ap, ap₂, _∙_}
-use mathlib.Core.Bool.{Bool, true, false}
+use mathlib.Core.Bool.{true}
 use mathlib.Core.List.{List, [], _∷_}
 use Prim.Native.Nat.{ℕ, zero, suc, _+_, _≤_, _<_}
 use native.Mathlib.Nat.{add-zero}
@@ -18,9 +18,9 @@ use Rattle.path.specs.Bytes.{path}
 use Rattle.table.specs.Table.{Rule}
 use Rattle.table.specs.Frame.{unknown, code, ruleBody}
 use Rattle.load.specs.Held.{RulesAt, HoldersAt}
-use Rattle.place.specs.Place.{strEnd, strIn, pathEnd, pathIn}
+use Rattle.place.specs.Place.{strEnd, strIn, pathIn}
 use Rattle.place.proofs.Reading.{str-read, path-read}
-use Rattle.judge.specs.Rules.{idAt, originAt, pathAt, ruleIn, ruleEnd, rulesIn, Laid}
+use Rattle.judge.specs.Rules.{idAt, originAt, pathAt, ruleIn, ruleEnd, rulesIn}
 
 -- what was read in two steps was read in each
 then-got : {A B : Type 0} (x : Parsed A) (k : A → ℕ → Parsed B) (b : B) (t : ℕ) → andThen x k ≡ got b t → (a : A) × (q : ℕ) × (x ≡ got a q) × (k a q ≡ got b t)

@@ -1,10 +1,8 @@
 use borrow.Author.Needs.{needs}
 use native.Mathlib.Omega.{arith}
-use mathlib.Core.Path.{_≡_, sym, ap, _∙_}
-use mathlib.Core.List.{List, []}
-use Rattle.path.specs.Path.{Key}
+use mathlib.Core.Path.{ap, _∙_}
 use Rattle.place.proofs.Cursor.{elem-room, keys-nil, keys-stop}
-use Rattle.bloom.specs.Bloom.{digits, keysDigits}
+use Rattle.bloom.specs.Bloom.{digits}
 use Rattle.bloom.proofs.Turns.{elem-is}
 use Rattle.bloom.proofs.elem_digits.Statement.{statement}
 use Rattle.bloom.proofs.elem_digits.Tie as tie

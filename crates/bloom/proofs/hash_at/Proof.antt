@@ -1,6 +1,6 @@
 use borrow.Author.Needs.{needs}
 use native.Mathlib.Omega.{arith}
-use mathlib.Core.Path.{sym, _∙_}
+use mathlib.Core.Path.{sym}
 use Rattle.place.specs.Place.{strIn}
 use Rattle.place.proofs.Cursor.{str-grows}
 use Rattle.bloom.proofs.hash_at.Statement.{statement}

@@ -1,7 +1,7 @@
 use borrow.Author.Needs.{needs}
 use native.Mathlib.Omega.{arith}
 use Prim.Native.Nat.{_+_}
-use mathlib.Core.Path.{refl, sym, _∙_}
+use mathlib.Core.Path.{sym}
 use borrow.Author.Tests.{not-true, not-false}
 use Rattle.judge.proofs.Parts.{rule-room}
 use Rattle.concern.proofs.Concerns.{origin-room, origin-at, other-mode, other-origin, applies-so}

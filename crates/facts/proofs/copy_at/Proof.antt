@@ -1,7 +1,7 @@
 -- `copy_at` stores the string, or nothing where it does not fit.
 use borrow.Author.Needs.{needs}
 use native.Mathlib.Omega.{arith}
-use mathlib.Core.Path.{_≡_, sym}
+use mathlib.Core.Path.{sym}
 use Rattle.place.specs.Place.{strEnd, strIn}
 use Rattle.rows.proofs.Strings.{room}
 use Rattle.facts.proofs.Names.{wrote-over, wrote-all, string-long}

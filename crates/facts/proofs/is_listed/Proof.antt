@@ -1,7 +1,7 @@
 -- `is_listed` equals its definition.
 use borrow.Author.Needs.{needs}
 use native.Mathlib.Omega.{arith}
-use mathlib.Core.Path.{_≡_, sym, _∙_}
+use mathlib.Core.Path.{sym, _∙_}
 use Rattle.groups.proofs.Calls.{outcome-refused, outcome-kept, count-requires, front-is}
 use Rattle.facts.specs.Facts.{isListed}
 use Rattle.facts.proofs.Loading.{none-past, listed-is, has-room}

@@ -1,7 +1,7 @@
 -- `name_of` stores the name of the row.
 use borrow.Author.Needs.{needs}
 use native.Mathlib.Omega.{arith}
-use mathlib.Core.Path.{_≡_, sym}
+use mathlib.Core.Path.{sym}
 use Rattle.groups.proofs.Calls.{outcome-refused, outcome-kept, front-is}
 use Rattle.facts.specs.Facts.{nameOf}
 use Rattle.facts.proofs.Names.{wrote-none, group-name, rule-id}

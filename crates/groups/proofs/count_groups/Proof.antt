@@ -1,7 +1,7 @@
 -- `count_groups` equals its definition.
 use borrow.Author.Needs.{needs}
 use native.Mathlib.Omega.{arith}
-use mathlib.Core.Path.{_≡_, refl, sym, ap, _∙_}
+use mathlib.Core.Path.{sym, _∙_}
 use Rattle.groups.proofs.Calls.{outcome-declined, outcome-kept, outcome-counted, count-requires, front-is}
 use Rattle.groups.proofs.count_groups.Statement.{statement}
 use Rattle.groups.proofs.count_groups.Tie as tie

@@ -1,7 +1,7 @@
 -- `count_in` equals its definition.
 use borrow.Author.Needs.{needs}
 use native.Mathlib.Omega.{arith}
-use mathlib.Core.Path.{_≡_, refl, sym, ap, _∙_}
+use mathlib.Core.Path.{ap, _∙_}
 use lib.Count.{ones-le, trailing-le}
 use Rattle.groups.specs.Set.{countIn}
 use Rattle.groups.proofs.Calls.{count-bad, count-none, count-some}

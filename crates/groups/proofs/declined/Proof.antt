@@ -1,6 +1,5 @@
 -- `declined` equals its definition.
 use borrow.Author.Needs.{needs}
-use mathlib.Core.Path.{_≡_, refl, sym, ap, _∙_}
 use Rattle.groups.specs.Set.{declinedBy}
 use Rattle.groups.proofs.declined.Statement.{statement}
 use Rattle.groups.proofs.declined.Tie as tie

@@ -1,5 +1,5 @@
 -- `join` equals its definition.
-use mathlib.Core.Path.{_≡_, sym, _∙_}
+use mathlib.Core.Path.{sym, _∙_}
 use Rattle.groups.proofs.Sets.{join-hit, join-miss}
 use Rattle.groups.proofs.join.Statement.{statement}
 use Rattle.groups.proofs.join.Tie as tie

@@ -1,9 +1,8 @@
 -- `memberships` equals its definition. The invariant: the rest of the members adds to the set so far.
 use borrow.Author.Needs.{needs}
 use native.Mathlib.Omega.{arith}
-use mathlib.Core.Path.{_≡_, refl, sym, ap, _∙_}
-use Prim.Native.Nat.{_+_, _-_, _≤_}
-use lib.ListN.{length}
+use mathlib.Core.Path.{_≡_}
+use Prim.Native.Nat.{_-_, _≤_}
 use Rattle.groups.specs.Set.{setIn}
 use Rattle.groups.proofs.Sets.{set-start, set-turn, set-end}
 use Rattle.groups.proofs.memberships.Statement.{statement}

@@ -1,29 +1,56 @@
 -- `number_of` equals its definition.
 use borrow.Author.Needs.{needs}
 use native.Mathlib.Omega.{arith}
+use mathlib.Core.Path.{sym, _∙_}
 use Prim.Native.Nat.{_%_}
+use Rattle.rows.proofs.Grow.{number-is}
 use Rattle.keep.proofs.number_of.Statement.{statement}
 use Rattle.keep.proofs.number_of.Tie as tie
 
 hash-requires : tie.Need-hash-requires
 hash-requires c κs = search needs
 
-shared-slice-read-find-from : tie.Need-shared-slice-read-find-from
-shared-slice-read-find-from c = search needs
+shared-slice-read-hint : tie.Need-shared-slice-read-hint
+shared-slice-read-hint c =
+    let at-start = c .before .before .before .before .before .before .before in
+    omega (arith, at-start .pre .1 .0)
 
-cast-find-from : tie.Need-cast-find-from
-cast-find-from c =
-    let at-shared-slice-known5 = c .shared-slice-known5 in
+cast-hint : tie.Need-cast-hint
+cast-hint c =
+    let at-shared-slice-known6 = c .shared-slice-known6 in
     let at-hash = c .before .hash in
-    omega (arith, at-shared-slice-known5 .given (at-hash .result % 1024))
+    omega (arith, at-shared-slice-known6 .given (at-hash .result % 1024))
 
-find-from-requires : tie.Need-find-from-requires
-find-from-requires c κs = search needs
+is-number-requires : tie.Need-is-number-requires
+is-number-requires c κs =
+    let at-start = c .before .before .before .before .before .before .before in
+    (at-start .pre .0 .0, at-start .pre .0 .1)
 
 returns : tie.Need-returns
-returns c = search needs
+returns c =
+    let at-if1 = c .if1 in
+    let at-is-number = c .before .is-number in
+    let at-start = c .before .before .before .before .before .before .before .before .before in
+    number-is _ _ _ _ _ (at-start .pre .0 .2) (sym (at-is-number .ensures) ∙ at-if1 .taken)
+
+number-by-name-requires : tie.Need-number-by-name-requires
+number-by-name-requires c κs =
+    let at-start = c .before .before .before .before .before .before .before .before .before in
+    (at-start .pre .0 .0, at-start .pre .0 .1, at-start .pre .0 .2, at-start .pre .1 .1)
+
+returns-2 : tie.Need-returns-2
+returns-2 c =
+    let at-number-by-name = c .number-by-name in
+    at-number-by-name .ensures
 
 pub number-of-spec : {M : Type 1} → statement M
 number-of-spec =
     tie.close
-    (tie.spec hash-requires shared-slice-read-find-from cast-find-from find-from-requires returns)
+    (tie.spec
+    hash-requires
+    shared-slice-read-hint
+    cast-hint
+    is-number-requires
+    returns
+    number-by-name-requires
+    returns-2)

@@ -1,7 +1,7 @@
 -- `take_group` equals its definition.
 use borrow.Author.Needs.{needs}
 use native.Mathlib.Omega.{arith}
-use mathlib.Core.Path.{_≡_, refl, sym, ap, _∙_}
+use mathlib.Core.Path.{refl, sym, _∙_}
 use Rattle.text.proofs.Frames.{string-ends}
 use Rattle.keep.proofs.Groups.{below, group-short, group-long, group-four, group-graded, group-kept}
 use mathlib.Core.List.{[]}
@@ -70,7 +70,9 @@ all-print-requires : tie.Need-all-print-requires
 all-print-requires c κs = search needs
 
 find-requires : tie.Need-find-requires
-find-requires c κs = search needs
+find-requires c κs =
+    let at-start = c .before .before .before .before .before .before .before .before .before .before .before .before .before .before in
+    at-start .pre .1 .2 .sorted
 
 number-requires : tie.Need-number-requires
 number-requires c κs = search needs
@@ -88,53 +90,86 @@ returns-4 c =
     let at-e = c .before .before .before .before .before .before .before .before .before .before .before .before .e in
     let at-string-end = c .before .before .before .before .before .before .before .before .before .before .before .before .before .before .string-end in
     let at-start = c .before .before .before .before .before .before .before .before .before .before .before .before .before .before .before .before .before in
-    (λ b w g. group-graded _ (at-start .pre .0) _ (at-string-end .ensures) b _ w _ (at-e .given .1) (at-if1 .left) _ (at-is-out-of-order .ensures) (at-if2 .left) _ _ _ g _ _ _ _ (at-number .ensures) (at-is-unsized .ensures) (at-all-print .ensures) (at-find .ensures), λ x. absurd (at-if3 .taken x))
+    (λ b w g. group-graded _ (at-start .pre .0) _ (at-string-end .ensures) b _ w _ (at-e .given .1) (at-if1 .left) _ (at-is-out-of-order .ensures) (at-if2 .left) _ _ _ g _ (at-start .pre .1 .2) _ _ _ _ (at-number .ensures) (at-is-unsized .ensures) (at-all-print .ensures) (at-find .ensures), λ x. absurd (at-if3 .taken x))
+
+add-from : tie.Need-add-from
+add-from c =
+    let at-start = c .before .before .before .before .before .before .before .before .before .before .before .before .before .before .before .before .before in
+    omega (arith, at-start .pre .1 .0)
+
+add-to : tie.Need-add-to
+add-to c =
+    let at-e = c .before .before .before .before .before .before .before .before .before .before .before .before .e in
+    let at-string-end = c .before .before .before .before .before .before .before .before .before .before .before .before .before .before .string-end in
+    let at-start = c .before .before .before .before .before .before .before .before .before .before .before .before .before .before .before .before .before in
+    let h = string-ends _ _ _ (at-string-end .ensures) _ (at-e .given .1) in omega (arith, h .1, h .2, at-start .pre .1 .0)
+
+insert-requires : tie.Need-insert-requires
+insert-requires c κs =
+    let at-if3 = c .before .if3 in
+    let at-number = c .before .before .number in
+    let at-find = c .before .before .before .find in
+    let at-is-unsized = c .before .before .before .before .before .before .before .is-unsized in
+    let at-e = c .before .before .before .before .before .before .before .before .before .before .before .before .before .e in
+    let at-string-end = c .before .before .before .before .before .before .before .before .before .before .before .before .before .before .before .string-end in
+    let at-start = c .before .before .before .before .before .before .before .before .before .before .before .before .before .before .before .before .before .before in
+    let h = string-ends _ _ _ (at-string-end .ensures) _ (at-e .given .1) in let l = below 255 64 (at-start .args .n) _ _ _ _ _ _ (at-is-unsized .ensures) (at-number .ensures) (at-if3 .left) in (at-find .ensures .placed .fits, omega arith, omega (arith, h .1, h .2, at-start .pre .1 .0), omega (arith, h .1, h .2, at-start .pre .1 .0))
 
 add-starts : tie.Need-add-starts
-add-starts c = search needs
+add-starts c =
+    let at-start = c .before .before .before .before .before .before .before .before .before .before .before .before .before .before .before .before .before .before .before in
+    omega (arith, at-start .pre .1 .0)
 
 cast-starts : tie.Need-cast-starts
-cast-starts c = search needs
+cast-starts c =
+    let at-start = c .before .before .before .before .before .before .before .before .before .before .before .before .before .before .before .before .before .before .before in
+    omega (arith, at-start .pre .1 .0)
 
 mul-starts : tie.Need-mul-starts
 mul-starts c =
-    let at-if3 = c .if3 in
-    let at-number = c .before .number in
-    let at-is-unsized = c .before .before .before .before .before .before .is-unsized in
-    let at-start = c .before .before .before .before .before .before .before .before .before .before .before .before .before .before .before .before .before in
+    let at-if3 = c .before .before .if3 in
+    let at-number = c .before .before .before .number in
+    let at-is-unsized = c .before .before .before .before .before .before .before .before .is-unsized in
+    let at-start = c .before .before .before .before .before .before .before .before .before .before .before .before .before .before .before .before .before .before .before in
     let h = below 255 64 (at-start .args .n) _ _ _ _ _ _ (at-is-unsized .ensures) (at-number .ensures) (at-if3 .left) in omega arith
 
 element-write-starts : tie.Need-element-write-starts
 element-write-starts c =
-    let at-if3 = c .if3 in
-    let at-number = c .before .number in
-    let at-is-unsized = c .before .before .before .before .before .before .is-unsized in
-    let at-start = c .before .before .before .before .before .before .before .before .before .before .before .before .before .before .before .before .before in
+    let at-if3 = c .before .before .if3 in
+    let at-number = c .before .before .before .number in
+    let at-is-unsized = c .before .before .before .before .before .before .before .before .is-unsized in
+    let at-start = c .before .before .before .before .before .before .before .before .before .before .before .before .before .before .before .before .before .before .before in
     below 255 64 (at-start .args .n) _ _ _ _ _ _ (at-is-unsized .ensures) (at-number .ensures) (at-if3 .left)
 
 hash-requires : tie.Need-hash-requires
 hash-requires c κs = search needs
 
 cast-hints : tie.Need-cast-hints
-cast-hints c = search needs
+cast-hints c =
+    let at-if3 = c .before .before .before .if3 in
+    let at-number = c .before .before .before .before .number in
+    let at-is-unsized = c .before .before .before .before .before .before .before .before .before .is-unsized in
+    let at-start = c .before .before .before .before .before .before .before .before .before .before .before .before .before .before .before .before .before .before .before .before in
+    let h = below 255 64 (at-start .args .n) _ _ _ _ _ _ (at-is-unsized .ensures) (at-number .ensures) (at-if3 .left) in omega arith
 
 element-write-hints : tie.Need-element-write-hints
 element-write-hints c = search needs
 
 returns-5 : tie.Need-returns-5
 returns-5 c =
-    let at-if3 = c .before .if3 in
-    let at-number = c .before .before .number in
-    let at-find = c .before .before .before .find in
-    let at-all-print = c .before .before .before .before .before .before .all-print in
-    let at-is-unsized = c .before .before .before .before .before .before .before .is-unsized in
-    let at-if2 = c .before .before .before .before .before .before .before .before .before .if2 in
-    let at-is-out-of-order = c .before .before .before .before .before .before .before .before .before .before .is-out-of-order in
-    let at-if1 = c .before .before .before .before .before .before .before .before .before .before .before .if1 in
-    let at-e = c .before .before .before .before .before .before .before .before .before .before .before .before .before .e in
-    let at-string-end = c .before .before .before .before .before .before .before .before .before .before .before .before .before .before .before .string-end in
-    let at-start = c .before .before .before .before .before .before .before .before .before .before .before .before .before .before .before .before .before .before in
-    (λ b w g. sym (at-if3 .left) ∙ group-graded _ (at-start .pre .0) _ (at-string-end .ensures) b _ w _ (at-e .given .1) (at-if1 .left) _ (at-is-out-of-order .ensures) (at-if2 .left) _ _ _ g _ _ _ _ (at-number .ensures) (at-is-unsized .ensures) (at-all-print .ensures) (at-find .ensures), λ x. group-kept _ (at-start .pre .0) _ (at-string-end .ensures) (record { kind = at-start .args .last; groups = []; members = []; ids = [] }) _ refl _ (at-e .given .1) (at-if1 .left) _ (at-is-out-of-order .ensures) _ _ _ (below 255 64 (at-start .args .n) _ _ _ _ _ _ (at-is-unsized .ensures) (at-number .ensures) (at-if3 .left)))
+    let at-insert = c .before .insert in
+    let at-if3 = c .before .before .before .if3 in
+    let at-number = c .before .before .before .before .number in
+    let at-find = c .before .before .before .before .before .find in
+    let at-all-print = c .before .before .before .before .before .before .before .before .all-print in
+    let at-is-unsized = c .before .before .before .before .before .before .before .before .before .is-unsized in
+    let at-if2 = c .before .before .before .before .before .before .before .before .before .before .before .if2 in
+    let at-is-out-of-order = c .before .before .before .before .before .before .before .before .before .before .before .before .is-out-of-order in
+    let at-if1 = c .before .before .before .before .before .before .before .before .before .before .before .before .before .if1 in
+    let at-e = c .before .before .before .before .before .before .before .before .before .before .before .before .before .before .before .e in
+    let at-string-end = c .before .before .before .before .before .before .before .before .before .before .before .before .before .before .before .before .before .string-end in
+    let at-start = c .before .before .before .before .before .before .before .before .before .before .before .before .before .before .before .before .before .before .before .before in
+    (λ b w g. sym (at-if3 .left) ∙ group-graded _ (at-start .pre .0) _ (at-string-end .ensures) b _ w _ (at-e .given .1) (at-if1 .left) _ (at-is-out-of-order .ensures) (at-if2 .left) _ _ _ g _ (at-start .pre .1 .2) _ _ _ _ (at-number .ensures) (at-is-unsized .ensures) (at-all-print .ensures) (at-find .ensures), λ x. group-kept _ (at-start .pre .0) _ (at-string-end .ensures) (record { kind = at-start .args .last; groups = []; members = []; ids = [] }) _ refl _ (at-e .given .1) (at-if1 .left) _ (at-is-out-of-order .ensures) _ _ _ (below 255 64 (at-start .args .n) _ _ _ _ _ _ (at-is-unsized .ensures) (at-number .ensures) (at-if3 .left)) (at-start .pre .1 .0) (at-start .args .names .now) (omega arith) (at-start .pre .1 .2) _ _ _ _ (at-number .ensures) (at-if3 .left) (at-find .ensures) _ (at-insert .ensures))
 
 pub take-group-spec : {M : Type 1} → statement M
 take-group-spec =
@@ -155,6 +190,9 @@ take-group-spec =
     find-requires
     number-requires
     returns-4
+    add-from
+    add-to
+    insert-requires
     add-starts
     cast-starts
     mul-starts

@@ -1,9 +1,9 @@
 -- `take_member` equals its definition.
 use borrow.Author.Needs.{needs}
 use native.Mathlib.Omega.{arith}
-use mathlib.Core.Path.{_≡_, refl, sym, ap, _∙_}
+use mathlib.Core.Path.{sym, _∙_}
 use Rattle.text.proofs.Frames.{string-ends}
-use Rattle.keep.proofs.Members.{hash-room, place-small, member-short, member-half, member-long, member-four, member-graded, member-room, member-kept}
+use Rattle.keep.proofs.Members.{place-small, member-short, member-half, member-long, member-four, member-graded, member-room, sorted-room, spot-fits, fits-is, member-kept}
 use Rattle.keep.proofs.take_member.Statement.{statement}
 use Rattle.keep.proofs.take_member.Tie as tie
 
@@ -108,28 +108,39 @@ part-user-end c =
     let at-string-end2 = c .before .before .before .before .before .before .before .string-end2 in
     string-ends _ _ _ (at-string-end2 .ensures) _ (at-z .given .1) .2
 
+sub-key : tie.Need-sub-key
+sub-key c =
+    let at-z = c .before .before .before .before .before .before .z in
+    let at-string-end2 = c .before .before .before .before .before .before .before .before .string-end2 in
+    let h = string-ends _ _ _ (at-string-end2 .ensures) _ (at-z .given .1) in omega (arith, h .1)
+
+part-key-start : tie.Need-part-key-start
+part-key-start c =
+    let at-z = c .before .before .before .before .before .before .z in
+    let at-string-end2 = c .before .before .before .before .before .before .before .before .string-end2 in
+    let h = string-ends _ _ _ (at-string-end2 .ensures) _ (at-z .given .1) in omega (arith, h .1)
+
+part-key-end : tie.Need-part-key-end
+part-key-end c =
+    let at-z = c .before .before .before .before .before .before .z in
+    let at-string-end2 = c .before .before .before .before .before .before .before .before .string-end2 in
+    string-ends _ _ _ (at-string-end2 .ensures) _ (at-z .given .1) .2
+
 number-of-requires : tie.Need-number-of-requires
 number-of-requires c κs =
-    let at-start = c .before .before .before .before .before .before .before .before .before .before .before .before .before .before .before .before .before in
-    (at-start .pre .1 .0 .1, omega (arith, at-start .pre .1 .0 .2), at-start .pre .1 .1 .0, omega arith)
+    let at-start = c .before .before .before .before .before .before .before .before .before .before .before .before .before .before .before .before .before .before .before in
+    ((at-start .pre .1 .0 .1, omega (arith, at-start .pre .1 .0 .2), at-start .pre .1 .0 .3), (omega arith, at-start .pre .1 .1 .0))
 
 hash-requires : tie.Need-hash-requires
-hash-requires c κs =
-    let at-number-of = c .number-of in
-    let at-start = c .before .before .before .before .before .before .before .before .before .before .before .before .before .before .before .before .before .before in
-    let h = place-small _ _ _ _ _ (at-number-of .ensures) in omega (arith, h, at-start .pre .1 .0 .2)
+hash-requires c κs = search needs
 
-element-copy-out-has-member : tie.Need-element-copy-out-has-member
-element-copy-out-has-member c =
-    let at-hash = c .before .before .before .before .hash in
-    let at-number-of = c .before .before .before .before .before .number-of in
+add-p : tie.Need-add-p
+add-p c = search needs
+
+find-requires : tie.Need-find-requires
+find-requires c κs =
     let at-start = c .before .before .before .before .before .before .before .before .before .before .before .before .before .before .before .before .before .before .before .before .before .before .before in
-    hash-room _ _ _ _ _ _ _ (at-start .pre .1 .0 .2) (at-number-of .ensures) (at-hash .ensures)
-
-has-member-requires : tie.Need-has-member-requires
-has-member-requires c κs =
-    let at-start = c .before .before .before .before .before .before .before .before .before .before .before .before .before .before .before .before .before .before .before .before .before .before .before .before in
-    (at-start .pre .1 .0 .3, omega (arith, at-start .pre .1 .0 .4), omega (arith, at-start .pre .1 .0 .4))
+    (at-start .pre .1 .1 .1 .ready, omega arith, omega arith)
 
 is-unsized-requires : tie.Need-is-unsized-requires
 is-unsized-requires c κs = search needs
@@ -154,31 +165,31 @@ returns-5 c =
     let at-all-print = c .before .before .before .all-print in
     let at-is-unsized2 = c .before .before .before .before .is-unsized2 in
     let at-is-unsized = c .before .before .before .before .before .is-unsized in
-    let at-has-member = c .before .before .before .before .before .before .has-member in
-    let at-hash = c .before .before .before .before .before .before .before .before .before .before .before .before .hash in
-    let at-number-of = c .before .before .before .before .before .before .before .before .before .before .before .before .before .number-of in
-    let at-if2 = c .before .before .before .before .before .before .before .before .before .before .before .before .before .before .before .before .before .before .if2 in
-    let at-is-out-of-order = c .before .before .before .before .before .before .before .before .before .before .before .before .before .before .before .before .before .before .before .is-out-of-order in
-    let at-if1 = c .before .before .before .before .before .before .before .before .before .before .before .before .before .before .before .before .before .before .before .before .if1 in
-    let at-z = c .before .before .before .before .before .before .before .before .before .before .before .before .before .before .before .before .before .before .before .before .before .before .z in
-    let at-string-end2 = c .before .before .before .before .before .before .before .before .before .before .before .before .before .before .before .before .before .before .before .before .before .before .before .before .string-end2 in
-    let at-a = c .before .before .before .before .before .before .before .before .before .before .before .before .before .before .before .before .before .before .before .before .before .before .before .before .before .before .a in
-    let at-string-end = c .before .before .before .before .before .before .before .before .before .before .before .before .before .before .before .before .before .before .before .before .before .before .before .before .before .before .before .before .string-end in
-    let at-start = c .before .before .before .before .before .before .before .before .before .before .before .before .before .before .before .before .before .before .before .before .before .before .before .before .before .before .before .before .before .before .before in
-    (λ b w g m. member-graded _ (at-start .pre .0) _ (at-string-end .ensures) _ (at-a .given .1) _ (at-string-end2 .ensures) _ (at-z .given .1) (at-if1 .left) _ _ (at-is-out-of-order .ensures) (at-if2 .left) (at-start .args .old .now) (at-start .args .groups .now) _ (at-start .args .users .now) (at-start .args .owners .now) (at-start .args .seen .now) _ (at-start .pre .1 .1 .0) (at-start .pre .1 .1 .1) (at-start .pre .1 .1 .2) _ _ _ _ _ _ _ _ (at-is-unsized .ensures) (at-is-unsized2 .ensures) (at-all-print .ensures) (at-all-print2 .ensures) (at-number-of .ensures) (at-hash .ensures) (at-has-member .ensures) (at-number .ensures) b w g m, λ x. absurd (at-if3 .taken x))
+    let at-find = c .before .before .before .before .before .before .find in
+    let at-hash = c .before .before .before .before .before .before .before .before .before .hash in
+    let at-number-of = c .before .before .before .before .before .before .before .before .before .before .number-of in
+    let at-if2 = c .before .before .before .before .before .before .before .before .before .before .before .before .before .before .before .before .before .if2 in
+    let at-is-out-of-order = c .before .before .before .before .before .before .before .before .before .before .before .before .before .before .before .before .before .before .is-out-of-order in
+    let at-if1 = c .before .before .before .before .before .before .before .before .before .before .before .before .before .before .before .before .before .before .before .if1 in
+    let at-z = c .before .before .before .before .before .before .before .before .before .before .before .before .before .before .before .before .before .before .before .before .before .z in
+    let at-string-end2 = c .before .before .before .before .before .before .before .before .before .before .before .before .before .before .before .before .before .before .before .before .before .before .before .string-end2 in
+    let at-a = c .before .before .before .before .before .before .before .before .before .before .before .before .before .before .before .before .before .before .before .before .before .before .before .before .before .a in
+    let at-string-end = c .before .before .before .before .before .before .before .before .before .before .before .before .before .before .before .before .before .before .before .before .before .before .before .before .before .before .before .string-end in
+    let at-start = c .before .before .before .before .before .before .before .before .before .before .before .before .before .before .before .before .before .before .before .before .before .before .before .before .before .before .before .before .before .before in
+    (λ b w g m. member-graded _ (at-start .pre .0) _ (at-string-end .ensures) _ (at-a .given .1) _ (at-string-end2 .ensures) _ (at-z .given .1) (at-if1 .left) _ _ (at-is-out-of-order .ensures) (at-if2 .left) (at-start .args .old .now) (at-start .args .groups .now) _ (at-start .args .users .now) (at-start .args .owners .now) (at-start .args .kept .now) _ (at-start .pre .1 .0 .0) (at-start .pre .1 .1 .2) (at-start .pre .1 .1 .1) _ _ _ _ _ _ _ _ (at-is-unsized .ensures) (at-is-unsized2 .ensures) (at-all-print .ensures) (at-all-print2 .ensures) (at-number-of .ensures) (at-hash .ensures) (at-find .ensures) (at-number .ensures) b w g m, λ x. absurd (at-if3 .taken x))
 
 add-users : tie.Need-add-users
 add-users c =
-    let at-z = c .before .before .before .before .before .before .before .before .before .before .before .before .before .before .before .before .before .before .before .before .before .before .z in
-    let at-string-end2 = c .before .before .before .before .before .before .before .before .before .before .before .before .before .before .before .before .before .before .before .before .before .before .before .before .string-end2 in
-    let at-start = c .before .before .before .before .before .before .before .before .before .before .before .before .before .before .before .before .before .before .before .before .before .before .before .before .before .before .before .before .before .before .before in
+    let at-z = c .before .before .before .before .before .before .before .before .before .before .before .before .before .before .before .before .before .before .before .before .before .z in
+    let at-string-end2 = c .before .before .before .before .before .before .before .before .before .before .before .before .before .before .before .before .before .before .before .before .before .before .before .string-end2 in
+    let at-start = c .before .before .before .before .before .before .before .before .before .before .before .before .before .before .before .before .before .before .before .before .before .before .before .before .before .before .before .before .before .before in
     let h = string-ends _ _ _ (at-string-end2 .ensures) _ (at-z .given .1) in omega (arith, h .1, h .2, at-start .pre .1 .0 .0)
 
 cast-users : tie.Need-cast-users
 cast-users c =
-    let at-z = c .before .before .before .before .before .before .before .before .before .before .before .before .before .before .before .before .before .before .before .before .before .before .z in
-    let at-string-end2 = c .before .before .before .before .before .before .before .before .before .before .before .before .before .before .before .before .before .before .before .before .before .before .before .before .string-end2 in
-    let at-start = c .before .before .before .before .before .before .before .before .before .before .before .before .before .before .before .before .before .before .before .before .before .before .before .before .before .before .before .before .before .before .before in
+    let at-z = c .before .before .before .before .before .before .before .before .before .before .before .before .before .before .before .before .before .before .before .before .before .z in
+    let at-string-end2 = c .before .before .before .before .before .before .before .before .before .before .before .before .before .before .before .before .before .before .before .before .before .before .before .string-end2 in
+    let at-start = c .before .before .before .before .before .before .before .before .before .before .before .before .before .before .before .before .before .before .before .before .before .before .before .before .before .before .before .before .before .before in
     let h = string-ends _ _ _ (at-string-end2 .ensures) _ (at-z .given .1) in omega (arith, h .1, h .2, at-start .pre .1 .0 .0)
 
 mul-users : tie.Need-mul-users
@@ -189,18 +200,18 @@ mul-users c =
     let at-all-print = c .before .before .before .all-print in
     let at-is-unsized2 = c .before .before .before .before .is-unsized2 in
     let at-is-unsized = c .before .before .before .before .before .is-unsized in
-    let at-has-member = c .before .before .before .before .before .before .has-member in
-    let at-hash = c .before .before .before .before .before .before .before .before .before .before .before .before .hash in
-    let at-number-of = c .before .before .before .before .before .before .before .before .before .before .before .before .before .number-of in
-    let at-if2 = c .before .before .before .before .before .before .before .before .before .before .before .before .before .before .before .before .before .before .if2 in
-    let at-is-out-of-order = c .before .before .before .before .before .before .before .before .before .before .before .before .before .before .before .before .before .before .before .is-out-of-order in
-    let at-if1 = c .before .before .before .before .before .before .before .before .before .before .before .before .before .before .before .before .before .before .before .before .if1 in
-    let at-z = c .before .before .before .before .before .before .before .before .before .before .before .before .before .before .before .before .before .before .before .before .before .before .z in
-    let at-string-end2 = c .before .before .before .before .before .before .before .before .before .before .before .before .before .before .before .before .before .before .before .before .before .before .before .before .string-end2 in
-    let at-a = c .before .before .before .before .before .before .before .before .before .before .before .before .before .before .before .before .before .before .before .before .before .before .before .before .before .before .a in
-    let at-string-end = c .before .before .before .before .before .before .before .before .before .before .before .before .before .before .before .before .before .before .before .before .before .before .before .before .before .before .before .before .string-end in
-    let at-start = c .before .before .before .before .before .before .before .before .before .before .before .before .before .before .before .before .before .before .before .before .before .before .before .before .before .before .before .before .before .before .before in
-    let h = member-room _ (at-start .pre .0) _ (at-string-end .ensures) _ (at-a .given .1) _ (at-string-end2 .ensures) _ (at-z .given .1) (at-if1 .left) _ _ (at-is-out-of-order .ensures) (at-if2 .left) (at-start .args .old .now) (at-start .args .groups .now) _ (at-start .args .users .now) (at-start .args .owners .now) (at-start .args .seen .now) _ (at-start .pre .1 .1 .0) (at-start .pre .1 .1 .1) (at-start .pre .1 .1 .2) _ _ _ _ _ _ _ _ (at-is-unsized .ensures) (at-is-unsized2 .ensures) (at-all-print .ensures) (at-all-print2 .ensures) (at-number-of .ensures) (at-hash .ensures) (at-has-member .ensures) (at-number .ensures) (at-if3 .left) in omega arith
+    let at-find = c .before .before .before .before .before .before .find in
+    let at-hash = c .before .before .before .before .before .before .before .before .before .hash in
+    let at-number-of = c .before .before .before .before .before .before .before .before .before .before .number-of in
+    let at-if2 = c .before .before .before .before .before .before .before .before .before .before .before .before .before .before .before .before .before .if2 in
+    let at-is-out-of-order = c .before .before .before .before .before .before .before .before .before .before .before .before .before .before .before .before .before .before .is-out-of-order in
+    let at-if1 = c .before .before .before .before .before .before .before .before .before .before .before .before .before .before .before .before .before .before .before .if1 in
+    let at-z = c .before .before .before .before .before .before .before .before .before .before .before .before .before .before .before .before .before .before .before .before .before .z in
+    let at-string-end2 = c .before .before .before .before .before .before .before .before .before .before .before .before .before .before .before .before .before .before .before .before .before .before .before .string-end2 in
+    let at-a = c .before .before .before .before .before .before .before .before .before .before .before .before .before .before .before .before .before .before .before .before .before .before .before .before .before .a in
+    let at-string-end = c .before .before .before .before .before .before .before .before .before .before .before .before .before .before .before .before .before .before .before .before .before .before .before .before .before .before .before .string-end in
+    let at-start = c .before .before .before .before .before .before .before .before .before .before .before .before .before .before .before .before .before .before .before .before .before .before .before .before .before .before .before .before .before .before in
+    let h = member-room _ (at-start .pre .0) _ (at-string-end .ensures) _ (at-a .given .1) _ (at-string-end2 .ensures) _ (at-z .given .1) (at-if1 .left) _ _ (at-is-out-of-order .ensures) (at-if2 .left) (at-start .args .old .now) (at-start .args .groups .now) _ (at-start .args .users .now) (at-start .args .owners .now) (at-start .args .kept .now) _ (at-start .pre .1 .0 .0) (at-start .pre .1 .1 .2) (at-start .pre .1 .1 .1) _ _ _ _ _ _ _ _ (at-is-unsized .ensures) (at-is-unsized2 .ensures) (at-all-print .ensures) (at-all-print2 .ensures) (at-number-of .ensures) (at-hash .ensures) (at-find .ensures) (at-number .ensures) (at-if3 .left) in omega arith
 
 element-write-users : tie.Need-element-write-users
 element-write-users c =
@@ -210,23 +221,23 @@ element-write-users c =
     let at-all-print = c .before .before .before .all-print in
     let at-is-unsized2 = c .before .before .before .before .is-unsized2 in
     let at-is-unsized = c .before .before .before .before .before .is-unsized in
-    let at-has-member = c .before .before .before .before .before .before .has-member in
-    let at-hash = c .before .before .before .before .before .before .before .before .before .before .before .before .hash in
-    let at-number-of = c .before .before .before .before .before .before .before .before .before .before .before .before .before .number-of in
-    let at-if2 = c .before .before .before .before .before .before .before .before .before .before .before .before .before .before .before .before .before .before .if2 in
-    let at-is-out-of-order = c .before .before .before .before .before .before .before .before .before .before .before .before .before .before .before .before .before .before .before .is-out-of-order in
-    let at-if1 = c .before .before .before .before .before .before .before .before .before .before .before .before .before .before .before .before .before .before .before .before .if1 in
-    let at-z = c .before .before .before .before .before .before .before .before .before .before .before .before .before .before .before .before .before .before .before .before .before .before .z in
-    let at-string-end2 = c .before .before .before .before .before .before .before .before .before .before .before .before .before .before .before .before .before .before .before .before .before .before .before .before .string-end2 in
-    let at-a = c .before .before .before .before .before .before .before .before .before .before .before .before .before .before .before .before .before .before .before .before .before .before .before .before .before .before .a in
-    let at-string-end = c .before .before .before .before .before .before .before .before .before .before .before .before .before .before .before .before .before .before .before .before .before .before .before .before .before .before .before .before .string-end in
-    let at-start = c .before .before .before .before .before .before .before .before .before .before .before .before .before .before .before .before .before .before .before .before .before .before .before .before .before .before .before .before .before .before .before in
-    member-room _ (at-start .pre .0) _ (at-string-end .ensures) _ (at-a .given .1) _ (at-string-end2 .ensures) _ (at-z .given .1) (at-if1 .left) _ _ (at-is-out-of-order .ensures) (at-if2 .left) (at-start .args .old .now) (at-start .args .groups .now) _ (at-start .args .users .now) (at-start .args .owners .now) (at-start .args .seen .now) _ (at-start .pre .1 .1 .0) (at-start .pre .1 .1 .1) (at-start .pre .1 .1 .2) _ _ _ _ _ _ _ _ (at-is-unsized .ensures) (at-is-unsized2 .ensures) (at-all-print .ensures) (at-all-print2 .ensures) (at-number-of .ensures) (at-hash .ensures) (at-has-member .ensures) (at-number .ensures) (at-if3 .left)
+    let at-find = c .before .before .before .before .before .before .find in
+    let at-hash = c .before .before .before .before .before .before .before .before .before .hash in
+    let at-number-of = c .before .before .before .before .before .before .before .before .before .before .number-of in
+    let at-if2 = c .before .before .before .before .before .before .before .before .before .before .before .before .before .before .before .before .before .if2 in
+    let at-is-out-of-order = c .before .before .before .before .before .before .before .before .before .before .before .before .before .before .before .before .before .before .is-out-of-order in
+    let at-if1 = c .before .before .before .before .before .before .before .before .before .before .before .before .before .before .before .before .before .before .before .if1 in
+    let at-z = c .before .before .before .before .before .before .before .before .before .before .before .before .before .before .before .before .before .before .before .before .before .z in
+    let at-string-end2 = c .before .before .before .before .before .before .before .before .before .before .before .before .before .before .before .before .before .before .before .before .before .before .before .string-end2 in
+    let at-a = c .before .before .before .before .before .before .before .before .before .before .before .before .before .before .before .before .before .before .before .before .before .before .before .before .before .a in
+    let at-string-end = c .before .before .before .before .before .before .before .before .before .before .before .before .before .before .before .before .before .before .before .before .before .before .before .before .before .before .before .string-end in
+    let at-start = c .before .before .before .before .before .before .before .before .before .before .before .before .before .before .before .before .before .before .before .before .before .before .before .before .before .before .before .before .before .before in
+    member-room _ (at-start .pre .0) _ (at-string-end .ensures) _ (at-a .given .1) _ (at-string-end2 .ensures) _ (at-z .given .1) (at-if1 .left) _ _ (at-is-out-of-order .ensures) (at-if2 .left) (at-start .args .old .now) (at-start .args .groups .now) _ (at-start .args .users .now) (at-start .args .owners .now) (at-start .args .kept .now) _ (at-start .pre .1 .0 .0) (at-start .pre .1 .1 .2) (at-start .pre .1 .1 .1) _ _ _ _ _ _ _ _ (at-is-unsized .ensures) (at-is-unsized2 .ensures) (at-all-print .ensures) (at-all-print2 .ensures) (at-number-of .ensures) (at-hash .ensures) (at-find .ensures) (at-number .ensures) (at-if3 .left)
 
 cast-owners : tie.Need-cast-owners
 cast-owners c =
-    let at-number-of = c .before .before .before .before .before .before .before .before .before .before .before .before .before .number-of in
-    let at-start = c .before .before .before .before .before .before .before .before .before .before .before .before .before .before .before .before .before .before .before .before .before .before .before .before .before .before .before .before .before .before .before in
+    let at-number-of = c .before .before .before .before .before .before .before .before .before .before .number-of in
+    let at-start = c .before .before .before .before .before .before .before .before .before .before .before .before .before .before .before .before .before .before .before .before .before .before .before .before .before .before .before .before .before .before in
     let h = place-small _ _ _ _ _ (at-number-of .ensures) in omega (arith, h, at-start .pre .1 .0 .2)
 
 element-write-owners : tie.Need-element-write-owners
@@ -237,9 +248,42 @@ element-write-owners c =
     let at-all-print = c .before .before .before .all-print in
     let at-is-unsized2 = c .before .before .before .before .is-unsized2 in
     let at-is-unsized = c .before .before .before .before .before .is-unsized in
-    let at-has-member = c .before .before .before .before .before .before .has-member in
-    let at-hash = c .before .before .before .before .before .before .before .before .before .before .before .before .hash in
-    let at-number-of = c .before .before .before .before .before .before .before .before .before .before .before .before .before .number-of in
+    let at-find = c .before .before .before .before .before .before .find in
+    let at-hash = c .before .before .before .before .before .before .before .before .before .hash in
+    let at-number-of = c .before .before .before .before .before .before .before .before .before .before .number-of in
+    let at-if2 = c .before .before .before .before .before .before .before .before .before .before .before .before .before .before .before .before .before .if2 in
+    let at-is-out-of-order = c .before .before .before .before .before .before .before .before .before .before .before .before .before .before .before .before .before .before .is-out-of-order in
+    let at-if1 = c .before .before .before .before .before .before .before .before .before .before .before .before .before .before .before .before .before .before .before .if1 in
+    let at-z = c .before .before .before .before .before .before .before .before .before .before .before .before .before .before .before .before .before .before .before .before .before .z in
+    let at-string-end2 = c .before .before .before .before .before .before .before .before .before .before .before .before .before .before .before .before .before .before .before .before .before .before .before .string-end2 in
+    let at-a = c .before .before .before .before .before .before .before .before .before .before .before .before .before .before .before .before .before .before .before .before .before .before .before .before .before .a in
+    let at-string-end = c .before .before .before .before .before .before .before .before .before .before .before .before .before .before .before .before .before .before .before .before .before .before .before .before .before .before .before .string-end in
+    let at-start = c .before .before .before .before .before .before .before .before .before .before .before .before .before .before .before .before .before .before .before .before .before .before .before .before .before .before .before .before .before .before in
+    member-room _ (at-start .pre .0) _ (at-string-end .ensures) _ (at-a .given .1) _ (at-string-end2 .ensures) _ (at-z .given .1) (at-if1 .left) _ _ (at-is-out-of-order .ensures) (at-if2 .left) (at-start .args .old .now) (at-start .args .groups .now) _ (at-start .args .users .now) (at-start .args .owners .now) (at-start .args .kept .now) _ (at-start .pre .1 .0 .0) (at-start .pre .1 .1 .2) (at-start .pre .1 .1 .1) _ _ _ _ _ _ _ _ (at-is-unsized .ensures) (at-is-unsized2 .ensures) (at-all-print .ensures) (at-all-print2 .ensures) (at-number-of .ensures) (at-hash .ensures) (at-find .ensures) (at-number .ensures) (at-if3 .left)
+
+add-begin : tie.Need-add-begin
+add-begin c =
+    let at-start = c .before .before .before .before .before .before .before .before .before .before .before .before .before .before .before .before .before .before .before .before .before .before .before .before .before .before .before .before .before .before in
+    omega (arith, at-start .pre .1 .0 .0)
+
+add-to : tie.Need-add-to
+add-to c =
+    let at-z = c .before .before .before .before .before .before .before .before .before .before .before .before .before .before .before .before .before .before .before .before .before .z in
+    let at-string-end2 = c .before .before .before .before .before .before .before .before .before .before .before .before .before .before .before .before .before .before .before .before .before .before .before .string-end2 in
+    let at-start = c .before .before .before .before .before .before .before .before .before .before .before .before .before .before .before .before .before .before .before .before .before .before .before .before .before .before .before .before .before .before in
+    let h = string-ends _ _ _ (at-string-end2 .ensures) _ (at-z .given .1) in omega (arith, h .1, h .2, at-start .pre .1 .0 .0)
+
+add-requires : tie.Need-add-requires
+add-requires c κs =
+    let at-if3 = c .before .if3 in
+    let at-number = c .before .before .number in
+    let at-all-print2 = c .before .before .before .all-print2 in
+    let at-all-print = c .before .before .before .before .all-print in
+    let at-is-unsized2 = c .before .before .before .before .before .is-unsized2 in
+    let at-is-unsized = c .before .before .before .before .before .before .is-unsized in
+    let at-find = c .before .before .before .before .before .before .before .find in
+    let at-hash = c .before .before .before .before .before .before .before .before .before .before .hash in
+    let at-number-of = c .before .before .before .before .before .before .before .before .before .before .before .number-of in
     let at-if2 = c .before .before .before .before .before .before .before .before .before .before .before .before .before .before .before .before .before .before .if2 in
     let at-is-out-of-order = c .before .before .before .before .before .before .before .before .before .before .before .before .before .before .before .before .before .before .before .is-out-of-order in
     let at-if1 = c .before .before .before .before .before .before .before .before .before .before .before .before .before .before .before .before .before .before .before .before .if1 in
@@ -248,35 +292,29 @@ element-write-owners c =
     let at-a = c .before .before .before .before .before .before .before .before .before .before .before .before .before .before .before .before .before .before .before .before .before .before .before .before .before .before .a in
     let at-string-end = c .before .before .before .before .before .before .before .before .before .before .before .before .before .before .before .before .before .before .before .before .before .before .before .before .before .before .before .before .string-end in
     let at-start = c .before .before .before .before .before .before .before .before .before .before .before .before .before .before .before .before .before .before .before .before .before .before .before .before .before .before .before .before .before .before .before in
-    member-room _ (at-start .pre .0) _ (at-string-end .ensures) _ (at-a .given .1) _ (at-string-end2 .ensures) _ (at-z .given .1) (at-if1 .left) _ _ (at-is-out-of-order .ensures) (at-if2 .left) (at-start .args .old .now) (at-start .args .groups .now) _ (at-start .args .users .now) (at-start .args .owners .now) (at-start .args .seen .now) _ (at-start .pre .1 .1 .0) (at-start .pre .1 .1 .1) (at-start .pre .1 .1 .2) _ _ _ _ _ _ _ _ (at-is-unsized .ensures) (at-is-unsized2 .ensures) (at-all-print .ensures) (at-all-print2 .ensures) (at-number-of .ensures) (at-hash .ensures) (at-has-member .ensures) (at-number .ensures) (at-if3 .left)
-
-element-write-seen : tie.Need-element-write-seen
-element-write-seen c =
-    let at-hash = c .before .before .before .before .before .before .before .before .before .before .before .before .hash in
-    let at-number-of = c .before .before .before .before .before .before .before .before .before .before .before .before .before .number-of in
-    let at-start = c .before .before .before .before .before .before .before .before .before .before .before .before .before .before .before .before .before .before .before .before .before .before .before .before .before .before .before .before .before .before .before in
-    hash-room _ _ _ _ _ _ _ (at-start .pre .1 .0 .2) (at-number-of .ensures) (at-hash .ensures)
+    let h = string-ends _ _ _ (at-string-end2 .ensures) _ (at-z .given .1) in (fits-is _ (at-start .pre .0) _ (at-string-end .ensures) _ (at-a .given .1) _ (at-string-end2 .ensures) _ (at-z .given .1) (at-if1 .left) _ _ (at-is-out-of-order .ensures) (at-if2 .left) (at-start .args .old .now) (at-start .args .groups .now) _ (at-start .args .users .now) (at-start .args .owners .now) (at-start .args .kept .now) _ (at-start .pre .1 .0 .0) (at-start .pre .1 .1 .2) (at-start .pre .1 .1 .1) _ _ _ _ _ _ _ _ (at-is-unsized .ensures) (at-is-unsized2 .ensures) (at-all-print .ensures) (at-all-print2 .ensures) (at-number-of .ensures) (at-hash .ensures) (at-find .ensures) (at-number .ensures), sorted-room _ (at-start .pre .0) _ (at-string-end .ensures) _ (at-a .given .1) _ (at-string-end2 .ensures) _ (at-z .given .1) (at-if1 .left) _ _ (at-is-out-of-order .ensures) (at-if2 .left) (at-start .args .old .now) (at-start .args .groups .now) _ (at-start .args .users .now) (at-start .args .owners .now) (at-start .args .kept .now) _ (at-start .pre .1 .0 .0) (at-start .pre .1 .1 .2) (at-start .pre .1 .1 .1) _ _ _ _ _ _ _ _ (at-is-unsized .ensures) (at-is-unsized2 .ensures) (at-all-print .ensures) (at-all-print2 .ensures) (at-number-of .ensures) (at-hash .ensures) (at-find .ensures) (at-number .ensures) (at-if3 .left), omega arith, omega arith, spot-fits _ (at-start .pre .0) _ (at-string-end .ensures) _ (at-a .given .1) _ (at-string-end2 .ensures) _ (at-z .given .1) (at-if1 .left) _ _ (at-is-out-of-order .ensures) (at-if2 .left) (at-start .args .old .now) (at-start .args .groups .now) _ (at-start .args .users .now) (at-start .args .owners .now) (at-start .args .kept .now) _ (at-start .pre .1 .0 .0) (at-start .pre .1 .1 .2) (at-start .pre .1 .1 .1) _ _ _ _ _ _ _ _ (at-is-unsized .ensures) (at-is-unsized2 .ensures) (at-all-print .ensures) (at-all-print2 .ensures) (at-number-of .ensures) (at-hash .ensures) (at-find .ensures) (at-number .ensures), omega (arith, h .1, h .2, at-start .pre .1 .0 .0), omega (arith, h .1, h .2, at-start .pre .1 .0 .0))
 
 returns-6 : tie.Need-returns-6
 returns-6 c =
-    let at-if3 = c .if3 in
-    let at-number = c .before .number in
-    let at-all-print2 = c .before .before .all-print2 in
-    let at-all-print = c .before .before .before .all-print in
-    let at-is-unsized2 = c .before .before .before .before .is-unsized2 in
-    let at-is-unsized = c .before .before .before .before .before .is-unsized in
-    let at-has-member = c .before .before .before .before .before .before .has-member in
-    let at-hash = c .before .before .before .before .before .before .before .before .before .before .before .before .hash in
-    let at-number-of = c .before .before .before .before .before .before .before .before .before .before .before .before .before .number-of in
-    let at-if2 = c .before .before .before .before .before .before .before .before .before .before .before .before .before .before .before .before .before .before .if2 in
-    let at-is-out-of-order = c .before .before .before .before .before .before .before .before .before .before .before .before .before .before .before .before .before .before .before .is-out-of-order in
-    let at-if1 = c .before .before .before .before .before .before .before .before .before .before .before .before .before .before .before .before .before .before .before .before .if1 in
-    let at-z = c .before .before .before .before .before .before .before .before .before .before .before .before .before .before .before .before .before .before .before .before .before .before .z in
-    let at-string-end2 = c .before .before .before .before .before .before .before .before .before .before .before .before .before .before .before .before .before .before .before .before .before .before .before .before .string-end2 in
-    let at-a = c .before .before .before .before .before .before .before .before .before .before .before .before .before .before .before .before .before .before .before .before .before .before .before .before .before .before .a in
-    let at-string-end = c .before .before .before .before .before .before .before .before .before .before .before .before .before .before .before .before .before .before .before .before .before .before .before .before .before .before .before .before .string-end in
-    let at-start = c .before .before .before .before .before .before .before .before .before .before .before .before .before .before .before .before .before .before .before .before .before .before .before .before .before .before .before .before .before .before .before in
-    (λ b w g m. sym (at-if3 .left) ∙ member-graded _ (at-start .pre .0) _ (at-string-end .ensures) _ (at-a .given .1) _ (at-string-end2 .ensures) _ (at-z .given .1) (at-if1 .left) _ _ (at-is-out-of-order .ensures) (at-if2 .left) (at-start .args .old .now) (at-start .args .groups .now) _ (at-start .args .users .now) (at-start .args .owners .now) (at-start .args .seen .now) _ (at-start .pre .1 .1 .0) (at-start .pre .1 .1 .1) (at-start .pre .1 .1 .2) _ _ _ _ _ _ _ _ (at-is-unsized .ensures) (at-is-unsized2 .ensures) (at-all-print .ensures) (at-all-print2 .ensures) (at-number-of .ensures) (at-hash .ensures) (at-has-member .ensures) (at-number .ensures) b w g m, λ x. member-kept _ (at-start .pre .0) _ (at-string-end .ensures) _ (at-a .given .1) _ (at-string-end2 .ensures) _ (at-z .given .1) (at-if1 .left) _ _ (at-is-out-of-order .ensures) (at-if2 .left) (at-start .args .old .now) (at-start .args .groups .now) _ (at-start .args .users .now) (at-start .args .owners .now) (at-start .args .seen .now) _ (at-start .pre .1 .1 .0) (at-start .pre .1 .1 .1) (at-start .pre .1 .1 .2) _ _ _ _ _ _ _ _ (at-is-unsized .ensures) (at-is-unsized2 .ensures) (at-all-print .ensures) (at-all-print2 .ensures) (at-number-of .ensures) (at-hash .ensures) (at-has-member .ensures) (at-number .ensures) (at-if3 .left))
+    let at-add = c .add in
+    let at-if3 = c .before .before .if3 in
+    let at-number = c .before .before .before .number in
+    let at-all-print2 = c .before .before .before .before .all-print2 in
+    let at-all-print = c .before .before .before .before .before .all-print in
+    let at-is-unsized2 = c .before .before .before .before .before .before .is-unsized2 in
+    let at-is-unsized = c .before .before .before .before .before .before .before .is-unsized in
+    let at-find = c .before .before .before .before .before .before .before .before .find in
+    let at-hash = c .before .before .before .before .before .before .before .before .before .before .before .hash in
+    let at-number-of = c .before .before .before .before .before .before .before .before .before .before .before .before .number-of in
+    let at-if2 = c .before .before .before .before .before .before .before .before .before .before .before .before .before .before .before .before .before .before .before .if2 in
+    let at-is-out-of-order = c .before .before .before .before .before .before .before .before .before .before .before .before .before .before .before .before .before .before .before .before .is-out-of-order in
+    let at-if1 = c .before .before .before .before .before .before .before .before .before .before .before .before .before .before .before .before .before .before .before .before .before .if1 in
+    let at-z = c .before .before .before .before .before .before .before .before .before .before .before .before .before .before .before .before .before .before .before .before .before .before .before .z in
+    let at-string-end2 = c .before .before .before .before .before .before .before .before .before .before .before .before .before .before .before .before .before .before .before .before .before .before .before .before .before .string-end2 in
+    let at-a = c .before .before .before .before .before .before .before .before .before .before .before .before .before .before .before .before .before .before .before .before .before .before .before .before .before .before .before .a in
+    let at-string-end = c .before .before .before .before .before .before .before .before .before .before .before .before .before .before .before .before .before .before .before .before .before .before .before .before .before .before .before .before .before .string-end in
+    let at-start = c .before .before .before .before .before .before .before .before .before .before .before .before .before .before .before .before .before .before .before .before .before .before .before .before .before .before .before .before .before .before .before .before in
+    (λ b w g m. sym (at-if3 .left) ∙ member-graded _ (at-start .pre .0) _ (at-string-end .ensures) _ (at-a .given .1) _ (at-string-end2 .ensures) _ (at-z .given .1) (at-if1 .left) _ _ (at-is-out-of-order .ensures) (at-if2 .left) (at-start .args .old .now) (at-start .args .groups .now) _ (at-start .args .users .now) (at-start .args .owners .now) (at-start .args .kept .now) _ (at-start .pre .1 .0 .0) (at-start .pre .1 .1 .2) (at-start .pre .1 .1 .1) _ _ _ _ _ _ _ _ (at-is-unsized .ensures) (at-is-unsized2 .ensures) (at-all-print .ensures) (at-all-print2 .ensures) (at-number-of .ensures) (at-hash .ensures) (at-find .ensures) (at-number .ensures) b w g m, λ x. member-kept _ (at-start .pre .0) _ (at-string-end .ensures) _ (at-a .given .1) _ (at-string-end2 .ensures) _ (at-z .given .1) (at-if1 .left) _ _ (at-is-out-of-order .ensures) (at-if2 .left) (at-start .args .old .now) (at-start .args .groups .now) _ (at-start .args .users .now) (at-start .args .owners .now) (at-start .args .kept .now) _ (at-start .pre .1 .0 .0) (at-start .pre .1 .1 .2) (at-start .pre .1 .1 .1) _ _ _ _ _ _ _ _ (at-is-unsized .ensures) (at-is-unsized2 .ensures) (at-all-print .ensures) (at-all-print2 .ensures) (at-number-of .ensures) (at-hash .ensures) (at-find .ensures) (at-number .ensures) (at-if3 .left) _ (at-add .ensures))
 
 pub take-member-spec : {M : Type 1} → statement M
 take-member-spec =
@@ -300,10 +338,13 @@ take-member-spec =
     sub-user
     part-user-start
     part-user-end
+    sub-key
+    part-key-start
+    part-key-end
     number-of-requires
     hash-requires
-    element-copy-out-has-member
-    has-member-requires
+    add-p
+    find-requires
     is-unsized-requires
     is-unsized-requires-2
     all-print-requires
@@ -316,5 +357,7 @@ take-member-spec =
     element-write-users
     cast-owners
     element-write-owners
-    element-write-seen
+    add-begin
+    add-to
+    add-requires
     returns-6)

@@ -1,6 +1,5 @@
 -- `holder_of` equals its definition.
 use borrow.Author.Needs.{needs}
-use mathlib.Core.Path.{_≡_, refl, sym, ap, _∙_}
 use Rattle.text.specs.Test.{if_then_else_}
 use Rattle.keep_rule.proofs.holder_of.Statement.{statement}
 use Rattle.keep_rule.proofs.holder_of.Tie as tie

@@ -1,13 +1,11 @@
 -- `decode` stores the bytes of the leading pairs of digits. The invariant: those of the rest are pending.
 use borrow.Author.Needs.{needs}
 use native.Mathlib.Omega.{arith}
-use mathlib.Core.Path.{_≡_, refl, sym, ap, _∙_}
-use Prim.Native.Nat.{_+_, _-_, _*_, _/_, _≤_}
-use lib.ListN.{length, drop, length-drop}
-use Rattle.text.proofs.Filling.{Pending, fill-start, fill-set, fill-byte, fill-done}
-use Rattle.text.proofs.Bytes.{hexValue-small}
+use Prim.Native.Nat.{_-_, _≤_}
+use lib.ListN.{length, drop}
+use Rattle.text.proofs.Filling.{Pending}
 use Rattle.line.specs.Lines.{digits}
-use Rattle.line.proofs.Digits.{digits-turn, digits-stop, digits-end, digits-half, decode-start, decode-turn, decode-room, decode-done, value-fits}
+use Rattle.line.proofs.Digits.{digits-turn, digits-stop, digits-end, decode-start, decode-turn, decode-room, decode-done, value-fits}
 use Rattle.line.proofs.decode.Statement.{statement}
 use Rattle.line.proofs.decode.Tie as tie
 

@@ -1,7 +1,6 @@
 -- `read_line` equals its definition: the digits are decoded, and an LF must follow them.
 use borrow.Author.Needs.{needs}
 use native.Mathlib.Omega.{arith}
-use mathlib.Core.Path.{_≡_, refl, sym, ap, _∙_}
 use Rattle.line.proofs.FirstLine.{room, at-end, at-other, at-empty, at-LF}
 use Rattle.line.proofs.read_line.Statement.{statement}
 use Rattle.line.proofs.read_line.Tie as tie

@@ -1,9 +1,8 @@
 -- `find` equals its definition. The invariant: the place among all is i and the place among the rest.
 use borrow.Author.Needs.{needs}
 use native.Mathlib.Omega.{arith}
-use mathlib.Core.Path.{_≡_, refl, sym, ap, _∙_}
+use mathlib.Core.Path.{_≡_, sym, _∙_}
 use Prim.Native.Nat.{_+_, _-_, _≤_}
-use lib.ListN.{length}
 use Rattle.rows.specs.Strings.{place, stringsIn}
 use Rattle.rows.proofs.Strings.{find-start, find-pass, find-hit, find-end}
 use Rattle.rows.proofs.find.Statement.{statement}

@@ -1,7 +1,6 @@
 -- `is_at` equals its definition.
 use borrow.Author.Needs.{needs}
 use native.Mathlib.Omega.{arith}
-use mathlib.Core.Path.{_≡_, refl, sym, ap, _∙_}
 use Rattle.place.specs.Place.{strEnd, strIn}
 use Rattle.rows.proofs.Strings.{room}
 use Rattle.rows.proofs.is_at.Statement.{statement}

@@ -1,6 +1,6 @@
 use borrow.Author.Needs.{needs}
 use native.Mathlib.Omega.{arith}
-use mathlib.Core.Path.{sym, ap, _∙_}
+use mathlib.Core.Path.{sym, _∙_}
 use Rattle.upload.proofs.Offered.{upload-refused, upload-accepted, upload-room, upload-short}
 use Rattle.upload.proofs.upload.Statement.{statement}
 use Rattle.upload.proofs.upload.Tie as tie

@@ -1,6 +1,5 @@
 use borrow.Author.Needs.{needs}
 use native.Mathlib.Omega.{arith}
-use mathlib.Core.Path.{sym, _∙_}
 use Rattle.verdict.specs.Order.{rankBy}
 use Rattle.verdict.proofs.Order.{unless-small}
 use Rattle.verdict.proofs.rank.Statement.{statement}

@@ -1,5 +1,4 @@
 use borrow.Author.Needs.{needs}
-use mathlib.Core.Path.{_∙_}
 use Rattle.verdicts.specs.Refused.{refusedBy}
 use Rattle.verdicts.proofs.refused.Statement.{statement}
 use Rattle.verdicts.proofs.refused.Tie as tie

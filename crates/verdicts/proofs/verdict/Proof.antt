@@ -1,9 +1,7 @@
 use borrow.Author.Needs.{needs}
 use native.Mathlib.Omega.{arith}
-use mathlib.Core.Path.{sym, ap, _∙_}
-use lib.ListN.{length}
+use mathlib.Core.Path.{sym, _∙_}
 use Rattle.table.specs.Text.{tableOf}
-use Rattle.verdict_text.specs.Ready.{Groups}
 use Rattle.groups.proofs.Calls.{outcome-kept, front-is, count-requires}
 use Rattle.verdicts.proofs.Holding.{ready, grouped, rooms, either-kept, refused-is}
 use Rattle.verdicts.proofs.verdict.Statement.{statement}

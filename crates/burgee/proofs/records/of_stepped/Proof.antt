@@ -1,6 +1,4 @@
 use borrow.Author.Needs.{needs}
-use mathlib.Core.Path.{ap}
-use Prim.Native.Nat.{ℕ}
 use Rattle.burgee.proofs.records.of_stepped.Statement.{statement}
 use Rattle.burgee.proofs.records.of_stepped.Tie as tie
 

@@ -2,7 +2,7 @@ use native.Mathlib.Omega.{arith}
 use borrow.Author.Tests.{not-true, not-false}
 use mathlib.Core.Path.{sym, ap, _∙_}
 use mathlib.Core.Bool.{not}
-use Rattle.place.specs.Place.{strEnd, strIn}
+use Rattle.place.specs.Place.{strEnd}
 use Rattle.place.proofs.Cursor.{str-grows}
 use Rattle.compare.proofs.Keys.{wild-in, star-free, conflict-name, conflict-value}
 use Rattle.compare.proofs.key.conflicts.Statement.{statement}

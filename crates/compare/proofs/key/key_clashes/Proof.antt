@@ -2,7 +2,6 @@ use borrow.Author.Needs.{needs}
 use mathlib.Core.Path.{_≡_, refl, sym, _∙_}
 use Prim.Native.Nat.{_≤_}
 use lib.ListN.{length}
-use Rattle.text.specs.Test.{any}
 use Rattle.path.specs.Path.{Key}
 use Rattle.verdict.specs.Cover.{given}
 use Rattle.verdict.specs.Join.{conflict, clashes}

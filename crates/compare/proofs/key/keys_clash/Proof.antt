@@ -5,7 +5,7 @@ use lib.ListN.{length}
 use Rattle.text.specs.Test.{any}
 use Rattle.verdict.specs.Cover.{given}
 use Rattle.verdict.specs.Join.{clashes}
-use Rattle.place.specs.Place.{keyIn, keysEnd, keysIn}
+use Rattle.place.specs.Place.{keysEnd, keysIn}
 use Rattle.place.proofs.Cursor.{keys-room, keys-again}
 use Rattle.compare.proofs.Keys.{any-hit, any-miss, any-end}
 use Rattle.compare.proofs.key.keys_clash.Statement.{statement}

@@ -1,12 +1,9 @@
 use native.Mathlib.Omega.{arith}
-use mathlib.Core.Path.{_≡_, refl, sym, ap, _∙_}
-use mathlib.Core.Bool.{Bool, xor}
-use mathlib.Core.Option.{some}
-use Prim.Native.Nat.{_+_, _-_, _≤_, zero-le}
-use lib.ListN.{length, getD}
-use borrow.Author.Tests.{not-true, not-false, eq-eqb, ne-eqb}
+use mathlib.Core.Path.{_≡_, refl}
+use mathlib.Core.Bool.{Bool}
+use Prim.Native.Nat.{_-_, _≤_, zero-le}
+use borrow.Author.Tests.{eq-eqb}
 use Rattle.text.proofs.Tests.{clash}
-use Rattle.path.specs.Path.{Path}
 use Rattle.table.specs.Table.{Rule}
 use Rattle.verdict.specs.Order.{better, choose, prefer}
 use Rattle.verdict.proofs.Order.{better-order}

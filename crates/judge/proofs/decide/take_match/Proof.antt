@@ -3,7 +3,7 @@ use mathlib.Core.Path.{sym, _∙_}
 use native.Mathlib.Numerals.{add-one}
 use borrow.Author.Tests.{not-true, not-false, eq-eqb, ne-eqb}
 use Rattle.verdict.specs.Cover.{covers}
-use Rattle.verdict.specs.Order.{better, earlier}
+use Rattle.verdict.specs.Order.{better}
 use Rattle.place.specs.Place.{elemsIn}
 use Rattle.table.specs.Table.{Rule}
 use Rattle.judge.proofs.Parts.{path-bounds, covers-in, rank-small}

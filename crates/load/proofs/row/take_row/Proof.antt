@@ -1,11 +1,8 @@
 -- `take_row` equals its definition: each kind by its own function.
 use borrow.Author.Needs.{needs}
 use native.Mathlib.Omega.{arith}
-use mathlib.Core.Path.{_≡_, refl, sym, ap, _∙_}
-use mathlib.Core.Bool.{false}
-use Rattle.text.specs.Test.{twice}
-use Rattle.text.specs.String.{same}
-use Rattle.load.proofs.Rows.{front-long, old-room, both-room, part-some, all-distinct, row-version, row-group, row-member, row-rule, row-unknown}
+use mathlib.Core.Path.{refl, sym}
+use Rattle.load.proofs.Rows.{front-long, both-room, part-some, all-distinct, all-named, members-in, ids-in, row-version, row-group, row-member, row-rule, row-unknown}
 use Rattle.load.proofs.row.take_row.Statement.{statement}
 use Rattle.load.proofs.row.take_row.Tie as tie
 
@@ -42,38 +39,38 @@ returns c =
 
 take-group-requires : tie.Need-take-group-requires
 take-group-requires c κs =
-    let at-if2 = c .before .before .if2 in
-    let at-start = c .before .before .before .before .before .before .before .before in
-    ((part-some _ _ _ (at-start .pre .0), at-if2 .taken), (old-room _ _ _ (at-start .pre .0), (at-start .pre .1 .2) .holds .groups-laid, (at-start .pre .1 .2) .holds .few .0))
+    let at-if2 = c .before .before .before .if2 in
+    let at-start = c .before .before .before .before .before .before .before .before .before in
+    ((part-some _ _ _ (at-start .pre .0), at-if2 .taken), (both-room _ _ _ (at-start .pre .0), (at-start .pre .1 .2) .holds .few .0, all-named (at-start .pre .1 .2)))
 
 returns-2 : tie.Need-returns-2
 returns-2 c =
     let at-take-group = c .take-group in
-    let at-if2 = c .before .before .before .if2 in
+    let at-if2 = c .before .before .before .before .if2 in
     λ b rules H. row-group H _ _ (at-if2 .taken) (at-take-group .ensures .0) (at-take-group .ensures .1)
 
 take-member-requires : tie.Need-take-member-requires
 take-member-requires c κs =
-    let at-if3 = c .before .before .before .before .before .if3 in
-    let at-start = c .before .before .before .before .before .before .before .before .before .before .before .before in
-    ((part-some _ _ _ (at-start .pre .0), at-if3 .taken), ((both-room _ _ _ (at-start .pre .0), (at-start .pre .1 .2) .holds .groups-laid, (at-start .pre .1 .2) .holds .few .0, (at-start .pre .1 .2) .holds .users-laid, (at-start .pre .1 .2) .holds .few .1), (all-distinct (at-start .pre .1 .2), (at-start .pre .1 .2) .holds .owned, (at-start .pre .1 .2) .members-marked)))
+    let at-if3 = c .before .before .before .before .before .before .if3 in
+    let at-start = c .before .before .before .before .before .before .before .before .before .before .before .before .before in
+    ((part-some _ _ _ (at-start .pre .0), at-if3 .taken), ((both-room _ _ _ (at-start .pre .0), (at-start .pre .1 .2) .holds .groups-laid, (at-start .pre .1 .2) .holds .few .0, all-distinct (at-start .pre .1 .2)), (all-named (at-start .pre .1 .2), members-in (at-start .pre .1 .2), (at-start .pre .1 .2) .sets-long .0)))
 
 returns-3 : tie.Need-returns-3
 returns-3 c =
     let at-take-member = c .take-member in
-    let at-if3 = c .before .before .before .before .before .before .if3 in
+    let at-if3 = c .before .before .before .before .before .before .before .if3 in
     λ b rules H. row-member H _ _ (at-if3 .taken) (at-take-member .ensures .0) (at-take-member .ensures .1)
 
 take-rule-requires : tie.Need-take-rule-requires
 take-rule-requires c κs =
-    let at-if4 = c .before .before .before .before .before .before .if4 in
-    let at-start = c .before .before .before .before .before .before .before .before .before .before .before .before .before .before in
-    ((part-some _ _ _ (at-start .pre .0), at-if4 .taken), (both-room _ _ _ (at-start .pre .0), (at-start .pre .1 .2) .holds .groups-laid, (at-start .pre .1 .2) .holds .few .0, (at-start .pre .1 .2) .holds .ids-laid, (at-start .pre .1 .2) .holds .few .2, (at-start .pre .1 .2) .ids-marked, all-distinct (at-start .pre .1 .2)))
+    let at-if4 = c .before .before .before .before .before .before .before .if4 in
+    let at-start = c .before .before .before .before .before .before .before .before .before .before .before .before .before .before .before in
+    ((part-some _ _ _ (at-start .pre .0), at-if4 .taken), ((both-room _ _ _ (at-start .pre .0), (at-start .pre .1 .2) .holds .groups-laid, (at-start .pre .1 .2) .holds .few .0, all-distinct (at-start .pre .1 .2)), (all-named (at-start .pre .1 .2), ids-in (at-start .pre .1 .2), (at-start .pre .1 .2) .sets-long .1)))
 
 returns-4 : tie.Need-returns-4
 returns-4 c =
     let at-take-rule = c .take-rule in
-    let at-if4 = c .before .before .before .before .before .before .before .if4 in
+    let at-if4 = c .before .before .before .before .before .before .before .before .if4 in
     λ b rules H. row-rule H _ _ (at-if4 .taken) (at-take-rule .ensures .0) (at-take-rule .ensures .1)
 
 returns-5 : tie.Need-returns-5

@@ -1,7 +1,7 @@
 -- `scan` equals its definition. Each flag gathers what its test finds.
 use borrow.Author.Needs.{needs}
 use native.Mathlib.Omega.{arith}
-use mathlib.Core.Path.{_≡_, refl, sym, _∙_}
+use mathlib.Core.Path.{_≡_, refl, sym}
 use Prim.Native.Nat.{_-_, _≤_}
 use lib.ListN.{length, drop}
 use Rattle.text.specs.Test.{_or_, if_then_else_, any}

@@ -1,6 +1,6 @@
 -- `is_path` equals its definition.
 use borrow.Author.Needs.{needs}
-use mathlib.Core.Path.{_≡_, sym, _∙_}
+use mathlib.Core.Path.{sym}
 use Rattle.text.specs.Test.{_and_}
 use Rattle.path.proofs.Walks.{no-path, a-path}
 use Rattle.path.proofs.frame.is_path.Statement.{statement}

@@ -1,6 +1,6 @@
 -- `key_fault` equals its definition.
 use borrow.Author.Needs.{needs}
-use mathlib.Core.Path.{_∙_, sym}
+use mathlib.Core.Path.{sym}
 use Rattle.path.proofs.Grades.{key-grade}
 use Rattle.path.proofs.frame.key_fault.Statement.{statement}
 use Rattle.path.proofs.frame.key_fault.Tie as tie

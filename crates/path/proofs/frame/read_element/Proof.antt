@@ -1,7 +1,7 @@
 -- `read_element` equals its definition.
 use borrow.Author.Needs.{needs}
 use native.Mathlib.Omega.{arith}
-use mathlib.Core.Path.{_≡_, sym, _∙_, ap}
+use mathlib.Core.Path.{sym}
 use Rattle.text.proofs.Frames.{string-ends}
 use Rattle.path.proofs.Walks.{element-nameless, element-countless, element-keyless, element-graded}
 use Rattle.path.proofs.frame.read_element.Statement.{statement}

@@ -1,7 +1,7 @@
 -- `read_elements` equals its definition: the number so far is the smallest of the elements passed.
 use borrow.Author.Needs.{needs}
 use native.Mathlib.Omega.{arith}
-use mathlib.Core.Path.{_≡_, refl, sym, _∙_}
+use mathlib.Core.Path.{_≡_, sym, _∙_}
 use Prim.Native.Nat.{_≤_}
 use native.Mathlib.Nat.{min-le-left}
 use Rattle.text.specs.Frame.{times}

@@ -1,7 +1,7 @@
 -- `read_path` equals its definition.
 use borrow.Author.Needs.{needs}
 use native.Mathlib.Omega.{arith}
-use mathlib.Core.Path.{_≡_, sym, _∙_}
+use mathlib.Core.Path.{sym}
 use Rattle.path.proofs.Walks.{path-countless, path-unread, path-graded}
 use Rattle.path.proofs.frame.read_path.Statement.{statement}
 use Rattle.path.proofs.frame.read_path.Tie as tie

@@ -1,8 +1,6 @@
 -- `read_item` equals its definition.
 use borrow.Author.Needs.{needs}
-use mathlib.Core.Path.{_≡_, sym, _∙_, ap}
-use mathlib.Core.Bool.{true, false}
-use Rattle.path_text.specs.Text.{isMark}
+use mathlib.Core.Path.{sym}
 use Rattle.path_text.proofs.Reading.{item-past, item-end, item-plain, item-mark, item-bad}
 use Rattle.path_text.proofs.reader.read_item.Statement.{statement}
 use Rattle.path_text.proofs.reader.read_item.Tie as tie

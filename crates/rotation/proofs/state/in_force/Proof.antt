@@ -1,5 +1,5 @@
 use borrow.Author.Needs.{needs}
-use mathlib.Core.Path.{sym, ap, _∙_}
+use mathlib.Core.Path.{sym, _∙_}
 use Rattle.rotation.proofs.Tests.{force-candidate, force-live, force-factory}
 use Rattle.rotation.proofs.state.in_force.Statement.{statement}
 use Rattle.rotation.proofs.state.in_force.Tie as tie

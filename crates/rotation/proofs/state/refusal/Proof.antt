@@ -1,5 +1,5 @@
 use borrow.Author.Needs.{needs}
-use mathlib.Core.Path.{sym, ap, _∙_}
+use mathlib.Core.Path.{sym, _∙_}
 use Rattle.rotation.proofs.Tests.{refused-short, refused-bad, refused-own}
 use Rattle.rotation.proofs.state.refusal.Statement.{statement}
 use Rattle.rotation.proofs.state.refusal.Tie as tie

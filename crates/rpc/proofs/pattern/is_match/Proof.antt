@@ -1,7 +1,7 @@
 -- `rpc::pattern::is_match` meets its contract.
 use borrow.Author.Needs.{needs}
 use native.Mathlib.Omega.{arith}
-use mathlib.Core.Path.{_≡_, refl, sym, ap, _∙_}
+use mathlib.Core.Path.{refl, sym, _∙_}
 use denote.Ref.{now}
 use Rattle.policy.proofs.Strings.{first-inside, last-inside}
 use Rattle.rpc.proofs.Patterns.{match-any, match-suffix, match-prefix, match-exact}

@@ -1,7 +1,7 @@
 -- `byte_from` meets its contract. The invariant: a cut from here on is a cut from `at` on.
 use borrow.Author.Needs.{needs}
 use native.Mathlib.Omega.{arith}
-use mathlib.Core.Path.{_≡_, refl}
+use mathlib.Core.Path.{_≡_}
 use Prim.Native.Nat.{ℕ, _-_, _≤_}
 use lib.ListN.{length, drop}
 use Rattle.rpc.specs.Request.{cutAt}

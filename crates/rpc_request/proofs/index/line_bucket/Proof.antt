@@ -1,7 +1,5 @@
 -- `line_bucket` answers the bucket of its line.
 use borrow.Author.Needs.{needs}
-use mathlib.Core.Path.{sym, ap, _∙_}
-use Rattle.rpc_request.specs.Index.{bucketOf}
 use Rattle.rpc_request.proofs.Values.{line-bucket}
 use Rattle.rpc_request.proofs.index.line_bucket.Statement.{statement}
 use Rattle.rpc_request.proofs.index.line_bucket.Tie as tie

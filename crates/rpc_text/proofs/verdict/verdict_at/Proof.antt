@@ -1,6 +1,5 @@
 -- `verdict_at` equals its definition.
 use borrow.Author.Needs.{needs}
-use mathlib.Core.Path.{sym, _∙_}
 use Prim.Native.Nat.{ℕ}
 use lib.ListN.{length-replicate, getD-replicate}
 use Rattle.rpc_text.proofs.Answers.{verdict-denied, verdict-permitted, verdict-default}

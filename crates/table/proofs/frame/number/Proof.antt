@@ -1,5 +1,4 @@
 -- `number` equals its definition.
-use mathlib.Core.Path.{_≡_, refl, sym, ap, _∙_}
 use borrow.Author.Tests.{eq-eqb, ne-eqb}
 use Rattle.text.specs.Test.{if_then_else_}
 use Rattle.table.specs.Walk.{merged}

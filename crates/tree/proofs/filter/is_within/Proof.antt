@@ -1,6 +1,5 @@
 use borrow.Author.Needs.{needs}
-use mathlib.Core.Path.{_≡_, refl, sym, ap, _∙_}
-use Rattle.text.proofs.Tests.{clash}
+use mathlib.Core.Path.{ap}
 use borrow.Author.Tests.{eqb-false}
 use Rattle.bloom.specs.declared.Filter.{Filter}
 use Rattle.bloom.specs.Bloom.{join}

@@ -1,5 +1,5 @@
 use native.Mathlib.Omega.{arith}
-use mathlib.Core.Path.{_≡_, sym, ap₂, _∙_}
+use mathlib.Core.Path.{sym, ap₂, _∙_}
 use borrow.Author.Tests.{not-true}
 use Rattle.place.proofs.Cursor.{path-room}
 use Rattle.bloom.specs.Bloom.{join}

@@ -1,8 +1,7 @@
 use borrow.Author.Needs.{needs}
 use native.Mathlib.Omega.{arith}
-use mathlib.Core.Path.{_≡_, refl, sym, ap, _∙_}
-use mathlib.Core.Bool.{Bool, xor}
-use lib.ListN.{getD}
+use mathlib.Core.Path.{sym, _∙_}
+use mathlib.Core.Bool.{xor}
 use borrow.Author.Tests.{not-true, not-false}
 use Rattle.table.specs.Table.{Rule}
 use Rattle.verdict.specs.Order.{earlier}

@@ -1,5 +1,3 @@
-use mathlib.Core.Path.{_≡_, refl}
-use mathlib.Core.Bool.{Bool, true, false, not, xor}
 use Rattle.tree.proofs.Weights.{xor-true, xor-false}
 use Rattle.tree.proofs.witness.unlike.Statement.{statement}
 use Rattle.tree.proofs.witness.unlike.Tie as tie

@@ -1,7 +1,6 @@
 use borrow.Author.Needs.{needs}
 use native.Mathlib.Omega.{arith}
-use mathlib.Core.Path.{sym, ap, _∙_}
-use lib.ListN.{length, length-replicate}
+use mathlib.Core.Path.{ap, _∙_}
 use Rattle.place.specs.Place.{pathIn}
 use Rattle.place.proofs.Cursor.{path-room}
 use Rattle.verdict_text.specs.Calls.{spread}

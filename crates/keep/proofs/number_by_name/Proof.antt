@@ -1,0 +1,65 @@
+-- `number_by_name` equals its definition.
+use native.Mathlib.Omega.{arith}
+use Rattle.keep.proofs.Names.{name-absent, name-present}
+use Rattle.keep.proofs.number_by_name.Statement.{statement}
+use Rattle.keep.proofs.number_by_name.Tie as tie
+
+find-requires : tie.Need-find-requires
+find-requires c κs =
+    let at-start = c .before .before .before .before in
+    at-start .pre .3 .sorted
+
+returns : tie.Need-returns
+returns c =
+    let at-if1 = c .if1 in
+    let at-find = c .before .before .find in
+    let at-start = c .before .before .before .before .before .before .before in
+    name-absent _ _ _ _ _ (at-start .pre .3) _ (at-find .ensures) (at-if1 .taken)
+
+mul-k : tie.Need-mul-k
+mul-k c =
+    let at-if1 = c .if1 in
+    let at-find = c .before .before .find in
+    let at-start = c .before .before .before .before .before .before .before in
+    let h = name-present _ _ _ _ _ (at-start .pre .3) _ (at-find .ensures) (at-if1 .left) in omega (arith, h)
+
+shared-slice-read-k : tie.Need-shared-slice-read-k
+shared-slice-read-k c =
+    let at-if1 = c .before .if1 in
+    let at-find = c .before .before .before .find in
+    let at-start = c .before .before .before .before .before .before .before .before in
+    name-present _ _ _ _ _ (at-start .pre .3) _ (at-find .ensures) (at-if1 .left)
+
+cast-k : tie.Need-cast-k
+cast-k c =
+    let at-shared-slice-known5 = c .shared-slice-known5 in
+    let at-find = c .before .before .before .find in
+    omega (arith, at-shared-slice-known5 .given (at-find .result .at))
+
+number-at-requires : tie.Need-number-at-requires
+number-at-requires c κs =
+    let at-start = c .before .before .before .before .before .before .before .before in
+    at-start .pre .1
+
+find-from-requires : tie.Need-find-from-requires
+find-from-requires c κs =
+    let at-start = c .before .before .before .before .before .before .before .before .before in
+    (at-start .pre .0, at-start .pre .1, at-start .pre .2)
+
+returns-2 : tie.Need-returns-2
+returns-2 c =
+    let at-find-from = c .find-from in
+    at-find-from .ensures
+
+pub number-by-name-spec : {M : Type 1} → statement M
+number-by-name-spec =
+    tie.close
+    (tie.spec
+    find-requires
+    returns
+    mul-k
+    shared-slice-read-k
+    cast-k
+    number-at-requires
+    find-from-requires
+    returns-2)

@@ -1,2 +1,0 @@
-pub mod Parsing
-pub mod Answers

@@ -1,2 +1,0 @@
--- What the program reads of a vector.
-pub mod Vector
