@@ -4,13 +4,16 @@ use std::hint::black_box;
 
 use burgee_rust::boundary::table as proved;
 use burgee_rust::generate::table::{
-    table_of_colliding_groups, table_of_colliding_members, table_of_length, table_of_members, table_of_rules,
-    table_of_shuffled_members,
+    table_of_colliding_groups, table_of_colliding_ids, table_of_colliding_members, table_of_length, table_of_members,
+    table_of_rules, table_of_shuffled_members,
 };
 use burgee_rust::measure::Table;
 use burgee_rust::random::Random;
 use burgee_rust::table::{check_table, group_count};
 use burgee_rust::word;
+
+/// With four letters more, 27 bytes: 512 such members fill a table.
+const BEGIN_ALIKE: &str = "a-user-that-begins-like";
 
 fn main() {
     let mut random = Random::new(0xB2);
@@ -19,8 +22,16 @@ fn main() {
         ("256 rules", table_of_rules(&mut random, 256, 39)),
         ("64 groups, 512 members", table_of_members(64, 512)),
         ("64 groups, 512 members shuffled", table_of_shuffled_members(&mut random, 64, 512)),
-        ("64 groups of one hash, 512 members", table_of_colliding_groups(64, 512)),
-        ("1 group, 512 members of one hash", table_of_colliding_members(512)),
+        ("64 groups of one hash, 512 members", table_of_colliding_groups("", 64, 512)),
+        ("64 groups of one hash that begin alike, 512 members", table_of_colliding_groups("group-of-", 64, 512)),
+        ("64 long groups of one hash that begin alike", table_of_colliding_groups(&"g".repeat(60), 64, 0)),
+        ("1 group, 512 members of one hash", table_of_colliding_members("", 512, false)),
+        ("1 group, 512 members of one hash that begin alike", table_of_colliding_members(BEGIN_ALIKE, 512, false)),
+        ("the same from the last name to the first", table_of_colliding_members(BEGIN_ALIKE, 512, true)),
+        (
+            "256 rules, long ids of one hash that begin alike",
+            table_of_colliding_ids("rule-id-that-begins-like-all", 256),
+        ),
     ];
 
     let printed = Table::new("Check of a table");

@@ -6,8 +6,8 @@ use burgee_rust::compare::{group_count, table_check};
 use burgee_rust::generate::damage::damage;
 use burgee_rust::generate::path::{put_fault, Element, Key, Path, FAULTS};
 use burgee_rust::generate::table::{
-    dense_table, hex_line, table_of_colliding_groups, table_of_colliding_members, table_of_length,
-    table_of_shuffled_members, table_text, Line, Rule, GROUP_NAMES, USERS,
+    dense_table, hex_line, table_of_colliding_groups, table_of_colliding_ids, table_of_colliding_members,
+    table_of_length, table_of_shuffled_members, table_text, Line, Rule, GROUP_NAMES, USERS,
 };
 use burgee_rust::generate::table_fault::LINE_FAULTS;
 use burgee_rust::random::Random;
@@ -438,14 +438,17 @@ fn names_that_are_nearly_the_same() {
     assert!(GROUP_NAMES.contains(&"u") && USERS.contains(&"g"), "a name stands for a user and for a group");
 }
 
-/// Groups and members that the proved library's hashes cannot tell apart, and members in
-/// any order; each line once more is refused.
+/// Groups, members and ids that the proved library's hashes cannot tell apart, and members in
+/// any order; each member or rule once more is refused.
 #[test]
 fn names_of_one_hash() {
     let mut random = Random::new(0x29);
     let tables = [
-        table_of_colliding_groups(64, 256),
-        table_of_colliding_members(256),
+        table_of_colliding_groups("", 64, 256),
+        table_of_colliding_groups("group-of-", 64, 256),
+        table_of_colliding_members("", 256, false),
+        table_of_colliding_members("a-user-that-begins-like", 256, true),
+        table_of_colliding_ids("rule-id-that-begins-like-all", 255),
         table_of_shuffled_members(&mut random, 64, 256),
     ];
     for text in tables {
@@ -454,7 +457,7 @@ fn names_of_one_hash() {
             group_count(&text, user.as_bytes());
         }
         let lines: Vec<&[u8]> = text.split_inclusive(|b| *b == b'\n').collect();
-        for line in lines.iter().filter(|line| line.starts_with(b"03")).step_by(7) {
+        for line in lines.iter().filter(|line| line[1] == lines[lines.len() - 1][1]).step_by(7) {
             let again = [&text, *line].concat();
             assert_eq!(table_check(&again), refusal(8, lines.len() + 1));
         }

@@ -324,17 +324,30 @@ pub fn table_of_shuffled_members(random: &mut Random, groups: usize, members: us
     table_text(&lines_of_members(&names, &members))
 }
 
-/// The same with groups whose names have one hash in the proved library.
-pub fn table_of_colliding_groups(groups: usize, members: usize) -> Vec<u8> {
-    let names = colliding_names(groups);
+/// The same with groups whose names have one hash in the proved library, and begin alike.
+pub fn table_of_colliding_groups(common: &str, groups: usize, members: usize) -> Vec<u8> {
+    let names = colliding_names("", common, groups);
     table_text(&lines_of_members(&names, &numbered_members(&names, members)))
 }
 
-/// A good table of one group, whose members have one hash in the proved library.
-pub fn table_of_colliding_members(members: usize) -> Vec<u8> {
+/// A good table of one group, whose members have one hash in the proved library, and begin alike; `down` from the last name to the first.
+pub fn table_of_colliding_members(common: &str, members: usize, down: bool) -> Vec<u8> {
     let group = String::from("g");
-    let members: Vec<_> = colliding_names(members).into_iter().map(|user| (group.clone(), user)).collect();
+    // A member's hash is that of its bytes in the frame: S group, S user.
+    let before = format!("\u{1}g{}", char::from((common.len() + 4) as u8));
+    let mut users = colliding_names(&before, common, members);
+    if down {
+        users.reverse();
+    }
+    let members: Vec<_> = users.into_iter().map(|user| (group.clone(), user)).collect();
     table_text(&lines_of_members(&[group], &members))
+}
+
+/// A good table of rules whose ids have one hash in the proved library, and begin alike.
+pub fn table_of_colliding_ids(common: &str, rules: usize) -> Vec<u8> {
+    let mut lines = vec![Line::version("v1")];
+    lines.extend(colliding_names("", common, rules).iter().rev().map(|id| rule_of_u(1, id, Path::default())));
+    table_text(&lines)
 }
 
 fn numbered_members(groups: &[String], members: usize) -> Vec<(String, String)> {
@@ -349,11 +362,13 @@ fn lines_of_members(groups: &[String], members: &[(String, String)]) -> Vec<Line
     lines
 }
 
-/// Different names of one length that have one hash, found by trial.
-fn colliding_names(count: usize) -> Vec<String> {
-    let name = |n: usize| (0..4).map(|at| char::from(b'0' + (n >> (6 * at) & 63) as u8)).collect::<String>();
-    let first = proved_hash(&name(0));
-    (0..).map(name).filter(|name| proved_hash(name) == first).take(count).collect()
+/// Different names of one length, rising, that begin alike and have one hash after the bytes before them, found by trial.
+fn colliding_names(before: &str, common: &str, count: usize) -> Vec<String> {
+    let letter = |n: usize, at: usize| char::from(b'0' + (n >> (6 * at) & 63) as u8);
+    let name = |n: usize| format!("{common}{}", (0..4).rev().map(|at| letter(n, at)).collect::<String>());
+    let hash = |name: &str| proved_hash(&format!("{before}{name}"));
+    let first = hash(&name(0));
+    (0..1 << 24).map(name).filter(|name| hash(name) == first).take(count).collect()
 }
 
 /// The proved library's hash of a name.
