@@ -1,3 +1,4 @@
+pub mod Fronts
 pub mod Strings
 pub mod Places
 pub mod Inserting
