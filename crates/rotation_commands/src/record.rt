@@ -8,14 +8,20 @@ fn word(a: u8, b: u8, c: u8, d: u8) -> u32 {
     a as u32 + b as u32 * 256 + c as u32 * 65536 + d as u32 * 16777216
 }
 
+fn word_at(b: &[u8; 21], at: usize) -> u32
+    requires { ⌜ at < 18 ⌝ }
+{
+    word(b[at], b[at + 1], b[at + 2], b[at + 3])
+}
+
 // The record that 20 bytes hold; the byte after them is not looked at.
 pub fn of_bytes(b: &[u8; 21]) -> Record {
     Record {
-        kind: word(b[0], b[1], b[2], b[3]),
-        live_slot: word(b[4], b[5], b[6], b[7]),
-        live_len: word(b[8], b[9], b[10], b[11]),
-        rotating: word(b[12], b[13], b[14], b[15]),
-        candidate_len: word(b[16], b[17], b[18], b[19]),
+        kind: word_at(b, 0),
+        live_slot: word_at(b, 4),
+        live_len: word_at(b, 8),
+        rotating: word_at(b, 12),
+        candidate_len: word_at(b, 16),
     }
 }
 
