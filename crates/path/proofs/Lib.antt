@@ -1,4 +1,3 @@
 pub mod Grades
 pub mod Classes
-pub mod Walks
 pub mod Bytes

@@ -1,4 +1,4 @@
--- The answers of the programs that walk over path bytes, said of what is read there.
+-- What the programs that walk over path bytes find, said of what is read there.
 use Prim.Native.Nat.{ℕ}
 use mathlib.Core.Bool.{Bool, false, _||_}
 use mathlib.Core.List.{List}
@@ -11,8 +11,6 @@ use Rattle.text.specs.Refusal.{clear}
 use Rattle.path.specs.Path.{Key, Elem, Path}
 use Rattle.path.specs.Bytes.{path}
 use Rattle.path.specs.Faults.{unsized, keyOver, elemOver, outsideName, outsideValue, keyStray, elemStray, starred, halfWild, keyMisplaced, elemMisplaced, sameName, grade, goodPath}
-use Rattle.path.specs.declared.frame.Walk.{Walk}
-use Rattle.path.specs.declared.frame.Walk.the-variants.{To, Unread}
 
 abbrev pub unsizedBy : ℕ → Bool
 unsizedBy n = eqb n 0 || ltb 64 n
@@ -48,11 +46,6 @@ aloneGrade k = keyGrade (k .name) (k .value) false
 -- a part that gets no number
 abbrev pub good : {A : Type 0} → (A → ℕ) → A → Bool
 good g a = eqb (g a) clear
-
--- the number, and where reading goes on
-unfoldable pub walked : {A : Type 0} → (A → ℕ) → Parsed A → Walk
-walked g (got a t) = To (g a) t
-walked g unread = Unread
 
 -- b, or one of the keys has the name
 unfoldable pub hasName : Bool → Str → Parsed (List Key) → Bool

@@ -1,3 +1,2 @@
 // Paths in their bytes.
 pub mod fault;
-pub mod frame;

@@ -217,7 +217,7 @@ fn read_keys(text: &[u8], at: usize, out: &mut [u8], to: usize) -> Stored
         left -= 1;
     }
     let count = 4 - left;
-    if path::frame::has_twice(&out[start..q], 0, count) {
+    if path_frame::has_twice(&out[start..q], 0, count) {
         return Stored::Unread;
     }
     out[to] = count as u8;

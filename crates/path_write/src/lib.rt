@@ -155,7 +155,7 @@ fn write_apart(f: &[u8], out: &mut [u8]) -> Filled
 pub fn write_text(f: &[u8], out: &mut [u8]) -> Filled
     ensures { λ r. ⌜ (r ≡ answer (now (out .entry)) (textFor (now (f .entry)))) × (now (out .exit) ≡ lent (now (out .entry)) (textFor (now (f .entry)))) ⌝ }
 {
-    if !path::frame::is_path(f) {
+    if !path_frame::is_path(f) {
         return Filled::Refused(22);
     }
     // no text is more than twice as long as its bytes

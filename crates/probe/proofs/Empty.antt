@@ -16,7 +16,7 @@ use Rattle.judge.specs.Rules.{rulesIn}
 use Rattle.table.specs.declared.Checked.the-variants.{Accepted}
 use Rattle.verdict_text.specs.Calls.{pathAnswer, treeAnswer}
 use Rattle.verdict_text.specs.Either.{oneOf}
-use Rattle.verdict_text.specs.Ready.{Ready, Groups}
+use Rattle.verdicts.specs.Ready.{Ready, Groups}
 
 abbrev pub empty : Table
 empty = record { version = []; time = []; groups = []; members = []; rules = [] }

@@ -25,7 +25,7 @@ fn factory(user: &[u8], mode: u32, origin: &[u8], path: &[u8], whole: bool) -> V
     let f = [0u8; 1];
     let starts = [0u16; 1];
     let holders = [0u8; 1];
-    verdict_text::answer::call(&f, &starts, &holders, 0, 0, user, mode, origin, path, whole)
+    verdicts::loaded::call(&f, &starts, &holders, 0, 0, user, mode, origin, path, whole)
 }
 
 // By the table that stands in the store from `start` to `end`, whatever the answer.

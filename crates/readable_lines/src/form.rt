@@ -13,7 +13,7 @@ fn convert_part(packing: bool, c: u8, s: &[u8], at: usize, out: &mut [u8], to: u
     ensures { λ r. ⌜ Puts (longest c) (partOf (partsBy packing) c) (now (s .entry)) at (now (out .entry)) to (now (out .exit)) r ⌝ }
 {
     if packing {
-        return readable_parts::packed::part(c, s, at, out, to);
+        return readable_packed::part(c, s, at, out, to);
     }
     readable_parts::shown::part(c, s, at, out, to)
 }

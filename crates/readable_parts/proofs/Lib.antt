@@ -2,4 +2,3 @@ pub mod Stored
 pub mod Rest
 pub mod Digits
 pub mod Showing
-pub mod Packing

@@ -1,4 +1,3 @@
-// The parts of a readable line: shown as text, and packed as the bytes of a frame.
+// The parts of a readable line, shown as text.
 pub mod hex;
-pub mod packed;
 pub mod shown;

@@ -15,10 +15,10 @@ use Rattle.text.specs.Frame.{endOf}
 use Rattle.text.specs.declared.frame.End.{End}
 use Rattle.text.specs.declared.frame.End.the-variants as ends
 use Rattle.text.proofs.Frames.{byte-got, byte-unread, string-ends, string-misses}
-use Rattle.path.specs.Walk.{walked}
-use Rattle.path.specs.declared.frame.Walk.{Walk}
-use Rattle.path.specs.declared.frame.Walk.the-variants as walks
-use Rattle.path.proofs.Walks.{walked-to, walked-not}
+use Rattle.path_frame.specs.Walked.{walked}
+use Rattle.path_frame.specs.declared.Walk.{Walk}
+use Rattle.path_frame.specs.declared.Walk.the-variants as walks
+use Rattle.path_frame.proofs.Walks.{walked-to, walked-not}
 use Rattle.path.specs.Path.{Path}
 use Rattle.path.specs.Bytes.{path}
 use Rattle.path.specs.Faults.{pathRefusal}

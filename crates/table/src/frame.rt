@@ -7,7 +7,7 @@ ghost use Rattle.text.specs.String.{Str};
 ghost use Rattle.table.specs.Frame.{version, entryOf};
 ghost use Rattle.table.specs.Refusal.{Earlier, framed, outOfOrder, refusal};
 ghost use Rattle.table.specs.Walk.{merged, unsizedBy, RuleRead};
-use path::frame::Walk;
+use path_frame::Walk;
 use text::frame::End;
 
 pub fn is_out_of_order(last: u8, kind: u8) -> bool
@@ -108,7 +108,7 @@ pub fn read_rule(f: &[u8]) -> RuleFrame
     let End::At(origin) = o else {
         return RuleFrame::Unread;
     };
-    let p = path::frame::read_path(f, origin);
+    let p = path_frame::read_path(f, origin);
     let Walk::To { fault, next } = p else {
         return RuleFrame::Unread;
     };

@@ -17,7 +17,6 @@ use Rattle.table.specs.declared.Checked.{Checked}
 use Rattle.table.specs.declared.Checked.the-variants as checked
 use Rattle.verdict.specs.Order.{Numbered}
 use Rattle.verdict.specs.Verdict.{Request, decider, Tree, ALL, NONE, MIXED, tree}
-use Rattle.verdict_text.specs.Ready.{asked}
 use Rattle.verdict_text.specs.declared.PathAnswer.{PathAnswer}
 use Rattle.verdict_text.specs.declared.PathAnswer.the-variants as path
 use Rattle.verdict_text.specs.declared.TreeAnswer.{TreeAnswer}
@@ -50,6 +49,9 @@ requestRefusal user mode origin text =
 unfoldable pub spelled : Option Path → Path
 spelled none = []
 spelled (some p) = p
+
+abbrev pub asked : Str → ℕ → Str → Path → Request
+asked user mode origin p = record { user = user; mode = mode; origin = origin; path = p }
 
 -- "A request has a user, a mode, an origin and path text."
 unfoldable pub request : Str → ℕ → Str → Str → Request

@@ -19,7 +19,7 @@ use Rattle.groups.proofs.Sets.{has-lists}
 use Rattle.groups.proofs.Calls.{front-is, outcome-refused}
 use Rattle.verdict.specs.Verdict.{decider, tree}
 use Rattle.judge.specs.Rules.{ruleIn, rulesIn, Laid}
-use Rattle.verdict_text.specs.Ready.{Ready, Groups}
+use Rattle.verdicts.specs.Ready.{Ready, Groups}
 use Rattle.verdict_text.specs.Calls.{requestRefusal, request, pathAnswer, pathVerdict, treeAnswer, treeVerdict}
 use Rattle.verdict_text.specs.Either.{oneOf, refusedAs}
 use Rattle.verdict_text.specs.declared.Verdict.{Verdict}

@@ -1,2 +1,4 @@
+pub mod Found
+pub mod Spelled
 pub mod RuleBytes
 pub mod Holding

@@ -8,6 +8,8 @@ use verdict_text::PathAnswer;
 use verdict_text::TreeAnswer;
 use verdict_text::Verdict;
 
+pub mod loaded;
+
 // A table's own refusal.
 fn refused(l: Loaded, whole: bool) -> Verdict
     ensures { λ r. ⌜ r ≡ refusedBy whole l ⌝ }
@@ -51,7 +53,7 @@ pub fn verdict(
     };
     let f = &buf[..used];
     let set = groups::memberships(f, &users, &owners, counts.members, user);
-    verdict_text::answer::call(
+    crate::loaded::call(
         f,
         &starts,
         &holders,
