@@ -13,7 +13,7 @@ use Rattle.place.specs.Place.{strEnd, strIn}
 use Rattle.place.proofs.Cursor.{str-grows}
 use Rattle.judge.specs.Rules.{idAt, originAt, pathAt, ruleIn, ruleEnd}
 use Rattle.judge.proofs.Parts.{rule-room}
-use Rattle.groups.specs.Set.{hasOf}
+use Rattle.membership.specs.Set.{hasOf}
 use Rattle.concern.specs.Concern.{concernsBy, appliesBy}
 
 module _ (f : List ℕ) (s : ℕ) where

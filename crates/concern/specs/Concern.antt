@@ -8,7 +8,7 @@ use lib.ListN.{getD}
 use Rattle.text.specs.Test.{_and_, if_then_else_}
 use Rattle.text.specs.String.{Str, same}
 use Rattle.table.specs.Table.{Rule}
-use Rattle.groups.specs.Set.{hasOf}
+use Rattle.membership.specs.Set.{hasOf}
 use Rattle.judge.specs.Rules.{ruleIn}
 
 -- of a rule whose subject, if it is a group, has the number g

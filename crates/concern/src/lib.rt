@@ -15,7 +15,7 @@ pub fn concerns_at(f: &[u8], s: usize, g: GroupNumber, set: u64, user: &[u8]) ->
     ensures { λ r. ⌜ r ≡ concernsBy set (g .0) (now (user .entry)) (ruleIn (now (f .entry)) s) ⌝ }
 {
     if f[s + 2] == 1 {
-        return groups::has(set, g);
+        return membership::has(set, g);
     }
     let a = s + 4;
     let d = place::str_end(f, s + 3);
@@ -68,7 +68,7 @@ pub fn mark(
     let mut i = 0;
     while i < n {
         let s = starts[i] as usize;
-        let g = groups::group_of(holders, RuleNumber(i as u16));
+        let g = membership::group_of(holders, RuleNumber(i as u16));
         on[i] = mark_at(f, s, g, set, user, mode, origin);
         i += 1;
     }

@@ -18,8 +18,8 @@ use Rattle.table.specs.declared.Checked.the-variants as checked
 use Rattle.keep.specs.Held.{memberIn, membersIn, Owned}
 use Rattle.load.specs.declared.row.Counts.{Counts}
 use Rattle.load.specs.Loaded.{Kept}
-use Rattle.groups.specs.Set.{hasOf, setIn}
-use Rattle.groups.proofs.Sets.{has-lists}
+use Rattle.membership.specs.Set.{hasOf, setIn}
+use Rattle.membership.proofs.Sets.{has-lists}
 use Rattle.facts.specs.declared.Rows.the-variants as rows
 use Rattle.facts.specs.Facts.{rowsOf, isListed}
 

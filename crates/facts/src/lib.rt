@@ -86,8 +86,8 @@ pub fn is_listed(text: &[u8], user: &[u8], group: GroupNumber) -> bool
     if counts.groups <= group.0 as usize {
         return false;
     }
-    let set = groups::memberships(&buf[..used], &users, &owners, counts.members, user);
-    groups::has(set, group)
+    let set = membership::memberships(&buf[..used], &users, &owners, counts.members, user);
+    membership::has(set, group)
 }
 
 // A row that has a name: a rule's is its id.

@@ -1,6 +1,5 @@
 -- The calls on a table text.
 use mathlib.Core.Path.{_≡_, refl, sym, ap, _∙_, subst}
-use mathlib.Core.Bool.{Bool, true, false, not, _||_}
 use mathlib.Core.List.{List, [], _∷_}
 use Prim.Native.Nat.{ℕ, _≤_}
 use native.Mathlib.Omega.{arith}
@@ -9,29 +8,23 @@ use lib.Dec.{eqb}
 use lib.Count.{ones, trailingZeros}
 use lib.ListN.{length, take}
 use lib.Seq.{length-take-le}
-use Rattle.text.specs.Test.{_or_, if_then_else_, all}
-use Rattle.text.specs.Byte.{isPrint}
+use Rattle.text.specs.Test.{if_then_else_}
 use Rattle.text.specs.String.{Str}
-use Rattle.text.proofs.Tests.{or-is}
-use Rattle.path.specs.Faults.{unsized}
 use Rattle.rows.specs.Strings.{Laid}
 use Rattle.rows.proofs.Grow.{strings-length}
-use Rattle.table.specs.Walk.{unsizedBy}
-use Rattle.table.specs.Refusal.{stray}
 use Rattle.table.specs.Text.{check, tableOf}
 use Rattle.table.specs.Group.{memberships, groupsOf, counted, badUser, countFor, groupCount}
-use Rattle.table.specs.declared.Checked.{Checked}
 use Rattle.table.specs.declared.Checked.the-variants as checked
 use Rattle.table.specs.declared.Counted.{Counted}
 use Rattle.table.specs.declared.Counted.the-variants.{Count, NoGroup, Declined}
-use Rattle.table.proofs.Numbers.{long-is, stray-is}
 use Rattle.keep.specs.Held.{Owned}
 use Rattle.load.specs.declared.row.Counts.{Counts}
 use Rattle.load.specs.declared.Loaded.{Loaded}
 use Rattle.load.specs.declared.Loaded.the-variants.{Table, Refused}
 use Rattle.load.specs.Loaded.{Kept, Outcome}
-use Rattle.groups.specs.Set.{setIn, countIn, declinedBy}
-use Rattle.groups.proofs.Sets.{count-is, first-is}
+use Rattle.membership.specs.Set.{setIn, countIn}
+use Rattle.groups.specs.Declined.{declinedBy}
+use Rattle.membership.proofs.Sets.{count-is, first-is}
 
 module _ (text : Str) (r : Loaded) (buf groups users owners ids starts holders : List ℕ) (o : Outcome text r buf groups users owners ids starts holders) where
   pub outcome-refused : (n l : ℕ) → r ≡ Refused n l → checked.Refused n l ≡ check text
@@ -82,22 +75,3 @@ module _ {text buf : List ℕ} {u : ℕ} {c : Counts} {groups users owners ids s
       let f : (k : ℕ) (ks : List ℕ) → memberships (t .members) user 0 (t .groups) ≡ k ∷ ks → k ≡ trailingZeros 64 s =
       λ k ks q. first-is (t .groups) (t .members) user (take u buf) users owners (c .members) (K .holds .distinct) (K .holds .members-are) own-named k ks (omega (arith, named-long, K .holds .few .0)) q in
       rw (K .accepts) (ap (λ (x : Counted). if badUser user then Declined 20 0 else x) (counted-is s (memberships (t .members) user 0 (t .groups)) e f))
-
--- ---- the steps of count_in
-
-module _ (user : Str) (set : ℕ) (a p : Bool) (x : a ≡ unsizedBy 64 (length user)) (y : p ≡ all isPrint user) where
-  bad-is : (a || not p) ≡ badUser user
-  unfolding badUser
-  bad-is = rw (x, long-is user (length user) refl, stray-is user p y) (or-is (unsized user) (stray user))
-
-  pub count-bad : (a || not p) ≡ true → Declined 20 0 ≡ countIn user set
-  unfolding countIn if_then_else_
-  count-bad h = rw (sym bad-is ∙ h)
-
-  pub count-none : (a || not p) ≡ false → ones set ≡ 0 → NoGroup ≡ countIn user set
-  unfolding countIn if_then_else_
-  count-none h e = rw (sym bad-is ∙ h, eq-eqb (ones set) 0 e)
-
-  pub count-some : (a || not p) ≡ false → (ones set ≡ 0 → ⊥) → Count (ones set) (record { 0 = trailingZeros 64 set }) ≡ countIn user set
-  unfolding countIn if_then_else_
-  count-some h e = rw (sym bad-is ∙ h, ne-eqb (ones set) 0 e)

@@ -1,71 +1,11 @@
-// The groups of a user: a set with one bit for each group; and the calls on a table text.
+// The check of a table text, and the count of a user's groups.
 ghost use mathlib.Core.Path.{_≡_};
-ghost use Prim.Native.Nat.{_≤_, _<_};
-ghost use lib.ListN.{length};
-ghost use Rattle.text.specs.Test.{if_then_else_};
-ghost use Rattle.text.specs.String.{same};
-ghost use Rattle.place.specs.Place.{strEnd, strIn};
-ghost use Rattle.rows.specs.Strings.{Laid};
-ghost use Rattle.keep.specs.Held.{Owned};
 ghost use Rattle.table.specs.Text.{check};
 ghost use Rattle.table.specs.Group.{groupCount};
-ghost use Rattle.groups.specs.Set.{insertOf, hasOf, setIn, groupOf, countIn, declinedBy};
+ghost use Rattle.groups.specs.Declined.{declinedBy};
 use load::Loaded;
 use table::Checked;
 use table::Counted;
-use table::GroupNumber;
-use table::RuleNumber;
-
-pub fn insert(set: u64, g: GroupNumber) -> u64
-    requires { ⌜ g .0 < 64 ⌝ }
-    ensures { λ r. ⌜ r ≡ insertOf set (g .0) ⌝ }
-{
-    let n = g.0;
-    set | (1 << n)
-}
-
-pub fn has(set: u64, g: GroupNumber) -> bool
-    requires { ⌜ g .0 < 64 ⌝ }
-    ensures { λ r. ⌜ r ≡ hasOf set (g .0) ⌝ }
-{
-    let n = g.0;
-    (set >> n) & 1 == 1
-}
-
-// The group of a rule of a group.
-pub fn group_of(holders: &[u8], rule: RuleNumber) -> GroupNumber
-    requires { ⌜ rule .0 < length (now holders) ⌝ }
-    ensures { λ r. ⌜ r ≡ groupOf (now (holders .entry)) rule ⌝ }
-{
-    let k = rule.0 as usize;
-    GroupNumber(holders[k])
-}
-
-// The group is put in where the string at `at` is the user.
-fn join(set: u64, g: GroupNumber, f: &[u8], at: usize, user: &[u8]) -> u64
-    requires { ⌜ (g .0 < 64) × (strEnd (now f) at ≤ length (now f)) ⌝ }
-    ensures { λ r. ⌜ r ≡ (if same (now (user .entry)) (strIn (now (f .entry)) at) then insertOf set (g .0) else set) ⌝ }
-{
-    if rows::is_at(f, at, user) {
-        return insert(set, g);
-    }
-    set
-}
-
-// The groups of the first n members that are the user.
-pub fn memberships(f: &[u8], users: &[u16], owners: &[u8], n: usize, user: &[u8]) -> u64
-    requires { ⌜ Laid (now f) (now users) n × (n ≤ length (now users)) × (n ≤ length (now owners)) × Owned (now owners) n 64 ⌝ }
-    ensures { λ r. ⌜ r ≡ setIn (now (user .entry)) (now (f .entry)) (now (users .entry)) (now (owners .entry)) n 0 0 ⌝ }
-{
-    let mut set: u64 = 0;
-    let mut i = 0;
-    while i < n {
-        let at = users[i] as usize;
-        set = join(set, GroupNumber(owners[i]), f, at, user);
-        i += 1;
-    }
-    set
-}
 
 // Accepted, or the first faulty line with its smallest number.
 pub fn check_table(text: &[u8]) -> Checked
@@ -97,28 +37,6 @@ pub fn check_table(text: &[u8]) -> Checked
     }
 }
 
-// The count of a user's groups, in a table that is held.
-fn count_in(f: &[u8], users: &[u16], owners: &[u8], n: usize, user: &[u8]) -> Counted
-    requires { ⌜ Laid (now f) (now users) n × (n ≤ length (now users)) × (n ≤ length (now owners)) × Owned (now owners) n 64 ⌝ }
-    ensures { λ r. ⌜ r ≡ countIn (now (user .entry)) (setIn (now (user .entry)) (now (f .entry)) (now (users .entry)) (now (owners .entry)) n 0 0) ⌝ }
-{
-    if table::frame::is_unsized(64, user.len()) | !text::string::all_print(user) {
-        return Counted::Declined {
-            number: 20,
-            line: 0,
-        };
-    }
-    let set = memberships(f, users, owners, n, user);
-    let count = u64::count_ones(set);
-    if count == 0 {
-        return Counted::NoGroup;
-    }
-    Counted::Count {
-        count: count as u8,
-        first: GroupNumber(u64::trailing_zeros(set) as u8),
-    }
-}
-
 // How many groups the user belongs to, and the first of them.
 pub fn count_groups(text: &[u8], user: &[u8]) -> Counted
     ensures { λ r. ⌜ r ≡ groupCount (now (text .entry)) (now (user .entry)) ⌝ }
@@ -143,7 +61,7 @@ pub fn count_groups(text: &[u8], user: &[u8]) -> Counted
     let Loaded::Table { used, counts } = l else {
         return declined(l);
     };
-    count_in(&buf[..used], &users, &owners, counts.members, user)
+    membership::count_in(&buf[..used], &users, &owners, counts.members, user)
 }
 
 fn declined(l: Loaded) -> Counted

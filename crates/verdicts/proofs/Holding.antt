@@ -14,8 +14,8 @@ use Rattle.load.specs.declared.row.Counts.{Counts}
 use Rattle.load.specs.declared.Loaded.{Loaded}
 use Rattle.load.specs.declared.Loaded.the-variants as loaded
 use Rattle.load.specs.Loaded.{Kept, Outcome}
-use Rattle.groups.specs.Set.{setIn}
-use Rattle.groups.proofs.Sets.{has-lists}
+use Rattle.membership.specs.Set.{setIn}
+use Rattle.membership.proofs.Sets.{has-lists}
 use Rattle.groups.proofs.Calls.{front-is, outcome-refused}
 use Rattle.verdict.specs.Verdict.{decider, tree}
 use Rattle.judge.specs.Rules.{ruleIn, rulesIn, Laid}

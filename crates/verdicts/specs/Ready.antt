@@ -9,7 +9,7 @@ use Rattle.table.specs.Table.{Table}
 use Rattle.table.specs.Group.{lists}
 use Rattle.verdict.specs.Laws.{Orderly}
 use Rattle.judge.specs.Rules.{ruleIn, rulesIn, Laid}
-use Rattle.groups.specs.Set.{hasOf}
+use Rattle.membership.specs.Set.{hasOf}
 
 -- the rules of the table t are the n rules of the bytes; where a rule's subject is a group, `holders` has its number
 pub record Ready (t : Table) (f starts holders : List ℕ) (n : ℕ) : Type 0 where

@@ -52,7 +52,7 @@ pub fn verdict(
         return refused(l, whole);
     };
     let f = &buf[..used];
-    let set = groups::memberships(f, &users, &owners, counts.members, user);
+    let set = membership::memberships(f, &users, &owners, counts.members, user);
     crate::loaded::call(
         f,
         &starts,

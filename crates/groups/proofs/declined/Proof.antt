@@ -1,6 +1,6 @@
 -- `declined` equals its definition.
 use borrow.Author.Needs.{needs}
-use Rattle.groups.specs.Set.{declinedBy}
+use Rattle.groups.specs.Declined.{declinedBy}
 use Rattle.groups.proofs.declined.Statement.{statement}
 use Rattle.groups.proofs.declined.Tie as tie
 

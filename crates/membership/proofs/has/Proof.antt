@@ -4,8 +4,8 @@ use mathlib.Core.Path.{ap}
 use Prim.Native.Nat.{ℕ, _/_, _^_}
 use lib.Dec.{eqb}
 use lib.Bits.{and-mask}
-use Rattle.groups.proofs.has.Statement.{statement}
-use Rattle.groups.proofs.has.Tie as tie
+use Rattle.membership.proofs.has.Statement.{statement}
+use Rattle.membership.proofs.has.Tie as tie
 
 cast-result : tie.Need-cast-result
 cast-result c = search needs

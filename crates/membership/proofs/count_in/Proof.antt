@@ -3,10 +3,10 @@ use borrow.Author.Needs.{needs}
 use native.Mathlib.Omega.{arith}
 use mathlib.Core.Path.{ap, _∙_}
 use lib.Count.{ones-le, trailing-le}
-use Rattle.groups.specs.Set.{countIn}
-use Rattle.groups.proofs.Calls.{count-bad, count-none, count-some}
-use Rattle.groups.proofs.count_in.Statement.{statement}
-use Rattle.groups.proofs.count_in.Tie as tie
+use Rattle.membership.specs.Set.{countIn}
+use Rattle.membership.proofs.Counting.{count-bad, count-none, count-some}
+use Rattle.membership.proofs.count_in.Statement.{statement}
+use Rattle.membership.proofs.count_in.Tie as tie
 
 is-unsized-requires : tie.Need-is-unsized-requires
 is-unsized-requires c κs = search needs

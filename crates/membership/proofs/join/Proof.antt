@@ -1,8 +1,8 @@
 -- `join` equals its definition.
 use mathlib.Core.Path.{sym, _∙_}
-use Rattle.groups.proofs.Sets.{join-hit, join-miss}
-use Rattle.groups.proofs.join.Statement.{statement}
-use Rattle.groups.proofs.join.Tie as tie
+use Rattle.membership.proofs.Sets.{join-hit, join-miss}
+use Rattle.membership.proofs.join.Statement.{statement}
+use Rattle.membership.proofs.join.Tie as tie
 
 is-at-requires : tie.Need-is-at-requires
 is-at-requires c κs =

@@ -10,7 +10,7 @@ use lib.Dec.{eqb}
 use lib.Bits.{bitOr, or-shr, or-mod, or-zero-r, shifted-half, shifted-even}
 use lib.Pow.{shr-shr, shl-exact}
 use Rattle.text.proofs.Tests.{by}
-use Rattle.groups.specs.Set.{insertOf, hasOf}
+use Rattle.membership.specs.Set.{insertOf, hasOf}
 
 -- ---- the digit at g, by recursion
 

@@ -3,10 +3,10 @@ use borrow.Author.Needs.{needs}
 use native.Mathlib.Omega.{arith}
 use mathlib.Core.Path.{_≡_}
 use Prim.Native.Nat.{_-_, _≤_}
-use Rattle.groups.specs.Set.{setIn}
-use Rattle.groups.proofs.Sets.{set-start, set-turn, set-end}
-use Rattle.groups.proofs.memberships.Statement.{statement}
-use Rattle.groups.proofs.memberships.Tie as tie
+use Rattle.membership.specs.Set.{setIn}
+use Rattle.membership.proofs.Sets.{set-start, set-turn, set-end}
+use Rattle.membership.proofs.memberships.Statement.{statement}
+use Rattle.membership.proofs.memberships.Tie as tie
 
 abbrev Inv-loop : tie.InvT-loop
 Inv-loop f users owners n user set₀ i₀ set i = (i ≤ n) × (setIn user f users owners n 0 0 ≡ setIn user f users owners (n - i) i set)

@@ -19,9 +19,9 @@ use Rattle.table.specs.Table.{Member}
 use Rattle.table.specs.Refusal.{sameMember}
 use Rattle.table.specs.Group.{lists, numbered, memberships}
 use Rattle.keep.specs.Held.{membersIn, Owned}
-use Rattle.groups.specs.Set.{insertOf, hasOf, setIn}
-use Rattle.groups.proofs.Pairs.{isPair, hasPair, pairs-any}
-use Rattle.groups.proofs.Bits.{digit, digit-is, digit-small, has-insert, has-none, no-digits}
+use Rattle.membership.specs.Set.{insertOf, hasOf, setIn}
+use Rattle.membership.proofs.Pairs.{isPair, hasPair, pairs-any}
+use Rattle.membership.proofs.Bits.{digit, digit-is, digit-small, has-insert, has-none, no-digits}
 
 -- ---- the loop
 

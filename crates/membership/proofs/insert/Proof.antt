@@ -2,9 +2,9 @@
 use borrow.Author.Needs.{needs}
 use mathlib.Core.Path.{ap}
 use lib.Bits.{bitOr}
-use Rattle.groups.proofs.Bits.{shifted-one}
-use Rattle.groups.proofs.insert.Statement.{statement}
-use Rattle.groups.proofs.insert.Tie as tie
+use Rattle.membership.proofs.Bits.{shifted-one}
+use Rattle.membership.proofs.insert.Statement.{statement}
+use Rattle.membership.proofs.insert.Tie as tie
 
 cast-result : tie.Need-cast-result
 cast-result c = search needs

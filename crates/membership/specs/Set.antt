@@ -12,8 +12,6 @@ use lib.Count.{ones, trailingZeros}
 use Rattle.table.specs.Group.{badUser}
 use Rattle.table.specs.declared.Counted.{Counted}
 use Rattle.table.specs.declared.Counted.the-variants.{Count, NoGroup, Declined}
-use Rattle.load.specs.declared.Loaded.{Loaded}
-use Rattle.load.specs.declared.Loaded.the-variants.{Table, Refused}
 use Rattle.table.specs.declared.GroupNumber.{GroupNumber}
 use Rattle.table.specs.declared.RuleNumber.{RuleNumber}
 
@@ -39,8 +37,3 @@ countIn user set =
     if badUser user then Declined 20 0
     else if eqb (ones set) 0 then NoGroup
     else Count (ones set) (record { 0 = trailingZeros 64 set })
-
--- a table's own refusal
-unfoldable pub declinedBy : Loaded → Counted
-declinedBy (Refused n l) = Declined n l
-declinedBy (Table u c) = NoGroup

@@ -1,0 +1,4 @@
+pub mod Pairs
+pub mod Bits
+pub mod Sets
+pub mod Counting
