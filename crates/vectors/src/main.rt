@@ -49,10 +49,9 @@ fn answer(text: &[u8], letter: u8, rest: &[u8])
     requires { ⌜ length (now rest) ≤ 65536 ⌝ }
 {
     match letter {
-        b'r' => paths::transcribe(true, rest),
-        b'w' => paths::transcribe(false, rest),
+        b'r' => paths::transcribe(true, rest, 13520),
+        b'w' => paths::transcribe(false, rest, 13520),
         b'f' => paths::fit(rest),
-        b'l' => long::path(),
         b'c' => tables::check(text),
         b'z' => long::table(split::digit(rest)),
         b'g' => tables::groups(text, rest),

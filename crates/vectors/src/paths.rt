@@ -35,31 +35,17 @@ fn write_hex(line: &[u8], out: &mut [u8])
     write(&bytes[0..line.len() / 2], out);
 }
 
-// Path text to path bytes and back, or path bytes to path text.
-fn transcribe_into(is_text: bool, line: &[u8], out: &mut [u8])
-    requires { ⌜ length (now line) ≤ 65536 ⌝ }
+// `PATH`, or `HEX`: path text to path bytes and back, or path bytes to path text, by a lent buffer of `room` bytes.
+pub fn transcribe(is_text: bool, line: &[u8], room: usize)
+    requires { ⌜ (length (now line) ≤ 65536) × (room ≤ 13520) ⌝ }
 {
+    let mut out = [0u8; 13520];
     if !is_text {
-        write_hex(line, out);
+        write_hex(line, &mut out[0..room]);
         return;
     }
     let end = crate::split::up_to(line, 0, b'\n');
-    read(&line[0..end], out);
-}
-
-// `PATH`, or `HEX`.
-pub fn transcribe(is_text: bool, line: &[u8])
-    requires { ⌜ length (now line) ≤ 65536 ⌝ }
-{
-    let mut out = [0u8; 13520];
-    transcribe_into(is_text, line, &mut out);
-}
-
-fn transcribe_within(is_text: bool, line: &[u8], limit: u8)
-    requires { ⌜ length (now line) ≤ 65536 ⌝ }
-{
-    let mut out = [0u8; 255];
-    transcribe_into(is_text, line, &mut out[0..limit as usize]);
+    read(&line[0..end], &mut out[0..room]);
 }
 
 // `N read PATH`, or `N write HEX`.
@@ -69,5 +55,5 @@ pub fn fit(line: &[u8])
     let name = crate::split::after(line, crate::split::up_to(line, 0, b' '));
     let rest = crate::split::after(line, crate::split::up_to(line, name, b' '));
     let is_text = crate::split::first(&line[name..]) == b'r';
-    transcribe_within(is_text, &line[rest..], crate::split::digit(line));
+    transcribe(is_text, &line[rest..], crate::split::digit(line) as usize);
 }

@@ -11,17 +11,12 @@ pub fn groups(table: &[u8], line: &[u8]) {
 }
 
 fn ask(table: &[u8], is_tree: bool, mode: u32, user: &[u8], origin: &[u8], path: &[u8]) {
-    if is_tree {
-        crate::word::show_verdict(
-            burgee::burgee_tree_verdict(table, user, mode, origin, path),
-            true,
-        );
+    let word = if is_tree {
+        burgee::burgee_tree_verdict(table, user, mode, origin, path)
     } else {
-        crate::word::show_verdict(
-            burgee::burgee_path_verdict(table, user, mode, origin, path),
-            false,
-        );
-    }
+        burgee::burgee_path_verdict(table, user, mode, origin, path)
+    };
+    crate::word::show_verdict(word, is_tree);
 }
 
 // `MODE USER,ORIGIN,PATH`.

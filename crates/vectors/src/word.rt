@@ -71,16 +71,6 @@ pub fn show_groups(word: u64) {
     show_named(b", first ", word);
 }
 
-// The length that was filled, and a space.
-pub fn show_filled(word: u64) {
-    if is_refused(word) {
-        show_refusal(word);
-    } else {
-        show::decimal(word / 256);
-        show::space();
-    }
-}
-
 // The length that was filled, as far as the buffer goes.
 pub fn filled(word: u64, out: &[u8]) -> usize
     ensures { λ r. ⌜ Counts r (now (out .entry)) ⌝ }
