@@ -6,7 +6,7 @@ use std::hint::black_box;
 use burgee_rust::boundary::policy as proved_policy;
 use burgee_rust::boundary::rpc as proved_rpc;
 use burgee_rust::generate::policy::{
-    many_header_lines, nested_object, object_of_members, policy_of_headers, policy_of_length, Names,
+    list_of_objects, many_header_lines, nested_object, object_of_members, policy_of_headers, policy_of_length, Names,
 };
 use burgee_rust::limits;
 use burgee_rust::measure::Table;
@@ -35,6 +35,9 @@ fn main() {
     check_row(&printed, "in reverse", &members(Names::Falling));
     check_row(&printed, "in any order", &members(Names::Shuffled));
     check_row(&printed, "the same, 16 levels deep", &nested_object(limits::POLICY_TEXT, 16));
+    check_row(&printed, "objects of one member each", &list_of_objects(limits::POLICY_TEXT));
+    check_row(&printed, "one object, names in any order", &object_of_members(2048, Names::Shuffled));
+    check_row(&printed, "a short one", &object_of_members(300, Names::Shuffled));
 
     let headers = b"user-agent:client/1.0\ndev-path:/dev/path/x\naccept:a\naccept:b\n";
     let printed = Table::new("RPC verdict, by default");

@@ -219,6 +219,37 @@ fn members_around_others() {
     }
 }
 
+/// Objects inside objects that share their names, and hardly ever have one twice: up to
+/// 12,000 bytes, so that they also share most of the places where names are kept.
+#[test]
+fn names_shared_by_objects() {
+    let mut random = Random::new(0x46);
+    let mut tally = Tally::default();
+    for round in 0..600 {
+        let mut budget = [200, 2_500, 12_000][round % 3];
+        let text = some_object(&mut random, 1, &mut budget);
+        tally.count(policy_check(text.as_bytes()));
+    }
+    tally.assert_at_least(&[(32, 100), (33, 100)]);
+}
+
+/// An object that stands `depth` deep, its names rising but for one in 1,000.
+fn some_object(random: &mut Random, depth: usize, budget: &mut usize) -> String {
+    let mut members = Vec::new();
+    let mut name = 0;
+    while *budget > 0 && (depth == 1 || !random.one_in(9)) {
+        *budget = budget.saturating_sub(8);
+        name = if random.one_in(1_000) { random.below(name + 1) } else { name + random.between(1, 3) };
+        let value = match random.below(3) {
+            0 if depth < 16 => some_object(random, depth + 1, budget),
+            _ => "0".into(),
+        };
+        members.push(format!(r#""{name}":{value}"#));
+    }
+    random.shuffle(&mut members);
+    format!("{{{}}}", members.join(","))
+}
+
 #[test]
 fn lengths_on_both_sides() {
     for (len, number) in [(16_383, 0), (16_384, 0), (16_385, 30), (40_000, 30)] {

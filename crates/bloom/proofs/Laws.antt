@@ -14,8 +14,8 @@ use Rattle.path.specs.Path.{Key, Elem, Path}
 use Rattle.verdict.specs.Cover.{wild, given, definite, sameKey, holds, meets, covers}
 use Rattle.verdict.specs.Join.{meetsBoth, coversBoth}
 use Rattle.bloom.specs.declared.Filter.{Filter}
-use Rattle.rows.specs.declared.mix.Seed.{Seed}
-use Rattle.rows.specs.Mix.{mix}
+use Rattle.hash.specs.declared.Seed.{Seed}
+use Rattle.hash.specs.Mix.{mix}
 use Rattle.bloom.specs.Bloom.{none, join, digits, keyDigits, keysDigits, elemDigits, pathDigits, beyond}
 
 -- ---- the digits of two numbers together

@@ -13,8 +13,8 @@ use Rattle.verdict.specs.Cover.{wild, holds}
 use Rattle.place.specs.Place.{strEnd, strIn, keyEnd, keyIn, keysIn, elemEnd, elemIn, elemsIn}
 use Rattle.place.proofs.Cursor.{keys-cons, keys-nil, elems-cons, elems-nil}
 use Rattle.bloom.specs.declared.Filter.{Filter}
-use Rattle.rows.specs.declared.mix.Seed.{Seed}
-use Rattle.rows.specs.Mix.{mix}
+use Rattle.hash.specs.declared.Seed.{Seed}
+use Rattle.hash.specs.Mix.{mix}
 use Rattle.bloom.specs.Bloom.{none, join, digits, keyDigits, keysDigits, elemDigits, pathDigits, beyond}
 use Rattle.bloom.proofs.Laws.{join-assoc, join-none}
 

@@ -8,8 +8,8 @@ use Rattle.text.specs.Test.{_or_, if_then_else_}
 use Rattle.path.specs.Path.{Key, Elem, Path}
 use Rattle.verdict.specs.Cover.{wild, holds}
 use Rattle.bloom.specs.declared.Filter.{Filter}
-use Rattle.rows.specs.declared.mix.Seed.{Seed}
-use Rattle.rows.specs.Mix.{mix}
+use Rattle.hash.specs.declared.Seed.{Seed}
+use Rattle.hash.specs.Mix.{mix}
 
 -- ---- filters
 

@@ -1,13 +1,12 @@
 // Bloom filters of paths, from checked path bytes.
-pub mod seed;
 
 ghost use mathlib.Core.Path.{_≡_};
 ghost use Prim.Native.Nat.{_+_, _*_, _≤_, _<_};
 ghost use lib.ListN.{length};
-ghost use Rattle.rows.specs.Mix.{Small, mix};
+ghost use Rattle.hash.specs.Mix.{Small, mix};
 ghost use Rattle.place.specs.Place.{strEnd, strIn, keyEnd, keyIn, keysEnd, keysIn, elemEnd, elemIn, elemsEnd, elemsIn};
 ghost use Rattle.bloom.specs.Bloom.{none, digits, join, keyDigits, keysDigits, elemDigits, pathDigits, beyond};
-use rows::mix::Seed;
+use hash::Seed;
 
 // Four numbers, each with binary digits.
 pub struct Filter {
@@ -47,7 +46,7 @@ pub fn hash_at(s: Seed, h: usize, f: &[u8], at: usize) -> usize
 {
     let a = at + 1;
     let e = place::str_end(f, at);
-    rows::mix::mix(s, h, &f[a..e])
+    hash::mix(s, h, &f[a..e])
 }
 
 pub fn digits(h: usize) -> Filter

@@ -6,14 +6,14 @@ use Prim.Native.Nat.{ℕ, zero, suc, _+_, _≤_, _<_}
 use native.Mathlib.Omega.{arith}
 use borrow.Author.Tests.{eqb-true, eqb-false, eq-eqb, ne-eqb}
 use lib.Dec.{eqb}
-use lib.ListN.{length, getD, set, length-append, length-set}
+use lib.ListN.{length, getD, set, replicate, length-append, length-set}
 use lib.Seq.{getD-set-same, getD-set-other}
 use Rattle.text.specs.Test.{_or_, if_then_else_, any}
 use Rattle.text.specs.String.{Str, same}
-use Rattle.text.proofs.Tests.{by, clash, same→≡, or-l, or-assoc}
+use Rattle.text.proofs.Tests.{by, clash, same→≡, or-l, or-assoc, none-or}
 use Rattle.sorted.specs.Spans.{spanIn, Inside, stringsOf, Sorted, Sought, inserted}
 use Rattle.sorted.specs.declared.Found.{Found}
-use Rattle.sorted.proofs.Strings.{span-longer, strings-longer, sorted-longer, sought-longer}
+use Rattle.sorted.proofs.Strings.{span-longer, strings-longer, sorted-longer, sought-longer, strings-alike, sorted-alike}
 use Rattle.sorted.proofs.Inserting.{gap-beyond, gap-long}
 use Rattle.sorted.proofs.Growing.{none, none-there, grows-sorted, grows-any}
 use Rattle.hash_set.specs.Set.{among, Ready, Met, added, Holds}
@@ -30,6 +30,12 @@ module _ (f keys : List ℕ) (room p : ℕ) (x : Str) where
   among-taken e = rw (ne-eqb _ _ e)
 
 -- ---- nothing is kept
+
+-- an array of which nothing is stored
+pub zeros : (n p : ℕ) → getD (replicate {A = ℕ} n 0) p 0 ≡ 0
+zeros zero p = refl
+zeros (suc n) zero = refl
+zeros (suc n) (suc p) = zeros n p
 
 pub holds-none : (h : Str → ℕ) (f keys : List ℕ) (room : ℕ) → ((p : ℕ) → getD keys p 0 ≡ 0) → Holds h f keys room []
 unfolding any
@@ -72,27 +78,10 @@ module _ {h : Str → ℕ} {f keys : List ℕ} {room : ℕ} {xs : List Str} (g :
     free = λ y e. ap (any (same y)) (others-longer f g keys room (H .ready)) ∙ H .free y e;
   }
 
--- ---- arrays with the same keys in front
-
-module _ (f keys keys′ : List ℕ) where
-  strings-alike : (n : ℕ) → ((q : ℕ) → q < n → getD keys′ q 0 ≡ getD keys q 0) → stringsOf f keys′ n ≡ stringsOf f keys n
-  unfolding stringsOf
-  strings-alike zero e = refl
-  strings-alike (suc n) e = ap₂ _∷_ (ap (spanIn f) (e n (omega arith))) (strings-alike n (λ q l. e q (omega arith)))
-
-  sorted-alike : (n : ℕ) → ((q : ℕ) → q < n → getD keys′ q 0 ≡ getD keys q 0) → n ≤ length keys′ → Sorted f keys n → Sorted f keys′ n
-  sorted-alike n e l s = record {
-    long = l;
-    within = λ p a. rw (e p a) (s .within p a);
-    rises = λ p q a b. rw (e p (omega arith), e q b) (s .rises p q a b);
-  }
-
-none-or : (b : Bool) → (false or b) ≡ b
-unfolding _or_
-none-or b = refl
+-- ---- tests
 
 -- the order of two
-or-turn : (a b : Bool) → (a or b) ≡ (b or a)
+pub or-turn : (a b : Bool) → (a or b) ≡ (b or a)
 unfolding _or_
 or-turn true true = refl
 or-turn true false = refl
@@ -108,11 +97,11 @@ any-snoc y (z ∷ xs) x =
     ∙ ap (λ (t : Bool). t or any (same y) xs) (or-turn (same y z) (same y x))
     ∙ or-assoc (same y x) (same y z) (any (same y) xs)
 
-or-front : (a s m : Bool) → (a or (s or m)) ≡ (s or (a or m))
+pub or-front : (a s m : Bool) → (a or (s or m)) ≡ (s or (a or m))
 or-front a s m = sym (or-assoc a s m) ∙ ap (λ (t : Bool). t or m) (or-turn a s) ∙ or-assoc s a m
 
 -- a string with another place is another string
-other : (h : Str → ℕ) (x y : Str) → (h y ≡ h x → ⊥) → same y x ≡ false
+pub other : (h : Str → ℕ) (x y : Str) → (h y ≡ h x → ⊥) → same y x ≡ false
 other h x y d = by (same y x) (λ t. absurd (d (ap h (same→≡ y x t)))) (λ t. t)
 
 -- ---- one string more, in a text where it stands already

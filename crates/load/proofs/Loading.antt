@@ -2,10 +2,10 @@
 use mathlib.Core.Path.{_≡_, refl, sym, ap, _∙_}
 use mathlib.Core.List.{List, [], _∷_, _++_, append-nil}
 use mathlib.Core.Option.{Option, none, some}
-use Prim.Native.Nat.{ℕ, zero, suc, _+_, _-_, _/_, _≤_, _<_}
+use Prim.Native.Nat.{ℕ, _+_, _-_, _/_, _≤_, _<_}
 use native.Mathlib.Omega.{arith}
 use borrow.Author.Tests.{eq-eqb, ne-eqb, le-ltb, lt-ltb}
-use lib.ListN.{length, take, drop, getD, replicate, drop-of-length-le}
+use lib.ListN.{length, take, drop, getD, drop-of-length-le}
 use lib.Seq.{length-take-le, take-at, drop-at, take-add, getD-take, getD-drop, append-snoc}
 use Rattle.text.specs.Test.{if_then_else_, any, twice}
 use Rattle.text.specs.String.{Str}
@@ -48,12 +48,6 @@ module _ (d : List ℕ) (at : ℕ) (s : List ℕ) (h : at ≤ length d) where
 
 part-first : (l : List ℕ) (u e : ℕ) → u < e → getD (part l u e) 0 0 ≡ getD l u 0
 part-first l u e h = getD-take (e - u) (drop u l) 0 0 (omega arith) ∙ getD-drop u l 0 0 ∙ ap (λ (i : ℕ). getD l i 0) (omega arith)
-
--- an array of which nothing is stored
-pub zeros : (n p : ℕ) → getD (replicate {A = ℕ} n 0) p 0 ≡ 0
-zeros zero p = refl
-zeros (suc n) zero = refl
-zeros (suc n) (suc p) = zeros n p
 
 -- ---- a line of the text
 

@@ -1,2 +1,1 @@
-pub mod Mix
 pub mod Strings

@@ -5,8 +5,8 @@ use lib.ListN.{length, getD}
 use Rattle.text.specs.Test.{if_then_else_}
 use Rattle.text.specs.String.{Str, same}
 use Rattle.place.specs.Place.{strEnd, strIn}
-use Rattle.rows.specs.declared.mix.Seed.{Seed}
-use Rattle.rows.specs.Mix.{mix}
+use Rattle.hash.specs.declared.Seed.{Seed}
+use Rattle.hash.specs.Mix.{mix}
 
 -- n strings, from number i on
 unfoldable pub stringsIn : List ℕ → List ℕ → ℕ → ℕ → List Str

@@ -1,5 +1,4 @@
 // Strings of decoded rows, found by an array of positions: lookups, and a hash for a filter that saves most of them.
-pub mod mix;
 
 ghost use mathlib.Core.Path.{_≡_};
 ghost use mathlib.Core.Bool.{false};
@@ -10,7 +9,7 @@ ghost use Rattle.text.specs.Test.{_and_, twice};
 ghost use Rattle.text.specs.String.{same};
 ghost use Rattle.place.specs.Place.{strEnd, strIn};
 ghost use Rattle.rows.specs.Strings.{stringsIn, Laid, place, hashOf};
-use mix::Seed;
+use hash::Seed;
 
 // The string at `at` is the name.
 pub fn is_at(f: &[u8], at: usize, name: &[u8]) -> bool
@@ -70,5 +69,5 @@ pub fn hash(s: &[u8]) -> usize
         first: 1201626857,
         second: 1150305587,
     };
-    mix::mix(factors, 0, s) / 524288
+    hash::mix(factors, 0, s) / 524288
 }

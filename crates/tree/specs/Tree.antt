@@ -12,7 +12,7 @@ use Rattle.verdict.specs.Order.{better, choose, rank}
 use Rattle.verdict.specs.Verdict.{action}
 use Rattle.place.specs.Place.{pathIn, pathEnd}
 use Rattle.bloom.specs.declared.Filter.{Filter}
-use Rattle.rows.specs.declared.mix.Seed.{Seed}
+use Rattle.hash.specs.declared.Seed.{Seed}
 use Rattle.bloom.specs.Bloom.{beyond}
 use Rattle.judge.specs.Rules.{pathAt, ruleIn}
 

@@ -4,11 +4,11 @@ ghost use mathlib.Core.Bool.{false};
 ghost use Prim.Native.Nat.{ℕ, _+_, _*_, _≤_, _<_};
 ghost use lib.ListN.{length, getD};
 ghost use Rattle.place.specs.Place.{elemsEnd, elemsIn, pathEnd, pathIn};
-ghost use Rattle.rows.specs.Mix.{Small};
+ghost use Rattle.hash.specs.Mix.{Small};
 ghost use Rattle.bloom.specs.Bloom.{join, beyond};
 ghost use Rattle.tree.specs.Tree.{filterOf, Filters};
 use bloom::Filter;
-use rows::mix::Seed;
+use hash::Seed;
 
 // That of the path at a, asked only where x is the weight of a rule that fits.
 pub fn filter_at(s: Seed, x: usize, f: &[u8], a: usize, g: &[u8], p: usize, k: usize) -> Filter

@@ -4,7 +4,7 @@ ghost use Prim.Native.Nat.{_+_, _*_, _≤_, _<_};
 ghost use lib.ListN.{length, getD};
 ghost use Rattle.verdict.specs.Join.{coversBoth};
 ghost use Rattle.place.specs.Place.{elemsEnd, elemsIn, pathEnd, pathIn};
-ghost use Rattle.rows.specs.declared.mix.Seed.{Seed};
+ghost use Rattle.hash.specs.declared.Seed.{Seed};
 ghost use Rattle.bloom.specs.Bloom.{beyond};
 ghost use Rattle.tree.specs.Tree.{filterOf, Kept, Heaviest};
 

@@ -123,7 +123,7 @@ pub fn witness(
     let first = crate::order::below(weights, n, 9223372036854775808);
     let mut next = [0usize; 256];
     crate::order::link(weights, n, &mut next);
-    let seed = bloom::seed::draw(f);
+    let seed = hash::factors::draw(f);
     let mut filters = [0u64; 1024];
     crate::filter::fill(seed, f, weights, paths, n, g, p, k, &mut filters);
     search(

@@ -320,6 +320,13 @@ pub fn nested_object(len: usize, levels: usize) -> Bytes {
     [open, inside, close].concat()
 }
 
+/// A list of at most `len` bytes with as many objects of one member as fit.
+pub fn list_of_objects(len: usize) -> Bytes {
+    let object = br#"{"a":0}"#;
+    let count = (len - b"[]".len() + b",".len()) / (object.len() + b",".len());
+    [b"[", &vec![object.to_vec(); count].join(&b',')[..], b"]"].concat()
+}
+
 /// A policy full of headers that are not carried, for a request with many header lines:
 /// each of them has to be looked for in every line.
 pub fn policy_of_headers() -> Bytes {

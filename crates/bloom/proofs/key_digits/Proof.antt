@@ -6,7 +6,7 @@ use Rattle.place.specs.Place.{strEnd, strIn}
 use Rattle.place.proofs.Cursor.{str-grows}
 use Rattle.compare.proofs.Keys.{wild-in}
 use Rattle.bloom.proofs.Turns.{key-is, key-left}
-use Rattle.rows.proofs.Mixing.{mix-small}
+use Rattle.hash.proofs.Mixing.{mix-small}
 use Rattle.bloom.proofs.key_digits.Statement.{statement}
 use Rattle.bloom.proofs.key_digits.Tie as tie
 

@@ -5,7 +5,8 @@ use mathlib.Core.Path.{_≡_, refl, _∙_}
 use Prim.Native.Nat.{ℕ, _-_}
 use lib.ListN.{length, length-replicate}
 use Rattle.load.specs.Loaded.{Outcome}
-use Rattle.load.proofs.Loading.{Going, zeros, over, none-there, load-start, line-room, number-room, load-end, load-bad, row-room, row-fits, same-long, goes-on, held-again, load-refused, load-again}
+use Rattle.hash_set.proofs.Sets.{zeros}
+use Rattle.load.proofs.Loading.{Going, over, none-there, load-start, line-room, number-room, load-end, load-bad, row-room, row-fits, same-long, goes-on, held-again, load-refused, load-again}
 use Rattle.load.proofs.load.Statement.{statement}
 use Rattle.load.proofs.load.Tie as tie
 

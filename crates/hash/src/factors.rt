@@ -1,8 +1,8 @@
-// The factors of a table's hash.
+// The factors for a text's strings.
 ghost use Prim.Native.Nat.{_+_, _≤_, _<_};
 ghost use lib.ListN.{length};
-ghost use Rattle.rows.specs.Mix.{Small};
-use rows::mix::Seed;
+ghost use Rattle.hash.specs.Mix.{Small};
+use crate::Seed;
 
 // Four bytes as a number.
 fn word(f: &[u8], i: usize) -> usize
@@ -45,8 +45,8 @@ fn absorb(s: Seed, f: &[u8]) -> Seed
     }
 }
 
-// The factors of a table are drawn from its own bytes, in two passes, so that its author cannot simply choose names by their hashes, nor
-// bytes that give certain factors. Nothing depends on what they are.
+// Factors drawn from a text's own bytes, in two passes, so that its author cannot simply choose names by their hashes, nor bytes that give
+// certain factors. Nothing depends on what they are.
 pub fn draw(f: &[u8]) -> Seed
     ensures { λ s. ⌜ Small s ⌝ }
 {

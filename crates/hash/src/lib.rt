@@ -1,7 +1,9 @@
 // A hash of strings, with factors that its caller chooses.
+pub mod factors;
+
 ghost use mathlib.Core.Path.{_≡_};
 ghost use Prim.Native.Nat.{_<_};
-ghost use Rattle.rows.specs.Mix.{Small, mix};
+ghost use Rattle.hash.specs.Mix.{Small, mix};
 
 // The factors, odd numbers.
 pub struct Seed {

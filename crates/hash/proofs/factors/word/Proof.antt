@@ -1,8 +1,8 @@
 use borrow.Author.Needs.{needs}
 use native.Mathlib.Omega.{arith}
 use Prim.Native.Nat.{_+_}
-use Rattle.bloom.proofs.seed.word.Statement.{statement}
-use Rattle.bloom.proofs.seed.word.Tie as tie
+use Rattle.hash.proofs.factors.word.Statement.{statement}
+use Rattle.hash.proofs.factors.word.Tie as tie
 
 shared-slice-read-result : tie.Need-shared-slice-read-result
 shared-slice-read-result c = search needs

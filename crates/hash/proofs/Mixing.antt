@@ -8,8 +8,8 @@ use native.Mathlib.Omega.{arith}
 use lib.ListN.{length, drop, getD, drop-of-length-le}
 use lib.Seq.{drop-cons}
 use Rattle.text.specs.String.{Str}
-use Rattle.rows.specs.declared.mix.Seed.{Seed}
-use Rattle.rows.specs.Mix.{mixFrom, mix}
+use Rattle.hash.specs.declared.Seed.{Seed}
+use Rattle.hash.specs.Mix.{mixFrom, mix}
 
 -- no product passes 64 bits
 pub product : (x m : ℕ) → x < 8589934592 → m < 2147483648 → x * m < 18446744073709551616

@@ -3,10 +3,10 @@ use native.Mathlib.Omega.{arith}
 use mathlib.Core.Path.{_≡_, refl}
 use Prim.Native.Nat.{_+_, _-_, _*_, _%_, _≤_, _<_}
 use lib.ListN.{length, drop, getD}
-use Rattle.rows.specs.Mix.{mixFrom, mix}
-use Rattle.rows.proofs.Mixing.{product, mix-turn, mix-end}
-use Rattle.rows.proofs.mix.mix.Statement.{statement}
-use Rattle.rows.proofs.mix.mix.Tie as tie
+use Rattle.hash.specs.Mix.{mixFrom, mix}
+use Rattle.hash.proofs.Mixing.{product, mix-turn, mix-end}
+use Rattle.hash.proofs.mix.Statement.{statement}
+use Rattle.hash.proofs.mix.Tie as tie
 
 abbrev Inv-loop : tie.InvT-loop
 Inv-loop s h t x₀ y₀ i₀ x y i = (i ≤ length t) × (x < 4294967552) × (y < 4294967296) × (mix s h t ≡ mixFrom s x y (drop i t))

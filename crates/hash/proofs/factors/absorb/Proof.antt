@@ -2,9 +2,9 @@ use borrow.Author.Needs.{needs}
 use native.Mathlib.Omega.{arith}
 use Prim.Native.Nat.{_+_, _*_, _≤_, _<_}
 use lib.ListN.{length}
-use Rattle.rows.proofs.Mixing.{product}
-use Rattle.bloom.proofs.seed.absorb.Statement.{statement}
-use Rattle.bloom.proofs.seed.absorb.Tie as tie
+use Rattle.hash.proofs.Mixing.{product}
+use Rattle.hash.proofs.factors.absorb.Statement.{statement}
+use Rattle.hash.proofs.factors.absorb.Tie as tie
 
 abbrev Inv-loop : tie.InvT-loop
 Inv-loop f x₀ y₀ i₀ left₀ x y i left = (i + 8 * left ≤ length f) × (x < 2147483648) × (y < 2147483648)

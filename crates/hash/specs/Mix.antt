@@ -2,7 +2,7 @@
 use Prim.Native.Nat.{ℕ, _+_, _*_, _%_, _<_}
 use mathlib.Core.List.{[], _∷_}
 use Rattle.text.specs.String.{Str}
-use Rattle.rows.specs.declared.mix.Seed.{Seed}
+use Rattle.hash.specs.declared.Seed.{Seed}
 
 abbrev pub Small : Seed → Type 0
 Small s = (s .first < 2147483648) × (s .second < 2147483648)
