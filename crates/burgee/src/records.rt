@@ -28,19 +28,19 @@ fn of_stepped(s: Stepped) -> Answered
 pub fn start_step(r: Record, n: usize) -> Answered
     ensures { λ a. ⌜ a ≡ answered (start r n) ⌝ }
 {
-    of_stepped(rotation::step::start(r, n))
+    of_stepped(rotation_step::start(r, n))
 }
 
 pub fn finalize_step(r: Record, n: usize) -> Answered
     ensures { λ a. ⌜ a ≡ answered (finalize r n) ⌝ }
 {
-    of_stepped(rotation::step::finalize(r, n))
+    of_stepped(rotation_step::finalize(r, n))
 }
 
 pub fn close_step(r: Record, n: usize) -> Answered
     ensures { λ a. ⌜ a ≡ answered (close r n) ⌝ }
 {
-    of_stepped(rotation::step::close(r, n))
+    of_stepped(rotation_step::close(r, n))
 }
 
 pub fn upload_step(r: Record, store: &mut [u8], text: &[u8]) -> Answered

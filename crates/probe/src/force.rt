@@ -14,7 +14,7 @@ pub enum Source {
 pub fn find_source(r: Record, n: usize, kind: u32) -> Source
     ensures { λ s. ⌜ s ≡ sourceOf kind r n ⌝ }
 {
-    let number = rotation::step::probe_refusal(r, n, kind);
+    let number = rotation_step::probe_refusal(r, n, kind);
     if number != 255 {
         return Source::Refused(number);
     }

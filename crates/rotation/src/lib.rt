@@ -1,6 +1,5 @@
-// The rotation record and the calls that change it, as steps by value.
+// The rotation record, and what it says.
 pub mod state;
-pub mod step;
 
 use table::Checked;
 

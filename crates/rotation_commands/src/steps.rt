@@ -161,9 +161,9 @@ fn takes(step: usize, words: usize) -> bool {
 // A step on a record and its store.
 fn run_on(step: usize, words: usize, r: Record, store: &mut [u8]) {
     match step {
-        1 => settle(rotation::step::start(r, store.len())),
-        2 => settle(rotation::step::finalize(r, store.len())),
-        3 => settle(rotation::step::close(r, store.len())),
+        1 => settle(rotation_step::start(r, store.len())),
+        2 => settle(rotation_step::finalize(r, store.len())),
+        3 => settle(rotation_step::close(r, store.len())),
         4 => upload(r, store),
         6 => probe(r, store, false),
         7 => probe(r, store, true),

@@ -37,7 +37,7 @@ fn check_offered(kind: u32, text: &[u8]) -> Checked
 fn answer(r: Record, n: usize, text: &[u8]) -> Checked
     ensures { λ c. ⌜ c ≡ uploadAnswer offeredCheck r n (now (text .entry)) ⌝ }
 {
-    let number = rotation::step::off_refusal(r, n);
+    let number = rotation_step::off_refusal(r, n);
     if number != 255 {
         return Checked::Refused {
             number: number,
@@ -62,10 +62,10 @@ pub fn upload(r: Record, store: &mut [u8], text: &[u8]) -> Stepped
     let n = store.len();
     let c = answer(r, n, text);
     let Checked::Accepted = c else {
-        return rotation::step::settle(c, r, r);
+        return rotation_step::settle(c, r, r);
     };
     store_at(rotation::state::candidate_slot(r), text, store);
     let len = text.len();
-    let next = rotation::step::with_candidate(r, len as u32);
-    rotation::step::settle(c, r, next)
+    let next = rotation_step::with_candidate(r, len as u32);
+    rotation_step::settle(c, r, next)
 }

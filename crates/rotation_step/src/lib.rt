@@ -2,9 +2,9 @@
 ghost use mathlib.Core.Path.{_≡_};
 ghost use Rattle.table.specs.Text.{unless};
 ghost use Rattle.table.specs.declared.Checked.the-variants.{Accepted};
 ghost use Rattle.rotation.specs.Calls.{stepped, startRefusal, offRefusal, finalizeRefusal, probeRefusal, uploaded, start, finalize, close};
-use crate::Record;
-use crate::Stepped;
+use rotation::Record;
+use rotation::Stepped;
 use table::Checked;
 
 // A refusal keeps the record.
@@ -42,9 +42,9 @@ fn start_refusal(r: Record, n: usize) -> u8
     ensures { λ k. ⌜ k ≡ startRefusal r n ⌝ }
 {
     if r.rotating == 0 {
-        return crate::state::refusal(r, n, 255);
+        return rotation::state::refusal(r, n, 255);
     }
-    crate::state::refusal(r, n, 12)
+    rotation::state::refusal(r, n, 12)
 }
 
 // Of upload and close.
@@ -52,21 +52,21 @@ pub fn off_refusal(r: Record, n: usize) -> u8
     ensures { λ k. ⌜ k ≡ offRefusal r n ⌝ }
 {
     if r.rotating == 0 {
-        return crate::state::refusal(r, n, 13);
+        return rotation::state::refusal(r, n, 13);
     }
-    crate::state::refusal(r, n, 255)
+    rotation::state::refusal(r, n, 255)
 }
 
 fn finalize_refusal(r: Record, n: usize) -> u8
     ensures { λ k. ⌜ k ≡ finalizeRefusal r n ⌝ }
 {
     if r.rotating == 0 {
-        return crate::state::refusal(r, n, 13);
+        return rotation::state::refusal(r, n, 13);
     }
     if r.candidate_len == 4294967295 {
-        return crate::state::refusal(r, n, 14);
+        return rotation::state::refusal(r, n, 14);
     }
-    crate::state::refusal(r, n, 255)
+    rotation::state::refusal(r, n, 255)
 }
 
 // Of a probe for records of that kind.
@@ -74,9 +74,9 @@ pub fn probe_refusal(r: Record, n: usize, kind: u32) -> u8
     ensures { λ k. ⌜ k ≡ probeRefusal kind r n ⌝ }
 {
     if r.kind == kind {
-        return crate::state::refusal(r, n, 255);
+        return rotation::state::refusal(r, n, 255);
     }
-    crate::state::refusal(r, n, 16)
+    rotation::state::refusal(r, n, 16)
 }
 
 // The candidate gets its length.
@@ -108,14 +108,14 @@ pub fn start(r: Record, n: usize) -> Stepped
 pub fn finalize(r: Record, n: usize) -> Stepped
     ensures { λ s. ⌜ s ≡ finalize r n ⌝ }
 {
-    let slot = crate::state::candidate_slot(r);
-    let next = crate::state::at_rest(r, slot, r.candidate_len);
+    let slot = rotation::state::candidate_slot(r);
+    let next = rotation::state::at_rest(r, slot, r.candidate_len);
     settle(checked(finalize_refusal(r, n)), r, next)
 }
 
 pub fn close(r: Record, n: usize) -> Stepped
     ensures { λ s. ⌜ s ≡ close r n ⌝ }
 {
-    let next = crate::state::at_rest(r, r.live_slot, r.live_len);
+    let next = rotation::state::at_rest(r, r.live_slot, r.live_len);
     settle(checked(off_refusal(r, n)), r, next)
 }

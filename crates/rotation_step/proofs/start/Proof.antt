@@ -1,8 +1,8 @@
 use borrow.Author.Needs.{needs}
 use Rattle.rotation.specs.Calls.{start, started}
-use Rattle.rotation.proofs.Steps.{steps}
-use Rattle.rotation.proofs.step.start.Statement.{statement}
-use Rattle.rotation.proofs.step.start.Tie as tie
+use Rattle.rotation_step.proofs.Steps.{steps}
+use Rattle.rotation_step.proofs.start.Statement.{statement}
+use Rattle.rotation_step.proofs.start.Tie as tie
 
 start-refusal-requires : tie.Need-start-refusal-requires
 start-refusal-requires c κs = search needs

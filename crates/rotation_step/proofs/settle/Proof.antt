@@ -1,9 +1,9 @@
 use borrow.Author.Needs.{needs}
 use mathlib.Core.Path.{sym, ap}
 use Rattle.table.specs.declared.Checked.{Checked}
 use Rattle.rotation.specs.Calls.{stepped}
-use Rattle.rotation.proofs.step.settle.Statement.{statement}
-use Rattle.rotation.proofs.step.settle.Tie as tie
+use Rattle.rotation_step.proofs.settle.Statement.{statement}
+use Rattle.rotation_step.proofs.settle.Tie as tie
 
 enum-told : tie.Need-enum-told
 enum-told c = search needs

@@ -1,9 +1,9 @@
 use borrow.Author.Needs.{needs}
 use mathlib.Core.Path.{_∙_}
 use Rattle.rotation.specs.Calls.{finalize, finalized}
-use Rattle.rotation.proofs.Steps.{steps}
-use Rattle.rotation.proofs.step.finalize.Statement.{statement}
-use Rattle.rotation.proofs.step.finalize.Tie as tie
+use Rattle.rotation_step.proofs.Steps.{steps}
+use Rattle.rotation_step.proofs.finalize.Statement.{statement}
+use Rattle.rotation_step.proofs.finalize.Tie as tie
 
 candidate-slot-requires : tie.Need-candidate-slot-requires
 candidate-slot-requires c κs = search needs

@@ -1,7 +1,7 @@
 use borrow.Author.Needs.{needs}
-use Rattle.rotation.proofs.Steps.{start-off, start-on}
-use Rattle.rotation.proofs.step.start_refusal.Statement.{statement}
-use Rattle.rotation.proofs.step.start_refusal.Tie as tie
+use Rattle.rotation_step.proofs.Steps.{start-off, start-on}
+use Rattle.rotation_step.proofs.start_refusal.Statement.{statement}
+use Rattle.rotation_step.proofs.start_refusal.Tie as tie
 
 refusal-requires : tie.Need-refusal-requires
 refusal-requires c κs = search needs

@@ -1,7 +1,7 @@
 use borrow.Author.Needs.{needs}
-use Rattle.rotation.proofs.Steps.{off-off, off-on}
-use Rattle.rotation.proofs.step.off_refusal.Statement.{statement}
-use Rattle.rotation.proofs.step.off_refusal.Tie as tie
+use Rattle.rotation_step.proofs.Steps.{off-off, off-on}
+use Rattle.rotation_step.proofs.off_refusal.Statement.{statement}
+use Rattle.rotation_step.proofs.off_refusal.Tie as tie
 
 refusal-requires : tie.Need-refusal-requires
 refusal-requires c κs = search needs

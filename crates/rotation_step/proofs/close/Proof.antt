@@ -1,9 +1,9 @@
 use borrow.Author.Needs.{needs}
 use mathlib.Core.Path.{_∙_}
 use Rattle.rotation.specs.Calls.{close, closed}
-use Rattle.rotation.proofs.Steps.{steps}
-use Rattle.rotation.proofs.step.close.Statement.{statement}
-use Rattle.rotation.proofs.step.close.Tie as tie
+use Rattle.rotation_step.proofs.Steps.{steps}
+use Rattle.rotation_step.proofs.close.Statement.{statement}
+use Rattle.rotation_step.proofs.close.Tie as tie
 
 at-rest-requires : tie.Need-at-rest-requires
 at-rest-requires c κs = search needs

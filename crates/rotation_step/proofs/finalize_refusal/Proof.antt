@@ -1,7 +1,7 @@
 use borrow.Author.Needs.{needs}
-use Rattle.rotation.proofs.Steps.{finalize-off, finalize-none, finalize-some}
-use Rattle.rotation.proofs.step.finalize_refusal.Statement.{statement}
-use Rattle.rotation.proofs.step.finalize_refusal.Tie as tie
+use Rattle.rotation_step.proofs.Steps.{finalize-off, finalize-none, finalize-some}
+use Rattle.rotation_step.proofs.finalize_refusal.Statement.{statement}
+use Rattle.rotation_step.proofs.finalize_refusal.Tie as tie
 
 refusal-requires : tie.Need-refusal-requires
 refusal-requires c κs = search needs

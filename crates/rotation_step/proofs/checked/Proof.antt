@@ -1,6 +1,6 @@
-use Rattle.rotation.proofs.Steps.{checked-none, checked-some}
-use Rattle.rotation.proofs.step.checked.Statement.{statement}
-use Rattle.rotation.proofs.step.checked.Tie as tie
+use Rattle.rotation_step.proofs.Steps.{checked-none, checked-some}
+use Rattle.rotation_step.proofs.checked.Statement.{statement}
+use Rattle.rotation_step.proofs.checked.Tie as tie
 
 returns : tie.Need-returns
 returns c =
