@@ -63,19 +63,21 @@ module _ (x y : ℕ) (s : Str) (n m : ℕ) (e : n ≡ suc m) where
 start : (x : ℕ) (s : Str) (n : ℕ) → n ≡ 0 → getD (x ∷ s) (2 * n) 0 ≡ x
 start x s n e = let b : 2 * n ≡ 0 = omega arith in ap (λ (j : ℕ). getD (x ∷ s) j 0) b
 
+ended-alone : (x : ℕ) (s : Str) (n : ℕ) → n ≡ 0 → getD (x ∷ s) (2 * n) 0 ≡ 10 → digits (x ∷ s) ≡ [] → Ended (x ∷ s) n
+ended-alone x s n a k d = rw a (alone x s (sym (start x s n a) ∙ k) d)
+
+ended-more : (x y : ℕ) (s : Str) (n m : ℕ) → n ≡ suc m → (isHex x and isHex y) ≡ true → Ended s m → Ended (x ∷ y ∷ s) n
+ended-more x y s n m a t g = rw a (more x y s m t g)
+
 pub ended : (s : Str) (n : ℕ) → n ≡ length (digits s) → 2 * n < length s → getD s (2 * n) 0 ≡ 10 → Ended s n
 ended [] n e h k = absurd (omega arith)
-ended (x ∷ []) n e h k =
-    let a : n ≡ 0 = e ∙ ap length (digits-one x) in
-    rw a (alone x [] (sym (start x [] n a) ∙ k) (digits-one x))
+ended (x ∷ []) n e h k = ended-alone x [] n (e ∙ ap length (digits-one x)) k (digits-one x)
 ended (x ∷ y ∷ s) n e h k =
     by (isHex x and isHex y)
     (λ t.
     let a : n ≡ suc (length (digits s)) = e ∙ digits-more x y s t in
-    rw a (more x y s (length (digits s)) t (ended s (length (digits s)) refl (omega arith) (sym (later x y s n (length (digits s)) a) ∙ k))))
-    (λ t.
-    let a : n ≡ 0 = e ∙ ap length (digits-none x y s t) in
-    rw a (alone x (y ∷ s) (sym (start x (y ∷ s) n a) ∙ k) (digits-none x y s t)))
+    ended-more x y s n (length (digits s)) a t (ended s (length (digits s)) refl (omega arith) (sym (later x y s n (length (digits s)) a) ∙ k)))
+    (λ t. ended-alone x (y ∷ s) n (e ∙ ap length (digits-none x y s t)) k (digits-none x y s t))
 
 -- ---- a line that does not end so
 
