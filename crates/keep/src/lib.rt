@@ -55,18 +55,22 @@ pub fn take_group(
     255
 }
 
-// The number of the first of n groups whose name begins at `start`; n where none does.
+// The number of the group whose name begins at `start`, which is one of n, found by halving since groups stand in the order of the text. What
+// is answered is only tried.
 fn number_at(groups: &[u16], n: usize, start: usize) -> usize
     requires { ⌜ n ≤ length (now groups) ⌝ }
 {
-    let mut i = 0;
-    while i < n {
-        if groups[i] as usize + 1 == start {
-            return i;
+    let mut low = 0;
+    let mut high = n;
+    while low < high {
+        let mid = low + (high - low) / 2;
+        if groups[mid] as usize + 1 < start {
+            low = mid + 1;
+        } else {
+            high = mid;
         }
-        i += 1;
     }
-    n
+    low
 }
 
 // The same as `number_of`, by the sorted names: where the name is there, its position tells which group to try.
