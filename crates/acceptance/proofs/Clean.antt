@@ -12,8 +12,9 @@ use Rattle.text.specs.Refusal.{clear}
 use Rattle.text.proofs.Tests.{clash, by, and-l, and-r, both, on-cons}
 use Rattle.table.specs.Frame.{Entry}
 use Rattle.table.specs.Refusal.{Line, notHex, unreadable, reads, lineOf, Earlier, refusal, after, with}
-use Rattle.table.specs.Text.{judge, unless, maybe, collect, read, entries}
+use Rattle.table.specs.Text.{judge, unless, collect, entries}
 use Rattle.table.specs.declared.Checked.the-variants.{Accepted}
+use Rattle.table.proofs.Entries.{entries-cons}
 
 -- no line gets a number
 unfoldable pub clean : Earlier → List Str → Bool
@@ -65,10 +66,6 @@ entry-of notHex h = clash h refl
 entry-of unreadable h = clash h refl
 entry-of (reads e) h = (e, refl)
 
-one-more : (l : Str) (ls : List Str) (e : Entry) → lineOf l ≡ reads e → entries (l ∷ ls) ≡ e ∷ entries ls
-unfolding entries collect maybe read
-one-more l ls e i = rw i
-
 -- the frames tell all where the lines read
 pub clean-entries : (b : Earlier) (ls : List Str) → Readable ls → clean b ls ≡ cleanEntries b (entries ls)
 clean-entries b [] h = none-left
@@ -81,4 +78,4 @@ clean-entries b (l ∷ ls) h = go (clean-entries (after b (lineOf l)) ls (λ x m
     go ih r = rest (r .0) (r .1) ih
       where
         rest : (e : Entry) → lineOf l ≡ reads e → clean (after b (lineOf l)) ls ≡ cleanEntries (after b (lineOf l)) (entries ls) → clean b (l ∷ ls) ≡ cleanEntries b (entries (l ∷ ls))
-        rest e i ih = unfold clean cleanEntries after in rw (one-more l ls e i, i) (ap (λ (t : Bool). eqb (refusal b (reads e)) clear and t) (rw i at ih))
+        rest e i ih = unfold clean cleanEntries after in rw (entries-cons l ls e i, i) (ap (λ (t : Bool). eqb (refusal b (reads e)) clear and t) (rw i at ih))

@@ -3,6 +3,7 @@
 use mathlib.Core.Path.{_≡_, refl, sym, ap, _∙_}
 use mathlib.Core.Bool.{Bool, true, false, not}
 use mathlib.Core.List.{List, [], _∷_, map, List·Memᴰ·head, List·Memᴰ·tail, List·Memᴰ·not-nil, List·Permᴰ, List·Permᴰ·nil, List·Permᴰ·cons, List·Permᴰ·swap, List·Permᴰ·trans, Permᴰ·symm}
+use mathlib.Core.Option.{Option, none, some}
 use Prim.Native.Nat.{ℕ, suc, _≤_}
 use native.Mathlib.Omega.{arith}
 use borrow.Author.Tests.{leb-true, le-ltb, ne-eqb}
@@ -15,7 +16,7 @@ use Rattle.line.specs.Lines.{lines, onto}
 use Rattle.table.specs.Table.{Rule}
 use Rattle.table.specs.Frame.{Entry, version, group, member, rule}
 use Rattle.table.specs.Refusal.{lineOf, kindOf, outOfOrder, listed, first, sameMember}
-use Rattle.table.specs.Text.{check, maybe, collect, read, entries, asVersion, asGroup, asMember, asRule, table, tableOf}
+use Rattle.table.specs.Text.{check, maybe, collect, read, entries, asGroup, asMember, asRule, table, tableOf}
 use Rattle.table.specs.declared.Checked.the-variants.{Accepted}
 use Rattle.path.specs.Faults.{keyTwice}
 use Rattle.verdict.specs.Laws.{sameId, Orderly, Reordered}
@@ -26,6 +27,12 @@ use Rattle.acceptance.proofs.Clean.{clean, judge-clean, clean-judge, Re
 use Rattle.acceptance.proofs.Fine.{ownTwice, Own, Whole, Fine, ordered, rulesIn, ident, astray, fine, unfaulted, same-turned, member-turned}
 
 -- ---- the kinds
+
+unfoldable asVersion : Entry → Option Entry
+asVersion (version v t) = some (version v t)
+asVersion (group n) = none
+asVersion (member m) = none
+asVersion (rule r) = none
 
 abbrev versionsIn : List Entry → List Entry
 versionsIn es = collect asVersion es

@@ -22,6 +22,7 @@ unfoldable pub lines : Str → List Str
 lines [] = []
 lines (b ∷ s) = onto (eqb b 10) b (lines s)
 
+-- the byte b before the bytes of the rest, where both read
 unfoldable pub pair : Bool → ℕ → Option Str → Option Str
 pair true b none = none
 pair true b (some f) = some (b ∷ f)
@@ -33,6 +34,7 @@ pairs [] = none
 pairs (x ∷ []) = if eqb x 10 then some [] else none
 pairs (x ∷ y ∷ s) = pair (isHex x and isHex y) (hexValue x * 16 + hexValue y) (pairs s)
 
+-- at least one byte
 unfoldable pub nonempty : Option Str → Option Str
 nonempty none = none
 nonempty (some []) = none
@@ -42,7 +44,7 @@ nonempty (some (b ∷ f)) = some (b ∷ f)
 unfoldable pub frame : Str → Option Str
 frame l = nonempty (pairs l)
 
--- ---- as the programs go
+-- ---- the answers of the programs, which decode as far as there are digits
 
 -- the bytes for which the leading pairs of digits stand
 unfoldable pub digits : Str → Str

@@ -12,7 +12,7 @@ pub enum Line {
     Bad,
 }
 
-// Decodes the pairs of digits from `from` on, and answers how many they are.
+// Decodes the pairs of digits from `from` on into out from `at` on, and answers how many they are.
 fn decode(text: &[u8], from: usize, out: &mut [u8], at: usize) -> usize
     requires { ⌜ (from ≤ length (now text)) × (at + (length (now text) - from) / 2 ≤ length (now out)) ⌝ }
     ensures { λ r. ⌜ (r ≡ length (digits (drop from (now (text .entry))))) × (now (out .exit) ≡ put (now (out .entry)) at (digits (drop from (now (text .entry))))) ⌝ }
@@ -42,7 +42,7 @@ pub fn read_line(text: &[u8], from: usize, out: &mut [u8], at: usize) -> Line
     if text.len() <= end {
         return Line::Bad;
     }
-    if text[end] != 10 {
+    if text[end] != b'\n' {
         return Line::Bad;
     }
     if len == 0 {

@@ -28,10 +28,11 @@ overLimit p = ltb 16 (length p) or any elemOver p
 
 -- ---- 6: "a byte outside its set (an * in an element or key name is 7)"
 
--- a byte outside a name's set or, for a value, outside 0x20 to 0x7E
+-- "Element and key names use letters, digits and `-_.:`"; `*` has a number of its own
 unfoldable pub outsideName : ℕ → Bool
 outsideName b = not (isName b || isStar b)
 
+-- "other strings use bytes 0x20 to 0x7E"
 unfoldable pub outsideValue : ℕ → Bool
 outsideValue b = not (isPrint b)
 
@@ -46,6 +47,7 @@ strayByte p = any elemStray p
 
 -- ---- 7: "wildcard misplaced, or `...`"
 
+-- it holds a `*`
 abbrev pub starred : Str → Bool
 starred s = any isStar s
 

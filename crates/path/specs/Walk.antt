@@ -12,6 +12,7 @@ use Rattle.path.specs.Path.{Key, Elem, Path}
 use Rattle.path.specs.Bytes.{path}
 use Rattle.path.specs.Faults.{unsized, keyOver, elemOver, outsideName, outsideValue, keyStray, elemStray, starred, halfWild, keyMisplaced, elemMisplaced, sameName, grade, goodPath}
 
+-- `unsized`, by the length
 abbrev pub unsizedBy : ℕ → Bool
 unsizedBy n = eqb n 0 || ltb 64 n
 
@@ -47,12 +48,12 @@ aloneGrade k = keyGrade (k .name) (k .value) false
 abbrev pub good : {A : Type 0} → (A → ℕ) → A → Bool
 good g a = eqb (g a) clear
 
--- b, or one of the keys has the name
+-- b, or one of the keys has the name n; false where they do not read
 unfoldable pub hasName : Bool → Str → Parsed (List Key) → Bool
 hasName b n (got ks t) = b or any (λ (k : Key). same n (k .name)) ks
 hasName b n unread = false
 
--- two of the keys have the same name
+-- two of the keys have the same name; false where they do not read
 unfoldable pub twiceIn : Parsed (List Key) → Bool
 twiceIn (got ks t) = twice sameName ks
 twiceIn unread = false

@@ -9,12 +9,14 @@ ghost use Rattle.text.specs.String.{bytes, same};
 ghost use Rattle.path.specs.Faults.{outsideName, outsideValue};
 ghost use Rattle.path.specs.Walk.{nameGrade, elemNameGrade, valueGrade};
 
+// The smaller of two numbers.
 pub fn smaller(a: u8, b: u8) -> u8
     ensures { λ r. ⌜ r ≡ min a b ⌝ }
 {
     if a < b { a } else { b }
 }
 
+// The smallest number whose flag is set.
 pub fn grade(five: bool, six: bool, seven: bool, eight: bool) -> u8
     ensures { λ r. ⌜ r ≡ Rattle.path.specs.Faults.grade five six seven eight ⌝ }
 {
@@ -35,12 +37,13 @@ pub fn grade(five: bool, six: bool, seven: bool, eight: bool) -> u8
 
 // What a string holds.
 pub struct Seen {
-    // a byte outside its set
+    // A byte outside its set.
     pub stray: bool,
+    // A *.
     pub star: bool,
 }
 
-// The set is that of names (with *, which has a number of its own) or that of values.
+// What a string holds, where the set is that of names (with *, which has a number of its own) or that of values.
 pub fn scan(s: &[u8], name: bool) -> Seen
     ensures { λ r. ⌜ (r .stray ≡ any (if name then outsideName else outsideValue) (now (s .entry))) × (r .star ≡ any isStar (now (s .entry))) ⌝ }
 {
@@ -49,10 +52,10 @@ pub fn scan(s: &[u8], name: bool) -> Seen
     let mut i = 0;
     while i < s.len() {
         let b = s[i];
-        let inside = (name & (text::byte::is_name(b) | (b == 42)))
+        let inside = (name & (text::byte::is_name(b) | (b == b'*')))
             | (!name & text::byte::is_print(b));
         stray = stray | !inside;
-        star = star | (b == 42);
+        star = star | (b == b'*');
         i += 1;
     }
     Seen {
@@ -61,17 +64,18 @@ pub fn scan(s: &[u8], name: bool) -> Seen
     }
 }
 
+// A length that no name or value may have.
 fn is_unsized(n: usize) -> bool
     ensures { λ r. ⌜ r ≡ Rattle.path.specs.Walk.unsizedBy n ⌝ }
 {
     (n == 0) | (64 < n)
 }
 
-// Most bytes of names are small letters, which one test tells.
+// The same as `text::byte::is_name`. Most bytes of names are small letters, which one test tells.
 pub fn is_name(b: u8) -> bool
     ensures { λ r. ⌜ r ≡ isName b ⌝ }
 {
-    if (97 <= b) & (b <= 122) {
+    if (b'a' <= b) & (b <= b'z') {
         return true;
     }
     text::byte::is_name(b)
@@ -91,7 +95,7 @@ fn is_plain(s: &[u8]) -> bool
     true
 }
 
-// The byte b, and nothing more.
+// The string is the byte b, and nothing more.
 pub fn is_byte(s: &[u8], b: u8) -> bool
     ensures { λ r. ⌜ r ≡ same (now (s .entry)) (b ∷ []) ⌝ }
 {
@@ -101,16 +105,17 @@ pub fn is_byte(s: &[u8], b: u8) -> bool
     s[0] == b
 }
 
+// The string is `...`.
 pub fn is_dots(s: &[u8]) -> bool
     ensures { λ r. ⌜ r ≡ same (now (s .entry)) (bytes "...") ⌝ }
 {
     if s.len() != 3 {
         return false;
     }
-    (s[0] == 46) & (s[1] == 46) & (s[2] == 46)
+    (s[0] == b'.') & (s[1] == b'.') & (s[2] == b'.')
 }
 
-// A key's name.
+// The number of a key's name.
 pub fn name_fault(s: &[u8]) -> u8
     ensures { λ r. ⌜ r ≡ nameGrade (now (s .entry)) ⌝ }
 {
@@ -121,6 +126,7 @@ pub fn name_fault(s: &[u8]) -> u8
     grade(is_unsized(s.len()), seen.stray, seen.star, false)
 }
 
+// The number of an element's name.
 pub fn elem_name_fault(s: &[u8]) -> u8
     ensures { λ r. ⌜ r ≡ elemNameGrade (now (s .entry)) ⌝ }
 {
@@ -132,11 +138,12 @@ pub fn elem_name_fault(s: &[u8]) -> u8
     grade(is_unsized(s.len()), seen.stray, seen.star | dots, false)
 }
 
+// The number of a value.
 pub fn value_fault(s: &[u8]) -> u8
     ensures { λ r. ⌜ r ≡ valueGrade (now (s .entry)) ⌝ }
 {
     let seen = scan(s, false);
-    let wildcard = is_byte(s, 42);
+    let wildcard = is_byte(s, b'*');
     grade(
         is_unsized(s.len()),
         seen.stray,

@@ -11,6 +11,7 @@ use text::frame::End;
 pub enum Walk {
     // The smallest of 5 to 8, or 255, and where reading goes on.
     To { fault: u8, next: usize },
+    // The frame is too short.
     Unread,
 }
 
@@ -63,6 +64,7 @@ pub fn has_twice(f: &[u8], at: usize, count: usize) -> bool
     false
 }
 
+// The number of a key; `again`: a later key of its element has the same name.
 fn key_fault(name: &[u8], value: &[u8], again: bool) -> u8
     ensures { λ r. ⌜ r ≡ Rattle.path.specs.Walk.keyGrade (now (name .entry)) (now (value .entry)) again ⌝ }
 {
@@ -72,6 +74,7 @@ fn key_fault(name: &[u8], value: &[u8], again: bool) -> u8
     path::fault::smaller(path::fault::smaller(n, v), t)
 }
 
+// The `count` keys from `at` on.
 fn read_keys(f: &[u8], at: usize, count: usize) -> Walk
     ensures { λ r. ⌜ r ≡ walked keysGrade (times count key (now (f .entry)) at) ⌝ }
 {
@@ -102,6 +105,7 @@ fn read_keys(f: &[u8], at: usize, count: usize) -> Walk
     }
 }
 
+// The element at `at`.
 fn read_element(f: &[u8], at: usize) -> Walk
     ensures { λ r. ⌜ r ≡ walked elemGrade (element (now (f .entry)) at) ⌝ }
 {
@@ -126,6 +130,7 @@ fn read_element(f: &[u8], at: usize) -> Walk
     }
 }
 
+// The `count` elements from `at` on.
 fn read_elements(f: &[u8], at: usize, count: usize) -> Walk
     ensures { λ r. ⌜ r ≡ walked elemsGrade (times count element (now (f .entry)) at) ⌝ }
 {

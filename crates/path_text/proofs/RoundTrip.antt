@@ -67,6 +67,9 @@ module _ (p : Path) (g : goodPath p ≡ true) where
   pub no-stray : strayByte p ≡ false
   no-stray = or-false-l _ _ (or-false-r (overLimit p) _ faultless)
 
+  pub no-key-twice : keyTwice p ≡ false
+  no-key-twice = or-false-r (misplaced p) _ (or-false-r (strayByte p) _ (or-false-r (overLimit p) _ faultless))
+
 -- an element's text has two bytes or more
 elem-long : (x : Elem) → elemOver x ≡ false → 2 ≤ length (elemText x)
 unfolding elemOver unsized elemText
@@ -95,17 +98,18 @@ elements-whole p g =
     let t : h .0 ≡ length s = omega (arith, w .fits) in
     rw (h .1, t) (whole-good s p g)
 
-text-read : (p : Path) → goodPath p ≡ true → readText (pathText p) ≡ some p
+-- every good path has a text that reads back to it
+pub good-text : (p : Path) → goodPath p ≡ true → readText (pathText p) ≡ some p
 unfolding pathText
-text-read [] g = root-read
+good-text [] g = root-read
   where
     root-read : readText (bytes "/") ≡ some []
     root-read = unfold readText same _and_ if_then_else_ in refl
-text-read (x ∷ q) g = long-text (joined elemText (x ∷ q)) (x ∷ q) (text-long x q (within-limits (x ∷ q) g)) (elements-whole (x ∷ q) g)
+good-text (x ∷ q) g = long-text (joined elemText (x ∷ q)) (x ∷ q) (text-long x q (within-limits (x ∷ q) g)) (elements-whole (x ∷ q) g)
 
 -- path text is read to a path exactly where it is that good path's
 pub text-reader : Reads pathText readText
-text-reader = record { reads = λ s p h. ap readText (h .text) ∙ text-read p (h .good); only = text-only }
+text-reader = record { reads = λ s p h. ap readText (h .text) ∙ good-text p (h .good); only = text-only }
 
 -- ---- at most one path
 
@@ -141,9 +145,6 @@ pub write-read : (f s : Str) → textFor f ≡ some s → bytesFor s ≡ some f
 unfolding bytesFor textFor
 write-read f s e = back readBytes readText pathBytes pathText bytes-reader text-reader f s e
 
--- every good path has a text that reads back to it, and bytes that do
-pub good-text : (p : Path) → goodPath p ≡ true → readText (pathText p) ≡ some p
-good-text p g = text-reader .reads (pathText p) p (record { good = g; text = refl })
-
+-- every good path has bytes that read back to it
 pub good-bytes : (p : Path) → goodPath p ≡ true → readBytes (pathBytes p) ≡ some p
 good-bytes p g = bytes-reader .reads (pathBytes p) p (record { good = g; text = refl })

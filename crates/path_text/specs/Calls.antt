@@ -14,10 +14,11 @@ use Rattle.path_text.specs.TextReader.{readText}
 use Rattle.path_text.specs.declared.Filled.{Filled}
 use Rattle.path_text.specs.declared.Filled.the-variants.{Length, Refused}
 
--- path text to path bytes, and path bytes to path text
+-- path text to path bytes; none where it is not the text of a good path
 unfoldable pub bytesFor : Str → Option Str
 bytesFor s = Option·map pathBytes (readText s)
 
+-- path bytes to path text; none where they are not the bytes of a good path
 unfoldable pub textFor : Str → Option Str
 textFor f = Option·map pathText (readBytes f)
 

@@ -20,11 +20,12 @@ use Rattle.path_text.specs.declared.reader.Stored.the-variants as stored
 use Rattle.path_text.specs.declared.reader.Item.{Item}
 use Rattle.path_text.specs.declared.reader.Item.the-variants as items
 
--- the next byte of a value, unless its ] stands there
+-- the next byte of a value
 unfoldable pub itemIn : Parsed ℕ → Item
 itemIn (got b t) = items.Byte b t
 itemIn unread = items.Unread
 
+-- and the end of the value, where its ] (93) stands
 unfoldable pub itemOf : Str → ℕ → Item
 itemOf s at = if eqb (getD s at 0) 93 then items.End else itemIn (item s at)
 
@@ -41,7 +42,7 @@ pass ok unread = unread
 abbrev pub passing : {A : Type 0} → (A → Bool) → Reader A → Reader A
 passing ok r s at = pass ok (r s at)
 
--- the parts of a good path
+-- the parts of a good path; each name is followed by a, by b or by nothing
 abbrev pub goodName : ℕ → ℕ → Reader Str
 goodName a b = passing (good nameGrade) (name a b)
 
@@ -63,6 +64,7 @@ goodElement = passing (good elemGrade) element
 abbrev pub goodElements : Reader Path
 goodElements = each 47 16 goodElement
 
+-- a string, written as it is
 abbrev pub plainly : Str → Str
 plainly s = s
 

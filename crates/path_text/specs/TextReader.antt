@@ -1,5 +1,5 @@
 -- Reading path text. This is no part of what has to be believed: it is proved to answer exactly the good path whose text it is given
--- (proofs/RoundTrip).
+-- (proofs/RoundTrip). The bytes that it looks for are / (47), = (61), [ (91), \ (92) and ] (93).
 use Prim.Native.Nat.{ℕ, zero, suc, _+_}
 use mathlib.Core.Bool.{_||_}
 use mathlib.Core.List.{List, [], _∷_}
@@ -13,7 +13,7 @@ use Rattle.path.specs.Path.{Key, Elem, Path}
 use Rattle.path.specs.Spells.{whole}
 use Rattle.path_text.specs.Text.{isMark}
 
--- the byte b, which is not 0
+-- the byte b, which is not 0 (past the end `getD` gives 0)
 unfoldable pub literal : ℕ → Reader ℕ
 literal b s at = if eqb (getD s at 0) b then got b (at + 1) else unread
 

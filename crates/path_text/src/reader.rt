@@ -1,4 +1,8 @@
 // Path text to path bytes.
+//
+// Each function that reads a part of the format stores it as bytes, and its contract bounds them twice, `Room` before and `Stores` after: so many
+// bytes at most, and so many more than were read of the text. Names and values have at most 64 bytes and a length (65, one more than the text),
+// a key has 2 * 65 = 130, the keys with their count 1 + 4 * 130 = 521, an element 65 + 521 = 586, a path 1 + 16 * 586 = 9,377.
 ghost use mathlib.Core.Path.{_≡_};
 ghost use mathlib.Core.Bool.{false};
 ghost use mathlib.Core.List.{[], _∷_};
@@ -17,6 +21,7 @@ use crate::Filled;
 // Where reading goes on in the text, and storing in the buffer.
 pub enum Stored {
     To { next: usize, end: usize },
+    // The text is not of the format, or the path not good.
     Unread,
 }
 
@@ -27,7 +32,7 @@ pub enum Item {
     Unread,
 }
 
-// 0 past the end.
+// The byte at `at`, and 0 past the end.
 fn byte_at(s: &[u8], at: usize) -> u8
     ensures { λ r. ⌜ r ≡ getD (now (s .entry)) at 0 ⌝ }
 {
@@ -88,6 +93,7 @@ fn read_name(text: &[u8], at: usize, a: u8, b: u8, out: &mut [u8], to: usize) ->
     }
 }
 
+// The item at `at`.
 fn read_item(text: &[u8], at: usize) -> Item
     ensures { λ r. ⌜ r ≡ itemOf (now (text .entry)) at ⌝ }
 {
@@ -95,17 +101,17 @@ fn read_item(text: &[u8], at: usize) -> Item
         return Item::Unread;
     }
     let b = text[at];
-    if b == 93 {
+    if b == b']' {
         return Item::End;
     }
-    if b != 92 {
+    if b != b'\\' {
         return Item::Byte {
             byte: b,
             next: at + 1,
         };
     }
     let c = byte_at(text, at + 1);
-    if (c == 93) | (c == 92) {
+    if (c == b']') | (c == b'\\') {
         return Item::Byte {
             byte: c,
             next: at + 2,
@@ -188,17 +194,17 @@ fn read_key(text: &[u8], at: usize, out: &mut [u8], to: usize) -> Stored
     requires { ⌜ Room 130 1 (now text) at (now out) to ⌝ }
     ensures { λ r. ⌜ Stores 130 1 keyBytes goodKey (now (text .entry)) at (now (out .entry)) to (now (out .exit)) r ⌝ }
 {
-    let n = read_name(text, at, 61, 61, out, to);
+    let n = read_name(text, at, b'=', b'=', out, to);
     let Stored::To { next, end } = n else {
         return Stored::Unread;
     };
-    if byte_at(text, next) != 61 {
+    if byte_at(text, next) != b'=' {
         return Stored::Unread;
     }
     read_good_value(text, next + 1, out, end)
 }
 
-// The keys of an element, after their count.
+// The keys of an element, each in brackets; their count is stored before them.
 fn read_keys(text: &[u8], at: usize, out: &mut [u8], to: usize) -> Stored
     requires { ⌜ Room 521 1 (now text) at (now out) to ⌝ }
     ensures { λ r. ⌜ Stores 521 1 (counted keyBytes) goodKeys (now (text .entry)) at (now (out .entry)) to (now (out .exit)) r ⌝ }
@@ -207,7 +213,7 @@ fn read_keys(text: &[u8], at: usize, out: &mut [u8], to: usize) -> Stored
     let mut p = at;
     let mut q = start;
     let mut left: usize = 4;
-    while (0 < left) & (byte_at(text, p) == 91) {
+    while (0 < left) & (byte_at(text, p) == b'[') {
         let k = read_key(text, p + 1, out, q);
         let Stored::To { next, end } = k else {
             return Stored::Unread;
@@ -229,7 +235,7 @@ fn read_element(text: &[u8], at: usize, out: &mut [u8], to: usize) -> Stored
     requires { ⌜ Room 586 2 (now text) at (now out) to ⌝ }
     ensures { λ r. ⌜ Stores 586 2 elemBytes goodElement (now (text .entry)) at (now (out .entry)) to (now (out .exit)) r ⌝ }
 {
-    let n = read_name(text, at, 47, 91, out, to);
+    let n = read_name(text, at, b'/', b'[', out, to);
     let Stored::To { next, end } = n else {
         return Stored::Unread;
     };
@@ -239,7 +245,7 @@ fn read_element(text: &[u8], at: usize, out: &mut [u8], to: usize) -> Stored
     read_keys(text, next, out, end)
 }
 
-// The elements of a path, after their count.
+// The elements of a path; their count is stored before them.
 fn read_elements(text: &[u8], out: &mut [u8]) -> Stored
     requires { ⌜ Room 9377 17 (now text) 0 (now out) 0 ⌝ }
     ensures { λ r. ⌜ Stores 9377 17 (counted elemBytes) goodElements (now (text .entry)) 0 (now (out .entry)) 0 (now (out .exit)) r ⌝ }
@@ -247,7 +253,7 @@ fn read_elements(text: &[u8], out: &mut [u8]) -> Stored
     let mut p = 0;
     let mut q = 1;
     let mut left: usize = 16;
-    while (0 < left) & (byte_at(text, p) == 47) {
+    while (0 < left) & (byte_at(text, p) == b'/') {
         let e = read_element(text, p + 1, out, q);
         let Stored::To { next, end } = e else {
             return Stored::Unread;
@@ -298,7 +304,7 @@ fn read_apart(text: &[u8], apart: &mut [u8], out: &mut [u8]) -> Filled
     Filled::Length(end)
 }
 
-// The bytes are at most 17 more than the text: a count, and for each of 16 elements one more byte than its text has.
+// A short text. Its bytes are at most 17 more than the text: a count, and for each of 16 elements one more byte than its text has.
 fn read_short(text: &[u8], out: &mut [u8]) -> Filled
     requires { ⌜ (length (now text) ≤ 239) × (same (now text) (bytes "/") ≡ false) ⌝ }
     ensures { λ r. ⌜ (r ≡ answer (now (out .entry)) (bytesFor (now (text .entry)))) × (now (out .exit) ≡ lent (now (out .entry)) (bytesFor (now (text .entry)))) ⌝ }
@@ -307,15 +313,16 @@ fn read_short(text: &[u8], out: &mut [u8]) -> Filled
     read_apart(text, &mut apart, out)
 }
 
+// Any text, with room for the longest path bytes.
 fn read_long(text: &[u8], out: &mut [u8]) -> Filled
     requires { ⌜ same (now text) (bytes "/") ≡ false ⌝ }
     ensures { λ r. ⌜ (r ≡ answer (now (out .entry)) (bytesFor (now (text .entry)))) × (now (out .exit) ≡ lent (now (out .entry)) (bytesFor (now (text .entry)))) ⌝ }
 {
-    // the longest path bytes
     let mut apart = [0u8; 9377];
     read_apart(text, &mut apart, out)
 }
 
+// The text `/`, whose bytes are the count 0.
 fn read_root(out: &mut [u8]) -> Filled
     ensures { λ r. ⌜ (r ≡ answer (now (out .entry)) (some (0 ∷ []))) × (now (out .exit) ≡ lent (now (out .entry)) (some (0 ∷ []))) ⌝ }
 {
@@ -330,7 +337,7 @@ fn read_root(out: &mut [u8]) -> Filled
 pub fn read_text(text: &[u8], out: &mut [u8]) -> Filled
     ensures { λ r. ⌜ (r ≡ answer (now (out .entry)) (bytesFor (now (text .entry)))) × (now (out .exit) ≡ lent (now (out .entry)) (bytesFor (now (text .entry)))) ⌝ }
 {
-    if path::fault::is_byte(text, 47) {
+    if path::fault::is_byte(text, b'/') {
         return read_root(out);
     }
     if text.len() <= 239 {

@@ -20,12 +20,13 @@ pub struct Place {
     pub to: usize,
 }
 
+// A byte of a value, escaped where it has to be.
 fn write_byte(b: u8, out: &mut [u8], at: usize) -> usize
     requires { ⌜ at + length (escaped b) ≤ length (now out) ⌝ }
     ensures { λ r. ⌜ Wrote (now (out .entry)) at (escaped b) (now (out .exit)) r ⌝ }
 {
-    if (b == 93) | (b == 92) {
-        out[at] = 92;
+    if (b == b']') | (b == b'\\') {
+        out[at] = b'\\';
         out[at + 1] = b;
         return at + 2;
     }
@@ -33,6 +34,7 @@ fn write_byte(b: u8, out: &mut [u8], at: usize) -> usize
     at + 1
 }
 
+// A value without its brackets, escaped.
 pub fn write_value(v: &[u8], out: &mut [u8], at: usize) -> usize
     requires { ⌜ at + length (joined escaped (now v)) ≤ length (now out) ⌝ }
     ensures { λ r. ⌜ Wrote (now (out .entry)) at (joined escaped (now (v .entry))) (now (out .exit)) r ⌝ }
@@ -46,16 +48,17 @@ pub fn write_value(v: &[u8], out: &mut [u8], at: usize) -> usize
     p
 }
 
+// [name=value]
 fn write_key(name: &[u8], value: &[u8], out: &mut [u8], at: usize) -> usize
     requires { ⌜ at + length (keyText (record { name = now name; value = now value })) ≤ length (now out) ⌝ }
     ensures { λ r. ⌜ Wrote (now (out .entry)) at (keyText (record { name = now (name .entry); value = now (value .entry) })) (now (out .exit)) r ⌝ }
 {
-    out[at] = 91;
+    out[at] = b'[';
     text::fill::copy(name, out, at + 1);
     let equals = at + 1 + name.len();
-    out[equals] = 61;
+    out[equals] = b'=';
     let close = write_value(value, out, equals + 1);
-    out[close] = 93;
+    out[close] = b']';
     close + 1
 }
 
@@ -85,6 +88,7 @@ fn write_keys(f: &[u8], from: usize, count: usize, out: &mut [u8], to: usize) ->
     Place { from: p, to: q }
 }
 
+// The text of the element at `from`.
 fn write_element(f: &[u8], from: usize, out: &mut [u8], to: usize) -> Place
     requires { ⌜ (isRead (element (now f) from) ≡ true) × (to + length (written elemText (element (now f) from)) ≤ length (now out)) ⌝ }
     ensures { λ r. ⌜ (r .from ≡ endAt (element (now (f .entry)) from)) × Wrote (now (out .entry)) to (written elemText (element (now (f .entry)) from)) (now (out .exit)) (r .to) ⌝ }
@@ -99,11 +103,12 @@ fn write_element(f: &[u8], from: usize, out: &mut [u8], to: usize) -> Place
     let count = f[middle] as usize;
     let start = from + 1;
     let name = &f[start..middle];
-    out[to] = 47;
+    out[to] = b'/';
     text::fill::copy(name, out, to + 1);
     write_keys(f, middle + 1, count, out, to + 1 + name.len())
 }
 
+// The text of the `count` elements from `from` on.
 fn write_elements(f: &[u8], from: usize, count: usize, out: &mut [u8], to: usize) -> Place
     requires { ⌜ (isRead (times count element (now f) from) ≡ true) × (to + length (written (joined elemText) (times count element (now f) from)) ≤ length (now out)) ⌝ }
     ensures { λ r. ⌜ (r .from ≡ endAt (times count element (now (f .entry)) from)) × Wrote (now (out .entry)) to (written (joined elemText) (times count element (now (f .entry)) from)) (now (out .exit)) (r .to) ⌝ }
@@ -120,16 +125,17 @@ fn write_elements(f: &[u8], from: usize, count: usize, out: &mut [u8], to: usize
     Place { from: p, to: q }
 }
 
+// The text of the path at the start of f.
 fn write_path(f: &[u8], out: &mut [u8]) -> usize
     requires { ⌜ (isRead (path (now f) 0) ≡ true) × (length (written pathText (path (now f) 0)) ≤ length (now out)) ⌝ }
     ensures { λ r. ⌜ Wrote (now (out .entry)) 0 (written pathText (path (now (f .entry)) 0)) (now (out .exit)) r ⌝ }
 {
-    if f.len() <= 0 {
+    if f.len() == 0 {
         return 0;
     }
     let count = f[0] as usize;
     if count == 0 {
-        out[0] = 47;
+        out[0] = b'/';
         return 1;
     }
     let e = write_elements(f, 1, count, out, 0);

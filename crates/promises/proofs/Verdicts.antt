@@ -4,15 +4,14 @@ use mathlib.Core.Bool.{Bool, true, false}
 use mathlib.Core.Option.{Option, none, some}
 use Prim.Native.Nat.{ℕ}
 use native.Mathlib.Omega.{arith}
-use borrow.Author.Tests.{not-true}
 use Rattle.text.specs.Test.{_or_, if_then_else_}
 use Rattle.text.specs.String.{Str}
 use Rattle.text.specs.Refusal.{_when_else_, clear}
-use Rattle.text.proofs.Tests.{clash, or-false-r}
+use Rattle.text.proofs.Tests.{clash}
 use Rattle.path.specs.Path.{Path}
-use Rattle.path.specs.Faults.{overLimit, strayByte, misplaced, keyTwice, goodPath}
+use Rattle.path.specs.Faults.{keyTwice}
 use Rattle.path_text.specs.TextReader.{readText}
-use Rattle.path_text.proofs.RoundTrip.{text-reader}
+use Rattle.path_text.proofs.RoundTrip.{no-key-twice, text-reader}
 use Rattle.table.specs.Text.{check, tableOf}
 use Rattle.table.specs.Group.{badUser}
 use Rattle.table.specs.declared.Checked.the-variants.{Accepted}
@@ -35,10 +34,6 @@ spelled-well false false false e = refl
 is-spelled : (user : Str) (mode : ℕ) (origin text : Str) → requestRefusal user mode origin text ≡ clear → unspelled (readText text) ≡ false
 unfolding requestRefusal
 is-spelled user mode origin text e = spelled-well (badUser user or badMode mode) (badOrigin origin) _ e
-
-no-key-twice : (p : Path) → goodPath p ≡ true → keyTwice p ≡ false
-unfolding goodPath
-no-key-twice p g = or-false-r (misplaced p) (keyTwice p) (or-false-r (strayByte p) _ (or-false-r (overLimit p) _ (not-true _ g)))
 
 keys-of : (text : Str) (o : Option Path) → readText text ≡ o → unspelled o ≡ false → keyTwice (spelled o) ≡ false
 unfolding unspelled spelled

@@ -129,7 +129,7 @@ module _ (f : Str) where
             unfolding ruleBody _>>=_ ret
             rule-got p t e = rw (x, y, z, u, v, w, e)
 
--- ---- what read_rule has met
+-- ---- each way out of read_rule
 
 module _ (f : Str) (pre : (0 < length f) × (getD f 0 0 ≡ 4)) where
   unread-is : ruleBody f 1 ≡ unread → RuleRead f Unread

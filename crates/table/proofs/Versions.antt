@@ -1,4 +1,4 @@
--- What version_number has met.
+-- Each way out of version_number: its answer is the frame's number.
 use mathlib.Core.Path.{_≡_, refl, sym, _∙_}
 use mathlib.Core.Bool.{Bool, true, false, not}
 use mathlib.Core.Option.{none, some}

@@ -1,4 +1,4 @@
--- Frames: how each kind reads.
+-- Frames: what each kind of frame holds, and how it reads.
 use Prim.Native.Nat.{ℕ}
 use mathlib.Core.Option.{Option, none, some}
 use lib.Dec.{eqb}
@@ -9,13 +9,14 @@ use Rattle.text.specs.Frame.{Parsed, got, unread, Reader, _>>=_, ret, byte, run
 use Rattle.path.specs.Bytes.{path}
 use Rattle.table.specs.Table.{Member, Rule}
 
--- a frame that was read
+-- a frame that was read; of a version its string and its time
 pub data Entry : Type 0 where
   version : Str → Str → Entry
   group : Str → Entry
   member : Member → Entry
   rule : Rule → Entry
 
+-- nothing reads: an unknown kind or code byte
 unfoldable pub unknown : {A : Type 0} → Reader A
 unknown f at = unread
 
@@ -62,7 +63,7 @@ ruleEntry = do
   r ← ruleBody
   ret (rule r)
 
--- "after the kind byte"
+-- "after the kind byte", by the kind
 unfoldable pub body : ℕ → Reader Entry
 body k =
     if eqb k 1 then versionBody
@@ -71,16 +72,17 @@ body k =
     else if eqb k 4 then ruleEntry
     else unknown
 
+-- a frame, from its kind byte on
 unfoldable pub entry : Reader Entry
 entry = do
   k ← byte
   body k
 
--- what was read is the whole frame
+-- what was read, where it is the whole frame
 unfoldable pub whole : {A : Type 0} → Str → Parsed A → Option A
 whole f (got a t) = if eqb t (length f) then some a else none
 whole f unread = none
 
--- nothing where the kind or a code byte is unknown, or the frame too short or long
+-- what a frame holds; none where it gets 3: "unknown kind or code byte, frame too short or long"
 unfoldable pub entryOf : Str → Option Entry
 entryOf f = whole f (entry f 0)

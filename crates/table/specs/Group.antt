@@ -18,6 +18,7 @@ use Rattle.table.specs.declared.Counted.the-variants.{Count, NoGroup, De
 unfoldable pub lists : List Member → Str → Str → Bool
 lists members user group = any (sameMember (record { group = group; user = user })) members
 
+-- i before the numbers, if the test holds
 unfoldable pub numbered : Bool → ℕ → List ℕ → List ℕ
 numbered b i ns = if b then i ∷ ns else ns
 
@@ -26,6 +27,7 @@ unfoldable pub memberships : List Member → Str → ℕ → List Str → List �
 memberships members user i [] = []
 memberships members user i (g ∷ gs) = numbered (lists members user g) i (memberships members user (suc i) gs)
 
+-- the numbers of the user's groups
 unfoldable pub groupsOf : Table → Str → List ℕ
 groupsOf t user = memberships (t .members) user 0 (t .groups)
 
@@ -45,5 +47,6 @@ unfoldable pub countFor : Checked → Table → Str → Counted
 countFor (Refused n l) t user = Declined n l
 countFor Accepted t user = if badUser user then Declined 20 0 else counted (groupsOf t user)
 
+-- how many groups the user belongs to, by the table's text
 unfoldable pub groupCount : Str → Str → Counted
 groupCount text user = countFor (check text) (tableOf text) user

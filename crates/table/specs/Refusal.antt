@@ -14,7 +14,7 @@ use Rattle.line.specs.Lines.{frame}
 use Rattle.table.specs.Table.{Member}
 use Rattle.table.specs.Frame.{Entry, version, group, member, rule, entryOf}
 
--- what a line is
+-- what a line is: not a hex line, a hex line whose frame does not read, or one that holds an entry
 pub data Line : Type 0 where
   notHex : Line
   unreadable : Line
@@ -31,13 +31,14 @@ decoded (some f) = framed (entryOf f)
 unfoldable pub lineOf : Str → Line
 lineOf l = decoded (frame l)
 
--- what the lines before tell: the kind of the last of them (0 where there is none), the groups, the members and the rules' ids
+-- what the lines before a line tell: the kind of the last of them (0 where there is none), the groups, the members and the rules' ids
 pub record Earlier : Type 0 where
   pub kind : ℕ
   pub groups : List Str
   pub members : List Member
   pub ids : List Str
 
+-- the kind byte
 unfoldable pub kindOf : Entry → ℕ
 kindOf (version v t) = 1
 kindOf (group n) = 2
@@ -46,6 +47,7 @@ kindOf (rule r) = 4
 
 -- ---- 4: "Exactly one 01 line, the first; kinds never fall from line to line."
 
+-- of the kind before, 0 on the first line, and the kind
 unfoldable pub outOfOrder : ℕ → ℕ → Bool
 outOfOrder last kind = if eqb last 0 then not (eqb kind 1) else (eqb kind 1 or ltb kind last)
 
@@ -55,7 +57,7 @@ outOfOrder last kind = if eqb last 0 then not (eqb kind 1) else (eqb kind 1 or l
 unfoldable pub unsizedShort : Str → Bool
 unsizedShort s = eqb (length s) 0 or ltb 32 (length s)
 
--- "At most 64 groups, 512 members, 256 rules"
+-- "At most 64 groups, 512 members, 256 rules": so many stand before already
 unfoldable pub pastLimit : Earlier → Entry → Bool
 pastLimit b (version v t) = unsizedShort v
 pastLimit b (group n) = unsized n or leb 64 (length (b .groups))
@@ -69,6 +71,7 @@ pastLimit b (rule r) =
 unfoldable pub stray : Str → Bool
 stray s = not (all isPrint s)
 
+-- in any string or path of the frame
 unfoldable pub strays : Entry → Bool
 strays (version v t) = stray v
 strays (group n) = stray n
@@ -120,17 +123,20 @@ refusal b (reads e) =
     else 9 when unlisted b e
     else clear
 
--- ---- one line more
+-- ---- what the lines before a line tell
 
+-- before the first line
 unfoldable pub first : Earlier
 first = record { kind = 0; groups = []; members = []; ids = [] }
 
+-- with one entry more
 unfoldable pub with : Earlier → Entry → Earlier
 with b (version v t) = record { kind = 1; groups = b .groups; members = b .members; ids = b .ids }
 with b (group n) = record { kind = 2; groups = b .groups ++ (n ∷ []); members = b .members; ids = b .ids }
 with b (member m) = record { kind = 3; groups = b .groups; members = b .members ++ (m ∷ []); ids = b .ids }
 with b (rule r) = record { kind = 4; groups = b .groups; members = b .members; ids = b .ids ++ (r .id ∷ []) }
 
+-- after one line more
 unfoldable pub after : Earlier → Line → Earlier
 after b notHex = b
 after b unreadable = b

@@ -5,6 +5,7 @@ use mathlib.Core.List.{List}
 use Rattle.text.specs.String.{Str}
 use Rattle.path.specs.Path.{Path}
 
+-- "S group, S user"
 pub record Member : Type 0 where
   pub group : Str
   pub user : Str

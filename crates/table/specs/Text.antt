@@ -17,6 +17,7 @@ use Rattle.table.specs.declared.Checked.the-variants.{Accepted, Refused}
 
 -- ---- the answer
 
+-- the refusal by a number, or what comes next where it is none
 unfoldable pub unless : ℕ → ℕ → Checked → Checked
 unless number line next = if eqb number clear then next else Refused number line
 
@@ -36,11 +37,9 @@ unfoldable pub isAccepted : Checked → Bool
 isAccepted Accepted = true
 isAccepted (Refused n l) = false
 
-unfoldable pub accepted : Str → Bool
-accepted text = isAccepted (check text)
-
 -- ---- the table
 
+-- one more, if there is one
 unfoldable pub maybe : {A : Type 0} → Option A → List A → List A
 maybe none xs = xs
 maybe (some x) xs = x ∷ xs
@@ -50,21 +49,17 @@ unfoldable pub collect : {A B : Type 0} → (A → Option B) → List A → List
 collect f [] = []
 collect f (x ∷ xs) = maybe (f x) (collect f xs)
 
+-- what a line holds
 unfoldable pub read : Line → Option Entry
 read notHex = none
 read unreadable = none
 read (reads e) = some e
 
--- the frames of the lines that read
+-- what the lines hold, in order
 unfoldable pub entries : List Str → List Entry
 entries ls = collect (λ (l : Str). read (lineOf l)) ls
 
-unfoldable pub asVersion : Entry → Option Entry
-asVersion (version v t) = some (version v t)
-asVersion (group n) = none
-asVersion (member m) = none
-asVersion (rule r) = none
-
+-- the groups, members and rules of the entries, each apart
 unfoldable pub asGroup : Entry → Option Str
 asGroup (version v t) = none
 asGroup (group n) = some n
@@ -83,7 +78,7 @@ asRule (group n) = none
 asRule (member m) = none
 asRule (rule r) = some r
 
--- of the first line's frame
+-- version and time, of the first entry
 unfoldable pub versionOf : List Entry → Str
 versionOf [] = []
 versionOf (version v t ∷ es) = v

@@ -24,10 +24,11 @@ merged p five six eight nine =
     else 9 when nine
     else clear
 
+-- a length is 0 or over the limit
 abbrev pub unsizedBy : ℕ → ℕ → Bool
 unsizedBy limit n = eqb n 0 || ltb limit n
 
--- the rule of a frame, whose strings end at s, i and o, and whose path gets the number p
+-- the rule of a frame f: its subject, whose bytes start at 5, ends at s, its id at i, its origin at o, and its path gets the number p
 pub record RuleAt (f : Str) (s i o p : ℕ) : Type 0 where
   pub rule : Rule
   pub body : ruleBody f 1 ≡ got rule (length f)
@@ -39,6 +40,7 @@ pub record RuleAt (f : Str) (s i o p : ℕ) : Type 0 where
   pub path : p ≡ pathRefusal (rule .path)
   pub long : (5 ≤ s) × (s + 1 ≤ i) × (i + 1 ≤ o) × (o ≤ length f)
 
+-- what the answer of `read_rule` says of the frame
 unfoldable pub RuleRead : Str → RuleFrame → Type 0
 RuleRead f (Is s i o p) = RuleAt f s i o p
 RuleRead f Unread = entryOf f ≡ none

@@ -10,6 +10,7 @@ ghost use Rattle.table.specs.Walk.{merged, unsizedBy, RuleRead};
 use path_frame::Walk;
 use text::frame::End;
 
+// The order of kinds is broken: `last` is the kind of the line before, 0 on the first line.
 pub fn is_out_of_order(last: u8, kind: u8) -> bool
     ensures { λ r. ⌜ r ≡ outOfOrder last kind ⌝ }
 {
@@ -19,7 +20,7 @@ pub fn is_out_of_order(last: u8, kind: u8) -> bool
     (kind == 1) | (kind < last)
 }
 
-// The smallest number from 5 on, or 255. p is the path's own number, 255 for none.
+// The smallest number from 5 on whose flag is set, or 255. p is the number of the frame's path, 255 for none.
 pub fn number(p: u8, five: bool, six: bool, eight: bool, nine: bool) -> u8
     ensures { λ r. ⌜ r ≡ merged p five six eight nine ⌝ }
 {
@@ -48,7 +49,7 @@ pub fn is_unsized(limit: usize, n: usize) -> bool
     (n == 0) | (limit < n)
 }
 
-// The number of a frame of kind 1; 255 for none.
+// The number of a frame of kind 1, or 255; `last` is the kind of the line before.
 pub fn version_number(f: &[u8], last: u8) -> u8
     requires { ⌜ (0 < length (now f)) × (getD (now f) 0 0 ≡ 1) ⌝ }
     ensures { λ r. ⌜ ((b : Earlier) → b .kind ≡ last → r ≡ refusal b (framed (entryOf (now (f .entry))))) ⌝ }
@@ -71,7 +72,7 @@ pub fn version_number(f: &[u8], last: u8) -> u8
     number(255, five, six, false, false)
 }
 
-// Where the strings of a rule end, and the number of its path.
+// Where the strings of a rule end, and the number of its path, 255 for none.
 pub enum RuleFrame {
     Is {
         subject: usize,
@@ -82,7 +83,7 @@ pub enum RuleFrame {
     Unread,
 }
 
-// A frame of kind 4.
+// Reads a frame of kind 4.
 pub fn read_rule(f: &[u8]) -> RuleFrame
     requires { ⌜ (0 < length (now f)) × (getD (now f) 0 0 ≡ 4) ⌝ }
     ensures { λ r. ⌜ RuleRead (now (f .entry)) r ⌝ }

@@ -1,10 +1,10 @@
--- Hex digits, found by subtraction modulo 256.
+-- The tests of bytes that programs make: hex digits, found by subtraction modulo 256, and the bytes of names.
 use mathlib.Core.Path.{_≡_, refl, ap, _∙_}
-use mathlib.Core.Bool.{Bool, true, false, not, xor, _&&_, _||_, cond}
+use mathlib.Core.Bool.{Bool, true, false, not, xor, _&&_, _||_}
 use Prim.Native.Nat.{ℕ, zero, suc, _+_, _-_, _≤_, _<_, _%_}
 use native.Mathlib.Omega.{arith}
-use borrow.Author.Tests.{leb-true, le-leb, lt-leb, eqb-true, eqb-false}
-use lib.Dec.{leb, eqb}
+use borrow.Author.Tests.{le-leb, lt-leb, eqb-true, eqb-false}
+use lib.Dec.{eqb}
 use lib.Bits.{bitOr}
 use Rattle.text.specs.Byte.{within, isDigit, hexValue, isName}
 use Rattle.text.proofs.Tests.{by, clash, and-left, and-right}
@@ -43,15 +43,6 @@ module _ (b d : ℕ) (byte : b < 256) (small : d < 256) (wraps : (d + 48) % 256 
 
     pub no-value : 6 ≤ l → 16 ≡ hexValue b
     no-value k = rw (no-digit h, no-letter k)
-
--- a byte that is no digit has the value 16, and a digit less
-hex-cases : (b : ℕ) (t u : Bool) → isDigit b ≡ t → within 97 102 b ≡ u → cond t (b - 48) (cond u (b - 87) 16) ≤ 16
-hex-cases b true u e f = let h : b ≤ 57 = leb-true _ _ (and-right (leb 48 b) _ e) in omega arith
-hex-cases b false true e f = let h : b ≤ 102 = leb-true _ _ (and-right (leb 97 b) _ f) in omega arith
-hex-cases b false false e f = omega arith
-
-pub hexValue-small : (b : ℕ) → hexValue b ≤ 16
-hexValue-small b = hex-cases b (isDigit b) (within 97 102 b) refl refl
 
 -- ---- names, by the test that is_name makes
 

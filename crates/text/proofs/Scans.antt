@@ -11,7 +11,7 @@ use lib.ListN.{length, drop, getD, drop-of-length-le}
 use lib.Seq.{drop-cons}
 use Rattle.text.specs.Test.{_and_, _or_, all, any}
 use Rattle.text.specs.String.{same, more, before}
-use Rattle.text.proofs.Tests.{or-join, or-none}
+use Rattle.text.proofs.Tests.{and-second, or-join, or-none}
 
 module _ (p : ℕ → Bool) (a : List ℕ) (i : ℕ) where
   pub all-pass : i < length a → p (getD a i 0) ≡ true → all p (drop i a) ≡ all p (drop (i + 1) a)
@@ -71,15 +71,10 @@ before-nil (y ∷ b) (suc i) = before-nil b i ∙ sym (leb·suc-suc (suc i) (len
 pub before-end : (a b : List ℕ) (i : ℕ) → length a ≤ i → before (drop i a) (drop i b) ≡ ltb i (length b)
 before-end a b i p = rw (drop-of-length-le a) (before-nil b i)
 
-and-none : (s t : Bool) → t ≡ false → (s and t) ≡ false
-unfolding _and_
-and-none true t e = e
-and-none false t e = refl
-
 -- strings of different lengths
 pub same-lengths : (a b : List ℕ) → (length a ≡ length b → ⊥) → same a b ≡ false
 unfolding same
 same-lengths [] [] n = absurd (n refl)
 same-lengths [] (y ∷ b) n = refl
 same-lengths (x ∷ a) [] n = refl
-same-lengths (x ∷ a) (y ∷ b) n = and-none _ _ (same-lengths a b (λ e. n (ap suc e)))
+same-lengths (x ∷ a) (y ∷ b) n = and-second _ _ (same-lengths a b (λ e. n (ap suc e)))

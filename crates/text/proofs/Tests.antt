@@ -42,6 +42,15 @@ pub and-false : (a b : Bool) → a ≡ true → (a and b) ≡ false → b ≡ fa
 unfolding _and_
 and-false a b e h = rw e at h
 
+pub and-first : (a b : Bool) → a ≡ false → (a and b) ≡ false
+unfolding _and_
+and-first a b e = rw e
+
+pub and-second : (a b : Bool) → b ≡ false → (a and b) ≡ false
+unfolding _and_
+and-second true b e = e
+and-second false b e = refl
+
 pub or-l : (a b : Bool) → a ≡ true → (a or b) ≡ true
 unfolding _or_
 or-l a b e = rw e

@@ -1,4 +1,4 @@
--- Reading: from a position of the bytes on, a value and where it ends; or the bytes do not read so.
+-- Readers: from a position of the bytes on, a value and where it ends, which is where reading goes on; or the bytes do not read so.
 use Prim.Native.Nat.{ℕ, zero, suc, _+_, _-_}
 use mathlib.Core.List.{List, [], _∷_}
 use lib.ListN.{length, take, drop, getD}
@@ -8,6 +8,7 @@ use Rattle.text.specs.String.{Str}
 use Rattle.text.specs.declared.frame.End.{End}
 use Rattle.text.specs.declared.frame.End.the-variants.{At, Unread}
 
+-- a value, and where it ends
 pub data Parsed (A : Type 0) : Type 0 where
   got : A → ℕ → Parsed A
   unread : Parsed A
@@ -16,17 +17,21 @@ pub data Parsed (A : Type 0) : Type 0 where
 abbrev pub Reader : Type 0 → Type 0
 Reader A = List ℕ → ℕ → Parsed A
 
+-- what was read, and its end, handed on to k
 abbrev pub andThen : {A B : Type 0} → Parsed A → (A → ℕ → Parsed B) → Parsed B
 andThen (got a p) k = k a p
 andThen unread k = unread
 
 infixl 10 _>>=_
+-- one reading after another; `x ← r` in a `do`
 unfoldable pub _>>=_ : {A B : Type 0} → Reader A → (A → Reader B) → Reader B
 _>>=_ r k f at = andThen (r f at) (λ a p. k a f p)
 
+-- a value, with nothing read
 unfoldable pub ret : {A : Type 0} → A → Reader A
 ret a f at = got a at
 
+-- the next byte
 unfoldable pub byte : Reader ℕ
 byte f at = if ltb at (length f) then got (getD f at 0) (at + 1) else unread
 
@@ -44,7 +49,7 @@ string = do
   n ← byte
   run n
 
--- the bytes that such a string stands in
+-- and the bytes of such a string
 unfoldable pub stringBytes : Str → Str
 stringBytes s = length s ∷ s
 
@@ -56,7 +61,7 @@ times (suc n) r = do
   xs ← times n r
   ret (x ∷ xs)
 
--- where a reading ends
+-- where a reading ends, as programs answer it
 unfoldable pub endOf : {A : Type 0} → Parsed A → End
 endOf (got a t) = At t
 endOf unread = Unread

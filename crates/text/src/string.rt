@@ -4,6 +4,7 @@ ghost use Rattle.text.specs.Byte.{isPrint};
 ghost use Rattle.text.specs.Test.{all};
 ghost use Rattle.text.specs.String.{same, before};
 
+// Every byte is printable.
 pub fn all_print(s: &[u8]) -> bool
     ensures { λ r. ⌜ r ≡ all isPrint (now (s .entry)) ⌝ }
 {
@@ -17,7 +18,7 @@ pub fn all_print(s: &[u8]) -> bool
     true
 }
 
-// Lengths are compared first.
+// The two strings are equal. Lengths are compared first.
 pub fn is_same(a: &[u8], b: &[u8]) -> bool
     ensures { λ r. ⌜ r ≡ same (now (a .entry)) (now (b .entry)) ⌝ }
 {
@@ -35,7 +36,7 @@ pub fn is_same(a: &[u8], b: &[u8]) -> bool
     true
 }
 
-// Byte order; a proper prefix comes before.
+// The string a comes before b in byte order, where a proper prefix is smaller.
 pub fn is_before(a: &[u8], b: &[u8]) -> bool
     ensures { λ r. ⌜ r ≡ before (now (a .entry)) (now (b .entry)) ⌝ }
 {

@@ -9,7 +9,7 @@ returns : tie.Need-returns
 returns c =
     let at-if1 = c .if1 in
     let at-start = c .before .before .before in
-    path-counted (at-start .args .out .now) (at-start .args .f .now) (at-start .pre) (at-if1 .taken)
+    path-counted (at-start .args .out .now) (at-start .args .f .now) (at-start .pre) (omega (arith, at-if1 .taken))
 
 shared-slice-read-count : tie.Need-shared-slice-read-count
 shared-slice-read-count c = search needs
@@ -24,7 +24,7 @@ slice-write-out c =
     let at-if2 = c .if2 in
     let at-if1 = c .before .before .if1 in
     let at-start = c .before .before .before .before .before in
-    root-room (at-start .args .out .now) (at-start .args .f .now) (at-start .pre) (at-if1 .left) (at-if2 .taken)
+    root-room (at-start .args .out .now) (at-start .args .f .now) (at-start .pre) (omega (arith, at-if1 .left)) (at-if2 .taken)
 
 same-length : tie.Need-same-length
 same-length c = search needs
@@ -34,14 +34,14 @@ returns-2 c =
     let at-if2 = c .if2 in
     let at-if1 = c .before .before .if1 in
     let at-start = c .before .before .before .before .before in
-    root-wrote (at-start .args .out .now) (at-start .args .f .now) (at-start .pre) (at-if1 .left) (at-if2 .taken)
+    root-wrote (at-start .args .out .now) (at-start .args .f .now) (at-start .pre) (omega (arith, at-if1 .left)) (at-if2 .taken)
 
 write-elements-requires : tie.Need-write-elements-requires
 write-elements-requires c κs =
     let at-if2 = c .before .if2 in
     let at-if1 = c .before .before .before .if1 in
     let at-start = c .before .before .before .before .before .before in
-    more-room (at-start .args .out .now) (at-start .args .f .now) (at-start .pre) (at-if1 .left) (at-if2 .left)
+    more-room (at-start .args .out .now) (at-start .args .f .now) (at-start .pre) (omega (arith, at-if1 .left)) (at-if2 .left)
 
 same-length-2 : tie.Need-same-length-2
 same-length-2 c = search needs
@@ -52,7 +52,7 @@ returns-3 c =
     let at-if2 = c .before .before .before .before .if2 in
     let at-if1 = c .before .before .before .before .before .before .if1 in
     let at-start = c .before .before .before .before .before .before .before .before .before in
-    more-wrote (at-start .args .out .now) (at-start .args .f .now) (at-start .pre) (at-if1 .left) (at-if2 .left) _ _ (at-write-elements .ensures .1)
+    more-wrote (at-start .args .out .now) (at-start .args .f .now) (at-start .pre) (omega (arith, at-if1 .left)) (at-if2 .left) _ _ (at-write-elements .ensures .1)
 
 pub write-path-spec : {M : Type 1} → statement M
 write-path-spec =
