@@ -10,16 +10,16 @@ use lib.ListN.{length, take, getD}
 use Rattle.text.specs.Test.{_or_, if_then_else_, any}
 use Rattle.text.specs.String.{Str}
 use Rattle.text.proofs.Tests.{by}
-use Rattle.rows.proofs.Grow.{strings-length, rows-length}
+use Rattle.rows.proofs.Grow.{rows-length}
 use Rattle.table.specs.Table.{Member}
 use Rattle.table.specs.Text.{check, tableOf}
 use Rattle.table.specs.Group.{lists, numbered, memberships, groupsOf}
-use Rattle.table.specs.declared.Checked.the-variants as checked
-use Rattle.keep.specs.Held.{memberIn, membersIn, Owned}
+use Rattle.keep.specs.Held.{memberIn, membersIn}
 use Rattle.load.specs.declared.row.Counts.{Counts}
 use Rattle.load.specs.Loaded.{Kept}
 use Rattle.membership.specs.Set.{hasOf, setIn}
 use Rattle.membership.proofs.Sets.{has-lists}
+use Rattle.groups.proofs.Calls.{named-long, own-named}
 use Rattle.facts.specs.declared.Rows.the-variants as rows
 use Rattle.facts.specs.Facts.{rowsOf, isListed}
 
@@ -62,16 +62,13 @@ module _ (members : List Member) (user : Str) where
 -- ---- of a loaded table
 
 module _ {text buf : List ℕ} {u : ℕ} {c : Counts} {groups users owners ids starts holders : List ℕ} (K : Kept text buf u c groups users owners ids starts holders) where
-  groups-long : length (tableOf text .groups) ≡ c .groups
-  groups-long = ap length (K .holds .groups-are) ∙ strings-length (take u buf) groups (c .groups)
-
   members-long : length (tableOf text .members) ≡ c .members
   unfolding membersIn
   members-long = ap length (K .holds .members-are) ∙ rows-length (memberIn (tableOf text .groups) owners (take u buf) users) (c .members) 0
 
   pub rows-are : rows.Count (c .groups) (c .members) (c .rules) ≡ rowsOf (check text) (tableOf text)
   unfolding rowsOf
-  rows-are = rw (K .accepts, groups-long, members-long, K .holds .rules-count)
+  rows-are = rw (K .accepts, named-long K, members-long, K .holds .rules-count)
 
   -- a group's number is one of a set's places
   pub has-room : (g : ℕ) → g < c .groups → g < 64
@@ -80,14 +77,13 @@ module _ {text buf : List ℕ} {u : ℕ} {c : Counts} {groups users owners ids s
   module _ (user : Str) (g : ℕ) where
     pub none-past : c .groups ≤ g → false ≡ isListed (check text) (tableOf text) user g
     unfolding isListed groupsOf
-    none-past h = rw (K .accepts) (sym (past (tableOf text .members) user (tableOf text .groups) 0 g g (omega arith) (omega (arith, groups-long))))
+    none-past h = rw (K .accepts) (sym (past (tableOf text .members) user (tableOf text .groups) 0 g g (omega arith) (omega (arith, named-long K))))
 
     pub listed-is : g < c .groups → hasOf (setIn user (take u buf) users owners (c .members) 0 0) g ≡ isListed (check text) (tableOf text) user g
     unfolding isListed groupsOf
     listed-is h =
         let t = tableOf text in
-        let l : g < length (t .groups) = omega (arith, groups-long) in
-        let own : Owned owners (c .members) (length (t .groups)) = λ j k. omega (arith, groups-long, K .holds .owned j k) in
+        let l : g < length (t .groups) = omega (arith, named-long K) in
         rw (K .accepts)
-        (has-lists (t .groups) (t .members) user (take u buf) users owners (c .members) (K .holds .distinct) (K .holds .members-are) own g l
+        (has-lists (t .groups) (t .members) user (take u buf) users owners (c .members) (K .holds .distinct) (K .holds .members-are) (own-named K) g l
         ∙ sym (among (t .members) user (t .groups) 0 g g (omega arith) l))

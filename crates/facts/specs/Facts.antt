@@ -1,4 +1,4 @@
--- Facts about a table.
+-- Facts about a table, for the command line.
 use Prim.Native.Nat.{ℕ}
 use mathlib.Core.Bool.{Bool, false}
 use mathlib.Core.List.{List, []}
@@ -16,17 +16,17 @@ use Rattle.facts.specs.declared.Row.the-variants.{Group, Rule}
 use Rattle.facts.specs.declared.Rows.{Rows}
 use Rattle.facts.specs.declared.Rows.the-variants as rows
 
--- "accepted (with counts of groups, members, rules ..)"
+-- how many groups, members and rules an accepted table has
 unfoldable pub rowsOf : Checked → Table → Rows
 rowsOf (checked.Refused n l) t = rows.Refused n l
 rowsOf checked.Accepted t = rows.Count (length (t .groups)) (length (t .members)) (length (t .rules))
 
--- the group of that number is one of those that list the user
+-- the group of that number is one of those that list the user; none of a refused table is
 unfoldable pub isListed : Checked → Table → Str → ℕ → Bool
 isListed (checked.Refused n l) t user g = false
 isListed checked.Accepted t user g = any (eqb g) (groupsOf t user)
 
--- "Rules and groups are numbered from 0 in text order."
+-- the name of a group, the id of a rule: "Rules and groups are numbered from 0 in text order." Empty where there is no such row.
 unfoldable pub nameOf : Checked → Table → Row → Str
 nameOf (checked.Refused n l) t row = []
 nameOf checked.Accepted t (Group g) = getD (t .groups) (g .0) []

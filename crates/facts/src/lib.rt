@@ -12,7 +12,7 @@ use load::Loaded;
 use table::GroupNumber;
 use table::RuleNumber;
 
-// Of an accepted table.
+// The answer of a count of rows.
 pub enum Rows {
     Count {
         groups: usize,

@@ -51,10 +51,10 @@ counted-is set [] e f = rw (eq-eqb (ones set) 0 e)
 counted-is set (k ∷ ks) e f = rw (ne-eqb (ones set) 0 (λ q. let x : ⊥ = omega arith in x), e, ← f k ks refl)
 
 module _ {text buf : List ℕ} {u : ℕ} {c : Counts} {groups users owners ids starts holders : List ℕ} (K : Kept text buf u c groups users owners ids starts holders) where
-  named-long : length (tableOf text .groups) ≡ c .groups
+  pub named-long : length (tableOf text .groups) ≡ c .groups
   named-long = ap length (K .holds .groups-are) ∙ strings-length (take u buf) groups (c .groups)
 
-  own-named : Owned owners (c .members) (length (tableOf text .groups))
+  pub own-named : Owned owners (c .members) (length (tableOf text .groups))
   own-named j h = omega (arith, named-long, K .holds .owned j h)
 
   pub own-64 : Owned owners (c .members) 64

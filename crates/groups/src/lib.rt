@@ -64,6 +64,7 @@ pub fn count_groups(text: &[u8], user: &[u8]) -> Counted
     membership::count_in(&buf[..used], &users, &owners, counts.members, user)
 }
 
+// A table's own refusal.
 fn declined(l: Loaded) -> Counted
     ensures { λ r. ⌜ r ≡ declinedBy l ⌝ }
 {

@@ -1,4 +1,4 @@
--- What take_group has met.
+-- Each way out of take_group: its answer is the frame's number, and what is kept.
 use mathlib.Core.Path.{_≡_, refl, sym, ap, _∙_}
 use mathlib.Core.Bool.{Bool, true, false, not, _||_}
 use mathlib.Core.List.{List}

@@ -1,4 +1,4 @@
--- What take_member has met.
+-- Each way out of take_member: its answer is the frame's number, and what is kept.
 use mathlib.Core.Path.{_≡_, refl, sym, ap, ap₂, _∙_}
 use mathlib.Core.Bool.{Bool, true, false, not, _||_}
 use mathlib.Core.List.{List, [], _∷_, _++_}
@@ -137,13 +137,13 @@ module _ (f : Str) (pre : (0 < length f) × (getD f 0 0 ≡ 3)) (r : End) (i : r
           pub member-four : (b : Earlier) → b .kind ≡ last → o ≡ true → 4 ≡ refusal b (framed (entryOf f))
           member-four b w h = refused-read b f _ 4 member-reads (number-four b _ (sym (order b w) ∙ h))
 
-          module _ (h : o ≡ false) (old starts : List ℕ) (count : ℕ) (users owners kept : List ℕ) (k : ℕ)
-              (small : length old + length f ≤ 16384) (long : length kept ≡ 4609)
-              (H : Holds memberPlace old kept 512 (bytesOf (membersIn (stringsIn old starts count 0) owners old users k)))
+          module _ (h : o ≡ false) (old starts : List ℕ) (count : ℕ) (users owners keys : List ℕ) (k : ℕ)
+              (small : length old + length f ≤ 16384) (long : length keys ≡ 4609)
+              (H : Holds memberPlace old keys 512 (bytesOf (membersIn (stringsIn old starts count 0) owners old users k)))
               (p place′ hash : ℕ) (u v x y : Bool) (z : Found)
               (uu : u ≡ unsizedBy 64 (length name)) (vv : v ≡ unsizedBy 64 (length user)) (xx : x ≡ all isPrint name) (yy : y ≡ all isPrint user)
               (pp : place′ ≡ place name (stringsIn old starts count 0)) (hh : hash ≡ hashOf (part f 1 t))
-              (zz : Met old kept 512 (513 + hash % 4096) (part f 1 t) z)
+              (zz : Met old keys 512 (513 + hash % 4096) (part f 1 t) z)
               (mm : p ≡ merged 255 ((u || v) || leb 512 k) (not x || not y) (z .again) (eqb place′ count)) where
             -- the bytes after the kind byte
             key-is : part f 1 t ≡ memberBytes this
@@ -153,7 +153,7 @@ module _ (f : Str) (pre : (0 < length f) × (getD f 0 0 ≡ 3)) (r : End) (i : r
             spot : 513 + hash % 4096 ≡ memberPlace (part f 1 t)
             spot = place-is-told (part f 1 t) hash (513 + hash % 4096) hh refl
 
-            met : Met old kept 512 (memberPlace (part f 1 t)) (part f 1 t) z
+            met : Met old keys 512 (memberPlace (part f 1 t)) (part f 1 t) z
             met = rw spot at zz
 
             again-is : z .again ≡ any (sameMember this) (membersIn (stringsIn old starts count 0) owners old users k)
@@ -163,10 +163,10 @@ module _ (f : Str) (pre : (0 < length f) × (getD f 0 0 ≡ 3)) (r : End) (i : r
             unfolding membersIn
             count-is = bytes-length _ ∙ rows-length _ k 0
 
-            pub spot-fits : 513 + hash % 4096 < length kept
+            pub spot-fits : 513 + hash % 4096 < length keys
             spot-fits = omega arith
 
-            pub fits-is : z .at ≤ getD kept 512 0
+            pub fits-is : z .at ≤ getD keys 512 0
             fits-is = met .fits
 
             pub member-graded : (b : Earlier) → b .kind ≡ last → b .groups ≡ stringsIn old starts count 0 → b .members ≡ membersIn (b .groups) owners old users k
@@ -189,12 +189,12 @@ module _ (f : Str) (pre : (0 < length f) × (getD f 0 0 ≡ 3)) (r : End) (i : r
               pub member-room : k < 512
               member-room = leb-false 512 k (or-false-r (u || v) _ (sym (or-is (u || v) (leb 512 k)) ∙ clear-is .0))
 
-              pub sorted-room : getD kept 512 0 < 512
+              pub sorted-room : getD keys 512 0 < 512
               sorted-room = omega (arith, H .few, count-is, member-room)
 
-              pub member-kept : (kept′ : List ℕ) → kept′ ≡ added kept 512 (513 + hash % 4096) (z .at) (spanOf (length old + 1) (length old + t))
-                  → MemberKept (stringsIn old starts count 0) old f users owners k (set users k (length old + m)) (set owners k place′) kept′
-              member-kept kept′ q =
+              pub member-kept : (keys′ : List ℕ) → keys′ ≡ added keys 512 (513 + hash % 4096) (z .at) (spanOf (length old + 1) (length old + t))
+                  → MemberKept (stringsIn old starts count 0) old f users owners k (set users k (length old + m)) (set owners k place′) keys′
+              member-kept keys′ q =
                   let w = string-ends f m s c t e in
                   let a : 1 ≤ t = omega (arith, w .1) in
                   record {
@@ -207,7 +207,7 @@ module _ (f : Str) (pre : (0 < length f) × (getD f 0 0 ≡ 3)) (r : End) (i : r
                     listed = listed-is name (stringsIn old starts count 0) place′ count pp (sym (strings-length old starts count)) (clear-is .1);
                     users-set = refl;
                     owners-set = ap (set owners k) pp;
-                    keys-long = ap length q ∙ added-long kept 512 (513 + hash % 4096) (z .at) _ (met .fits) (omega (arith, sorted-room)) ∙ long;
+                    keys-long = ap length q ∙ added-long keys 512 (513 + hash % 4096) (z .at) _ (met .fits) (omega (arith, sorted-room)) ∙ long;
                     held =
                         rw (q, spot, ← key-is)
                         (holds-grows f (λ y. (place-far y .0, omega (arith, place-far y .1))) H (part f 1 t) z met (clear-is .2) (spanOf (length old + 1) (length old + t))

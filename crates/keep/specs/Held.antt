@@ -1,4 +1,4 @@
--- Rows that are kept, by arrays of positions and of group numbers.
+-- Groups and members that are kept, in arrays: f are the bytes decoded so far, in which their strings stand.
 use Prim.Native.Nat.{ℕ, _+_, _%_, _<_}
 use mathlib.Core.Path.{_≡_}
 use mathlib.Core.List.{List, [], _∷_, _++_}
@@ -10,25 +10,28 @@ use Rattle.text.specs.Frame.{got, string, stringBytes}
 use Rattle.sorted.specs.Spans.{stringsOf, Sorted}
 use Rattle.hash_set.specs.Set.{Holds}
 use Rattle.place.specs.Place.{strIn}
-use Rattle.rows.specs.Strings.{stringsIn, place, hashOf}
-use Rattle.rows.proofs.Grow.{rowsOf}
+use Rattle.rows.specs.Strings.{rowsOf, stringsIn, place, hashOf}
 use Rattle.table.specs.Table.{Member}
 use Rattle.table.specs.Frame.{group, member, entryOf}
 
--- ---- groups: their names are sorted too
+-- ---- groups
 
+-- `names` has the n groups' names in byte order, as spans of the bytes
 pub record Named (f names : List ℕ) (n : ℕ) (groups : List Str) : Type 0 where
   pub sorted : Sorted f names n
   pub told : (y : Str) → any (same y) groups ≡ any (same y) (stringsOf f names n)
 
--- ---- members: each has the number of its group, and its user stands in the bytes
+-- ---- members: `owners` has the number of each one's group, `users` the position of its user's string
 
+-- member number i
 abbrev pub memberIn : List Str → List ℕ → List ℕ → List ℕ → ℕ → Member
 memberIn groups owners f users i = record { group = getD groups (getD owners i 0) []; user = strIn f (getD users i 0) }
 
+-- the first n members
 unfoldable pub membersIn : List Str → List ℕ → List ℕ → List ℕ → ℕ → List Member
 membersIn groups owners f users n = rowsOf (memberIn groups owners f users) n 0
 
+-- the first n owners are numbers of groups
 abbrev pub Owned : List ℕ → ℕ → ℕ → Type 0
 Owned owners n groups = (i : ℕ) → i < n → getD owners i 0 < groups
 
@@ -40,11 +43,11 @@ unfoldable pub bytesOf : List Member → List Str
 bytesOf [] = []
 bytesOf (m ∷ ms) = memberBytes m ∷ bytesOf ms
 
--- their place in the set of members
+-- a member's place in the set of members, an array (hash_set/specs/Set) of 4,609 keys: 512 sorted ones, their count, and 4,096 places
 unfoldable pub memberPlace : Str → ℕ
 memberPlace s = 513 + hashOf s % 4096
 
--- ---- what a row that is kept changes
+-- ---- what a row that is kept changes: `old` are the bytes before it, f its frame, n the rows of its kind before it
 
 -- a group
 pub record GroupKept (old f starts : List ℕ) (n : ℕ) (starts′ names′ : List ℕ) : Type 0 where
@@ -56,7 +59,7 @@ pub record GroupKept (old f starts : List ℕ) (n : ℕ) (starts′ names′ : L
   pub named : Named (old ++ f) names′ (n + 1) (stringsIn old starts n 0 ++ (name ∷ []))
 
 -- a member: the user's string stands at `at` of its frame
-pub record MemberKept (groups : List Str) (old f users owners : List ℕ) (n : ℕ) (users′ owners′ kept′ : List ℕ) : Type 0 where
+pub record MemberKept (groups : List Str) (old f users owners : List ℕ) (n : ℕ) (users′ owners′ keys′ : List ℕ) : Type 0 where
   pub group : Str
   pub user : Str
   pub at : ℕ
@@ -66,5 +69,5 @@ pub record MemberKept (groups : List Str) (old f users owners : List ℕ) (n : �
   pub listed : place group groups < length groups
   pub users-set : users′ ≡ set users n (length old + at)
   pub owners-set : owners′ ≡ set owners n (place group groups)
-  pub keys-long : length kept′ ≡ 4609
-  pub held : Holds memberPlace (old ++ f) kept′ 512 (bytesOf (membersIn groups owners old users n) ++ (memberBytes (record { group = group; user = user }) ∷ []))
+  pub keys-long : length keys′ ≡ 4609
+  pub held : Holds memberPlace (old ++ f) keys′ 512 (bytesOf (membersIn groups owners old users n) ++ (memberBytes (record { group = group; user = user }) ∷ []))

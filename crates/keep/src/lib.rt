@@ -1,4 +1,5 @@
-// A group or a member of the table, judged against the rows before it, and kept: its place is stored where it is not refused.
+// A group or a member of the table, judged against the rows before it, and kept: its place is stored where it is not refused. `old` are the
+// decoded frames before it, f is its own frame, which follows them, `last` the kind of the frame before, and n the rows of its kind before it.
 ghost use mathlib.Core.Path.{_≡_};
 ghost use mathlib.Core.Bool.{false};
 ghost use Prim.Native.Nat.{_+_, _≤_, _<_};
@@ -12,7 +13,7 @@ ghost use Rattle.table.specs.Refusal.{Earlier, framed, refusal};
 ghost use Rattle.keep.specs.Held.{Named, membersIn, bytesOf, memberPlace, GroupKept, MemberKept};
 use text::frame::End;
 
-// A frame of kind 2. It is kept where the number is 255; `hints` has its number at its name's hash.
+// The number of a frame of kind 2. Where that is 255, the group is kept, and `hints` has its number at its name's hash.
 pub fn take_group(
     old: &[u8],
     f: &[u8],
@@ -55,8 +56,8 @@ pub fn take_group(
     255
 }
 
-// The number of the group whose name begins at `start`, which is one of n, found by halving since groups stand in the order of the text. What
-// is answered is only tried.
+// The number of that of n groups whose name begins at `start`, found by halving, since groups stand in the order of the text. Nothing is promised: the
+// caller tries what is answered.
 fn number_at(groups: &[u16], n: usize, start: usize) -> usize
     requires { ⌜ n ≤ length (now groups) ⌝ }
 {
@@ -109,7 +110,7 @@ pub fn number_of(
     number_by_name(old, groups, count, names, name)
 }
 
-// A frame of kind 3. It is kept where the number is 255.
+// The number of a frame of kind 3. Where that is 255, the member is kept.
 pub fn take_member(
     old: &[u8],
     f: &[u8],
@@ -121,13 +122,13 @@ pub fn take_member(
     users: &mut [u16; 512],
     owners: &mut [u8; 512],
     n: usize,
-    kept: &mut [u32; 4609],
+    keys: &mut [u32; 4609],
 ) -> u8
     requires { ⌜ (0 < length (now f)) × (getD (now f) 0 0 ≡ 3) ⌝ }
     requires { ⌜ (length (now old) + length (now f) ≤ 16384) × Laid (now old) (now groups) count × (count ≤ 64) × (twice same (stringsIn (now old) (now groups) count 0) ≡ false) ⌝ }
-    requires { ⌜ Named (now old) (now names) count (stringsIn (now old) (now groups) count 0) × Holds memberPlace (now old) (now kept) 512 (bytesOf (membersIn (stringsIn (now old) (now groups) count 0) (now owners) (now old) (now users) n)) × (length (now kept) ≡ 4609) ⌝ }
+    requires { ⌜ Named (now old) (now names) count (stringsIn (now old) (now groups) count 0) × Holds memberPlace (now old) (now keys) 512 (bytesOf (membersIn (stringsIn (now old) (now groups) count 0) (now owners) (now old) (now users) n)) × (length (now keys) ≡ 4609) ⌝ }
     ensures { λ r. ⌜ ((b : Earlier) → b .kind ≡ last → b .groups ≡ stringsIn (now (old .entry)) (now (groups .entry)) count 0 → b .members ≡ membersIn (b .groups) (now (owners .entry)) (now (old .entry)) (now (users .entry)) n → r ≡ refusal b (framed (entryOf (now (f .entry))))) ⌝ }
-    ensures { λ r. ⌜ (r ≡ 255 → MemberKept (stringsIn (now (old .entry)) (now (groups .entry)) count 0) (now (old .entry)) (now (f .entry)) (now (users .entry)) (now (owners .entry)) n (now (users .exit)) (now (owners .exit)) (now (kept .exit))) ⌝ }
+    ensures { λ r. ⌜ (r ≡ 255 → MemberKept (stringsIn (now (old .entry)) (now (groups .entry)) count 0) (now (old .entry)) (now (f .entry)) (now (users .entry)) (now (owners .entry)) n (now (users .exit)) (now (owners .exit)) (now (keys .exit))) ⌝ }
 {
     let a = text::frame::string_end(f, 1);
     let End::At(middle) = a else {
@@ -151,7 +152,7 @@ pub fn take_member(
     let key = &f[after..end];
     let g = number_of(old, groups, count, hints, names, group);
     let p = 513 + rows::hash(key) % 4096;
-    let s = hash_set::find(old, kept, 512, p, key);
+    let s = hash_set::find(old, keys, 512, p, key);
     let five = table::frame::is_unsized(64, group.len())
         | table::frame::is_unsized(64, user.len())
         | (512 <= n);
@@ -164,6 +165,6 @@ pub fn take_member(
     owners[n] = g as u8;
     let begin = old.len() + after;
     let to = old.len() + end;
-    hash_set::add(kept, 512, p, s.at, begin, to);
+    hash_set::add(keys, 512, p, s.at, begin, to);
     255
 }

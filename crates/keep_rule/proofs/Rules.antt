@@ -1,4 +1,4 @@
--- What take_rule has met.
+-- Each way out of take_rule: its answer is the frame's number, and what is kept.
 use mathlib.Core.Path.{_≡_, refl, sym, ap, _∙_}
 use mathlib.Core.Bool.{Bool, true, false, not, _||_, _&&_}
 use mathlib.Core.List.{List, []}
@@ -85,24 +85,24 @@ module _ (f : Str) (pre : (0 < length f) × (getD f 0 0 ≡ 4)) (r : RuleFrame) 
       unfolding kindOf
       rule-four b w h = refused-read b f _ 4 reading (number-four b (rule (at .rule)) (sym (order b w) ∙ h))
 
-      module _ (h : t ≡ false) (old starts : List ℕ) (count : ℕ) (ids kept : List ℕ) (k : ℕ) (small : length old + length f ≤ 16384) (long : length kept ≡ 2305)
-          (H : Holds idPlace old kept 256 (stringsIn old ids k 0))
+      module _ (h : t ≡ false) (old starts : List ℕ) (count : ℕ) (ids keys : List ℕ) (k : ℕ) (small : length old + length f ≤ 16384) (long : length keys ≡ 2305)
+          (H : Holds idPlace old keys 256 (stringsIn old ids k 0))
           (m g hash : ℕ) (u v x y z : Bool) (q′ : Found)
           (uu : u ≡ unsizedBy 64 (length (part f 5 s))) (vv : v ≡ unsizedBy 32 (length (part f (s + 1) i)))
           (xx : x ≡ all isPrint (part f 5 s)) (yy : y ≡ all isPrint (part f (s + 1) i)) (zz : z ≡ all isPrint (part f (i + 1) o))
           (gg : g ≡ (if eqb (getD f 3 0) 1 then place (part f 5 s) (stringsIn old starts count 0) else 0)) (hh : hash ≡ hashOf (part f (s + 1) i))
-          (qq : Met old kept 256 (257 + hash % 2048) (part f (s + 1) i) q′)
+          (qq : Met old keys 256 (257 + hash % 2048) (part f (s + 1) i) q′)
           (mm : m ≡ merged p ((u || v) || (ltb 32 (length (part f (i + 1) o)) || leb 256 k)) (not x || (not y || not z)) (q′ .again) (eqb (getD f 3 0) 1 && eqb g count)) where
-        met : Met old kept 256 (idPlace (part f (s + 1) i)) (part f (s + 1) i) q′
+        met : Met old keys 256 (idPlace (part f (s + 1) i)) (part f (s + 1) i) q′
         met = rw (id-spot (part f (s + 1) i) hash hh) at qq
 
         again-is : q′ .again ≡ any (same (part f (s + 1) i)) (stringsIn old ids k 0)
         again-is = met .told ∙ sym (H .told (part f (s + 1) i))
 
-        pub id-spot-fits : 257 + hash % 2048 < length kept
+        pub id-spot-fits : 257 + hash % 2048 < length keys
         id-spot-fits = omega arith
 
-        pub id-fits : q′ .at ≤ getD kept 256 0
+        pub id-fits : q′ .at ≤ getD keys 256 0
         id-fits = met .fits
 
         pub rule-graded : (b : Earlier) → b .kind ≡ last → b .groups ≡ stringsIn old starts count 0 → b .ids ≡ stringsIn old ids k 0 → m ≡ refusal b (framed (entryOf f))
@@ -145,10 +145,10 @@ module _ (f : Str) (pre : (0 < length f) × (getD f 0 0 ≡ 4)) (r : RuleFrame) 
               let a : ((u || v) or (l || leb 256 k)) ≡ false = sym (or-is (u || v) (l || leb 256 k)) ∙ clear-is .0 in
               leb-false 256 k (or-false-r l _ (sym (or-is l (leb 256 k)) ∙ or-false-r (u || v) _ a))
 
-          pub id-sorted-room : getD kept 256 0 < 256
+          pub id-sorted-room : getD keys 256 0 < 256
           id-sorted-room = omega (arith, H .few, strings-length old ids k, rule-room)
 
-          pub rule-kept : (tops holders keys′ : List ℕ) → keys′ ≡ added kept 256 (257 + hash % 2048) (q′ .at) (spanOf (length old + (s + 1)) (length old + i))
+          pub rule-kept : (tops holders keys′ : List ℕ) → keys′ ≡ added keys 256 (257 + hash % 2048) (q′ .at) (spanOf (length old + (s + 1)) (length old + i))
               → RuleKept (stringsIn old starts count 0) old f ids tops holders k (set ids k (length old + s)) (set tops k (length old + 1)) (set holders k g) keys′
           rule-kept tops holders keys′ e =
               let a = at in
@@ -167,7 +167,7 @@ module _ (f : Str) (pre : (0 < length f) × (getD f 0 0 ≡ 4)) (r : RuleFrame) 
                 ids-set = refl;
                 starts-set = refl;
                 holders-set = refl;
-                keys-long = ap length e ∙ added-long kept 256 (257 + hash % 2048) (q′ .at) _ (met .fits) (omega (arith, id-sorted-room)) ∙ long;
+                keys-long = ap length e ∙ added-long keys 256 (257 + hash % 2048) (q′ .at) _ (met .fits) (omega (arith, id-sorted-room)) ∙ long;
                 ids-held =
                     rw (e, id-spot (part f (s + 1) i) hash hh, a .id)
                     (holds-grows f (λ y. (id-far y .0, omega (arith, id-far y .1))) H (part f (s + 1) i) q′ met (clear-is .2) (spanOf (length old + (s + 1)) (length old + i))

@@ -1,4 +1,4 @@
--- What a rule that is kept changes.
+-- What a rule that is kept changes: `old` are the bytes before it, f its frame, n the rules before it.
 use Prim.Native.Nat.{ℕ, _+_, _%_, _<_}
 use mathlib.Core.Path.{_≡_}
 use mathlib.Core.Bool.{true}
@@ -12,11 +12,11 @@ use Rattle.rows.specs.Strings.{stringsIn, hashOf}
 use Rattle.table.specs.Table.{Rule}
 use Rattle.table.specs.Frame.{rule, ruleBody, entryOf}
 
--- the place of an id in the set of ids
+-- an id's place in the set of ids, an array (hash_set/specs/Set) of 2,305 keys: 256 sorted ones, their count, and 2,048 places
 unfoldable pub idPlace : Str → ℕ
 idPlace s = 257 + hashOf s % 2048
 
--- its id stands at `at` of its frame
+-- the rule's id stands from `at` to `last` of its frame; `holder` is its group's number, where its subject is a group
 pub record RuleKept (groups : List Str) (old f ids starts holders : List ℕ) (n : ℕ) (ids′ starts′ holders′ keys′ : List ℕ) : Type 0 where
   pub kept : Rule
   pub at : ℕ

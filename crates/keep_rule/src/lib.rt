@@ -1,4 +1,5 @@
-// A rule of the table, judged against the rows before it, and kept: its places are stored where it is not refused.
+// A rule of the table, judged against the rows before it, and kept: its places are stored where it is not refused. `old` are the decoded frames
+// before it, f is its own frame, which follows them, `last` the kind of the frame before, and n the rules before it.
 ghost use mathlib.Core.Path.{_≡_};
 ghost use mathlib.Core.Bool.{false};
 ghost use Prim.Native.Nat.{_+_, _≤_, _<_};
@@ -13,7 +14,7 @@ ghost use Rattle.keep.specs.Held.{Named};
 ghost use Rattle.keep_rule.specs.Kept.{idPlace, RuleKept};
 use table::frame::RuleFrame;
 
-// The number of a group's name among the groups; `count` where it is not listed, and 0 for a user.
+// The number of the subject among the groups; `count` where it is not listed, and 0 where it is a user.
 fn holder_of(
     old: &[u8],
     groups: &[u16],
@@ -33,7 +34,7 @@ fn holder_of(
     0
 }
 
-// A frame of kind 4. It is kept where the number is 255.
+// The number of a frame of kind 4. Where that is 255, the rule is kept.
 pub fn take_rule(
     old: &[u8],
     f: &[u8],
@@ -46,13 +47,13 @@ pub fn take_rule(
     starts: &mut [u16; 256],
     holders: &mut [u8; 256],
     n: usize,
-    kept: &mut [u32; 2305],
+    keys: &mut [u32; 2305],
 ) -> u8
     requires { ⌜ (0 < length (now f)) × (getD (now f) 0 0 ≡ 4) ⌝ }
     requires { ⌜ (length (now old) + length (now f) ≤ 16384) × Laid (now old) (now groups) count × (count ≤ 64) × (twice same (stringsIn (now old) (now groups) count 0) ≡ false) ⌝ }
-    requires { ⌜ Named (now old) (now names) count (stringsIn (now old) (now groups) count 0) × Holds idPlace (now old) (now kept) 256 (stringsIn (now old) (now ids) n 0) × (length (now kept) ≡ 2305) ⌝ }
+    requires { ⌜ Named (now old) (now names) count (stringsIn (now old) (now groups) count 0) × Holds idPlace (now old) (now keys) 256 (stringsIn (now old) (now ids) n 0) × (length (now keys) ≡ 2305) ⌝ }
     ensures { λ r. ⌜ ((b : Earlier) → b .kind ≡ last → b .groups ≡ stringsIn (now (old .entry)) (now (groups .entry)) count 0 → b .ids ≡ stringsIn (now (old .entry)) (now (ids .entry)) n 0 → r ≡ refusal b (framed (entryOf (now (f .entry))))) ⌝ }
-    ensures { λ r. ⌜ (r ≡ 255 → RuleKept (stringsIn (now (old .entry)) (now (groups .entry)) count 0) (now (old .entry)) (now (f .entry)) (now (ids .entry)) (now (starts .entry)) (now (holders .entry)) n (now (ids .exit)) (now (starts .exit)) (now (holders .exit)) (now (kept .exit))) ⌝ }
+    ensures { λ r. ⌜ (r ≡ 255 → RuleKept (stringsIn (now (old .entry)) (now (groups .entry)) count 0) (now (old .entry)) (now (f .entry)) (now (ids .entry)) (now (starts .entry)) (now (holders .entry)) n (now (ids .exit)) (now (starts .exit)) (now (holders .exit)) (now (keys .exit))) ⌝ }
 {
     let r = table::frame::read_rule(f);
     let RuleFrame::Is {
@@ -76,7 +77,7 @@ pub fn take_rule(
     let by_group = f[3] == 1;
     let g = holder_of(old, groups, count, hints, names, by_group, subject);
     let p = 257 + rows::hash(id) % 2048;
-    let t = hash_set::find(old, kept, 256, p, id);
+    let t = hash_set::find(old, keys, 256, p, id);
     let five = (table::frame::is_unsized(64, subject.len())
         | table::frame::is_unsized(32, id.len()))
         | ((32 < origin.len()) | (256 <= n));
@@ -92,6 +93,6 @@ pub fn take_rule(
     holders[n] = g as u8;
     let begin = old.len() + from;
     let to = old.len() + i;
-    hash_set::add(kept, 256, p, t.at, begin, to);
+    hash_set::add(keys, 256, p, t.at, begin, to);
     255
 }

@@ -1,7 +1,7 @@
 -- A turn of `load`, and each way out of it.
 use mathlib.Core.Path.{_≡_, refl, sym, ap, _∙_}
 use mathlib.Core.List.{List, [], _∷_, _++_, append-nil}
-use mathlib.Core.Option.{Option, none, some}
+use mathlib.Core.Option.{none, some}
 use Prim.Native.Nat.{ℕ, _+_, _-_, _/_, _≤_, _<_}
 use native.Mathlib.Omega.{arith}
 use borrow.Author.Tests.{eq-eqb, ne-eqb, le-ltb, lt-ltb}
@@ -19,13 +19,13 @@ use Rattle.line.proofs.FirstLine.{Read, line-read, line-unhex}
 use Rattle.table.specs.Table.{Member, Rule}
 use Rattle.table.specs.Frame.{Entry, version, group, member, rule, entryOf}
 use Rattle.table.specs.Refusal.{Line, notHex, reads, framed, decoded, lineOf, Earlier, first, with, after, refusal}
-use Rattle.table.specs.Text.{unless, judge, check, maybe, collect, read, entries, asGroup, asMember, asRule, table, tableOf}
+use Rattle.table.specs.Text.{unless, judge, check, maybe, collect, entries, asGroup, asMember, asRule, table, tableOf}
+use Rattle.table.proofs.Entries.{entries-cons, collect-cons}
 use Rattle.table.specs.declared.Checked.{Checked}
 use Rattle.table.specs.declared.Checked.the-variants as checked
 use Rattle.load.specs.declared.row.Counts.{Counts}
 use Rattle.load.specs.declared.Loaded.the-variants.{Table, Refused}
-use Rattle.rows.specs.Strings.{stringsIn}
-use Rattle.rows.proofs.Grow.{rowsOf}
+use Rattle.rows.specs.Strings.{rowsOf, stringsIn}
 use Rattle.sorted.proofs.Growing.{none as none-sorted, none-there as no-name}
 use Rattle.hash_set.proofs.Sets.{holds-none}
 use Rattle.keep.specs.Held.{membersIn, bytesOf, memberPlace}
@@ -97,14 +97,6 @@ more-rules rules (version v t) rest = ap (λ (l : List Rule). l ++ rest) (sym (a
 more-rules rules (group n) rest = ap (λ (l : List Rule). l ++ rest) (sym (append-nil rules))
 more-rules rules (member m) rest = ap (λ (l : List Rule). l ++ rest) (sym (append-nil rules))
 more-rules rules (rule r) rest = sym (append-snoc rules r rest)
-
-entries-cons : (l : Str) (ls : List Str) (e : Entry) → lineOf l ≡ reads e → entries (l ∷ ls) ≡ e ∷ entries ls
-unfolding entries collect read maybe
-entries-cons l ls e i = rw i
-
-collect-cons : {A : Type 0} (f : Entry → Option A) (e : Entry) (es : List Entry) → collect f (e ∷ es) ≡ maybe (f e) (collect f es)
-unfolding collect
-collect-cons f e es = refl
 
 -- ---- the invariant
 

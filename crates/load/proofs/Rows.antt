@@ -1,4 +1,4 @@
--- What take_row has met.
+-- Each way out of take_row: its answer is the frame's number, and what is held.
 use mathlib.Core.Path.{_≡_, sym, ap, _∙_}
 use mathlib.Core.Bool.{false}
 use mathlib.Core.List.{List}

@@ -17,23 +17,24 @@ use Rattle.keep.specs.Held.{Named, membersIn, Owned, bytesOf, memberPlace}
 use Rattle.keep_rule.specs.Kept.{idPlace}
 use Rattle.load.specs.declared.row.Counts.{Counts}
 
+-- the ids of the rules, in order
 unfoldable pub idsOf : List Rule → List Str
 idsOf [] = []
 idsOf (r ∷ rs) = r .id ∷ idsOf rs
 
--- each rule reads where its number says
+-- each rule, the first with number i, reads at its start
 unfoldable pub RulesAt : List ℕ → List ℕ → List Rule → ℕ → Type 0
 RulesAt f starts [] i = Unit {0}
 RulesAt f starts (r ∷ rs) i = ((e : ℕ) × (ruleBody f (getD starts i 0) ≡ got r e)) × RulesAt f starts rs (suc i)
 
--- each rule of a group has that group's number
+-- each rule whose subject is a group has that group's number
 unfoldable pub HoldersAt : List Str → List ℕ → List Rule → ℕ → Type 0
 HoldersAt groups holders [] i = Unit {0}
 HoldersAt groups holders (r ∷ rs) i =
     (r .byGroup ≡ true → (getD holders i 0 < length groups) × (getD groups (getD holders i 0) [] ≡ r .subject)) × HoldersAt groups holders rs (suc i)
 
--- Groups, members and rules in arrays: f are the decoded bytes; of groups, users and ids the positions of their strings, of rules those of their
--- frames after the kind byte; of members and rules the numbers of their groups.
+-- The groups `named`, members and rules are those of the arrays: f are the decoded bytes; `groups`, `users` and `ids` have the positions of
+-- strings in them, `starts` those of the rules after the kind byte; `owners` and `holders` have the group numbers of members and of rules.
 pub record Holds (named : List Str) (members : List Member) (rules : List Rule) (f : List ℕ) (c : Counts) (groups users owners ids starts holders : List ℕ) : Type 0 where
   pub groups-are : named ≡ stringsIn f groups (c .groups) 0
   pub members-are : members ≡ membersIn named owners f users (c .members)
@@ -49,7 +50,7 @@ pub record Holds (named : List Str) (members : List Member) (rules : List Rule) 
   pub few : (c .groups ≤ 64) × (c .members ≤ 512) × (c .rules ≤ 256)
   pub long : (length groups ≡ 64) × (length users ≡ 512) × (length owners ≡ 512) × (length ids ≡ 256) × (length starts ≡ 256) × (length holders ≡ 256)
 
--- while rows come: what they told is held, and the sets of names, members and ids have it too
+-- while rows come: the arrays hold what the rows so far told, and the sets of names, members and ids have it too
 pub record Held (b : Earlier) (rules : List Rule) (f : List ℕ) (c : Counts) (groups users owners ids starts holders names member-keys id-keys : List ℕ) : Type 0 where
   pub kind : b .kind ≡ c .kind
   pub told-ids : b .ids ≡ idsOf rules

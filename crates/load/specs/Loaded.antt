@@ -27,6 +27,7 @@ pub record Kept (text : Str) (buf : List ℕ) (used : ℕ) (c : Counts) (groups 
   pub within : (used ≤ length buf) × (used ≤ 16384)
   pub holds : Holds (tableOf text .groups) (tableOf text .members) (tableOf text .rules) (take used buf) c groups users owners ids starts holders
 
+-- what the answer says of the text and of the arrays
 unfoldable pub Outcome : Str → Loaded → List ℕ → List ℕ → List ℕ → List ℕ → List ℕ → List ℕ → List ℕ → Type 0
 Outcome text (Table used c) buf groups users owners ids starts holders = Kept text buf used c groups users owners ids starts holders
 Outcome text (Refused n l) buf groups users owners ids starts holders = check text ≡ checked.Refused n l

@@ -14,6 +14,7 @@ pub enum Loaded {
     Refused { number: u8, line: usize },
 }
 
+// Reads the text line by line, and stops at the first faulty line. `buf` gets the decoded frames, half as long as the text at most;
 // `groups`, `users` and `ids` get the positions of strings in the decoded bytes, `starts` those of the rules' frames after the kind byte;
 // `owners` and `holders` the numbers of the groups of members and of rules.
 pub fn load(
@@ -36,6 +37,7 @@ pub fn load(
     if text.len() == 0 {
         return Loaded::Refused { number: 4, line: 1 };
     }
+    // the group names, by hash and sorted; the sets of members and of ids
     let mut hints = [0u8; 1024];
     let mut names = [0u32; 64];
     let mut member_keys = [0u32; 4609];

@@ -1,4 +1,4 @@
-// Rows of every kind.
+// A row of any kind.
 ghost use mathlib.Core.Path.{_≡_};
 ghost use mathlib.Core.List.{List};
 ghost use Prim.Native.Nat.{_+_, _≤_, _<_};
@@ -18,6 +18,7 @@ pub struct Counts {
     pub rules: usize,
 }
 
+// The counts after one row more, of that kind.
 pub fn after(c: Counts, kind: u8) -> Counts
     requires { ⌜ (c .groups ≤ 64) × (c .members ≤ 512) × (c .rules ≤ 256) ⌝ }
     ensures { λ r. ⌜ r ≡ counted c kind ⌝ }

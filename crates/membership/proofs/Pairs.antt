@@ -9,8 +9,8 @@ use lib.ListN.{length, getD}
 use Rattle.text.specs.Test.{_and_, _or_, any, twice}
 use Rattle.text.specs.String.{Str, same}
 use Rattle.place.specs.Place.{strIn}
-use Rattle.rows.specs.Strings.{place}
-use Rattle.rows.proofs.Grow.{rowsOf, place-test}
+use Rattle.rows.specs.Strings.{rowsOf, place}
+use Rattle.rows.proofs.Grow.{place-test}
 use Rattle.table.specs.Refusal.{sameMember}
 use Rattle.keep.specs.Held.{memberIn, Owned}
 

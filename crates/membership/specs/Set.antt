@@ -4,34 +4,37 @@ use mathlib.Core.Bool.{Bool}
 use mathlib.Core.List.{List}
 use lib.Dec.{eqb}
 use lib.Bits.{bitOr}
+use lib.Count.{ones, trailingZeros}
 use lib.ListN.{getD}
 use Rattle.text.specs.Test.{if_then_else_}
 use Rattle.text.specs.String.{Str, same}
 use Rattle.place.specs.Place.{strIn}
-use lib.Count.{ones, trailingZeros}
 use Rattle.table.specs.Group.{badUser}
 use Rattle.table.specs.declared.Counted.{Counted}
 use Rattle.table.specs.declared.Counted.the-variants.{Count, NoGroup, Declined}
 use Rattle.table.specs.declared.GroupNumber.{GroupNumber}
 use Rattle.table.specs.declared.RuleNumber.{RuleNumber}
 
+-- the set with group g
 abbrev pub insertOf : ℕ → ℕ → ℕ
 insertOf set g = bitOr set (2 ^ g)
 
+-- group g is in the set
 abbrev pub hasOf : ℕ → ℕ → Bool
 hasOf set g = eqb (set / 2 ^ g % 2) 1
 
--- the set of the groups of those of n members, from number i on, that are the user
+-- the set, and the groups of those of n members, from number i on, that are the user: `users` has the position of each member's user in the bytes f,
+-- `owners` the number of its group
 unfoldable pub setIn : Str → List ℕ → List ℕ → List ℕ → ℕ → ℕ → ℕ → ℕ
 setIn user f users owners zero i set = set
 setIn user f users owners (suc n) i set =
     setIn user f users owners n (suc i) (if same user (strIn f (getD users i 0)) then insertOf set (getD owners i 0) else set)
 
--- only a rule's number picks the group of a rule
+-- the group of a rule whose subject is a group; only a rule's number picks it
 abbrev pub groupOf : List ℕ → RuleNumber → GroupNumber
 groupOf holders rule = record { 0 = getD holders (rule .0) 0 }
 
--- "the group count is its ones, the first group its trailing zeros"
+-- the answer of a group count: "the group count is its ones, the first group its trailing zeros"
 unfoldable pub countIn : Str → ℕ → Counted
 countIn user set =
     if badUser user then Declined 20 0

@@ -12,6 +12,7 @@ use table::Counted;
 use table::GroupNumber;
 use table::RuleNumber;
 
+// The set with group g.
 pub fn insert(set: u64, g: GroupNumber) -> u64
     requires { ⌜ g .0 < 64 ⌝ }
     ensures { λ r. ⌜ r ≡ insertOf set (g .0) ⌝ }
@@ -20,6 +21,7 @@ pub fn insert(set: u64, g: GroupNumber) -> u64
     set | (1 << n)
 }
 
+// Group g is in the set.
 pub fn has(set: u64, g: GroupNumber) -> bool
     requires { ⌜ g .0 < 64 ⌝ }
     ensures { λ r. ⌜ r ≡ hasOf set (g .0) ⌝ }
@@ -28,7 +30,7 @@ pub fn has(set: u64, g: GroupNumber) -> bool
     (set >> n) & 1 == 1
 }
 
-// The group of a rule of a group.
+// The group of a rule whose subject is a group.
 pub fn group_of(holders: &[u8], rule: RuleNumber) -> GroupNumber
     requires { ⌜ rule .0 < length (now holders) ⌝ }
     ensures { λ r. ⌜ r ≡ groupOf (now (holders .entry)) rule ⌝ }
@@ -48,7 +50,7 @@ fn join(set: u64, g: GroupNumber, f: &[u8], at: usize, user: &[u8]) -> u64
     set
 }
 
-// The groups of the first n members that are the user.
+// The set of the user's groups, by the first n members.
 pub fn memberships(f: &[u8], users: &[u16], owners: &[u8], n: usize, user: &[u8]) -> u64
     requires { ⌜ Laid (now f) (now users) n × (n ≤ length (now users)) × (n ≤ length (now owners)) × Owned (now owners) n 64 ⌝ }
     ensures { λ r. ⌜ r ≡ setIn (now (user .entry)) (now (f .entry)) (now (users .entry)) (now (owners .entry)) n 0 0 ⌝ }
@@ -63,7 +65,7 @@ pub fn memberships(f: &[u8], users: &[u16], owners: &[u8], n: usize, user: &[u8]
     set
 }
 
-// The count of a user's groups, in a table that is held.
+// The count of the user's groups, by the first n members.
 pub fn count_in(f: &[u8], users: &[u16], owners: &[u8], n: usize, user: &[u8]) -> Counted
     requires { ⌜ Laid (now f) (now users) n × (n ≤ length (now users)) × (n ≤ length (now owners)) × Owned (now owners) n 64 ⌝ }
     ensures { λ r. ⌜ r ≡ countIn (now (user .entry)) (setIn (now (user .entry)) (now (f .entry)) (now (users .entry)) (now (owners .entry)) n 0 0) ⌝ }

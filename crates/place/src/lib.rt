@@ -4,6 +4,7 @@ ghost use Prim.Native.Nat.{_≤_};
 ghost use lib.ListN.{length};
 ghost use Rattle.place.specs.Place.{strEnd, keyEnd, keysEnd, elemEnd};
 
+// The string at `at`.
 pub fn str_end(f: &[u8], at: usize) -> usize
     requires { ⌜ strEnd (now f) at ≤ length (now f) ⌝ }
     ensures { λ r. ⌜ r ≡ strEnd (now (f .entry)) at ⌝ }
@@ -11,6 +12,7 @@ pub fn str_end(f: &[u8], at: usize) -> usize
     at + 1 + f[at] as usize
 }
 
+// The key at `at`.
 pub fn key_end(f: &[u8], at: usize) -> usize
     requires { ⌜ keyEnd (now f) at ≤ length (now f) ⌝ }
     ensures { λ r. ⌜ r ≡ keyEnd (now (f .entry)) at ⌝ }
@@ -18,7 +20,7 @@ pub fn key_end(f: &[u8], at: usize) -> usize
     str_end(f, str_end(f, at))
 }
 
-// Where k keys end.
+// The k keys from `at` on.
 pub fn keys_end(f: &[u8], at: usize, k: usize) -> usize
     requires { ⌜ keysEnd k (now f) at ≤ length (now f) ⌝ }
     ensures { λ r. ⌜ r ≡ keysEnd k (now (f .entry)) at ⌝ }
@@ -32,6 +34,7 @@ pub fn keys_end(f: &[u8], at: usize, k: usize) -> usize
     q
 }
 
+// The element at `at`.
 pub fn elem_end(f: &[u8], at: usize) -> usize
     requires { ⌜ elemEnd (now f) at ≤ length (now f) ⌝ }
     ensures { λ r. ⌜ r ≡ elemEnd (now (f .entry)) at ⌝ }

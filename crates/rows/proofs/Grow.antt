@@ -14,14 +14,9 @@ use Rattle.text.specs.String.{Str, same}
 use Rattle.text.proofs.Frames.{part-front}
 use Rattle.text.proofs.Tests.{by, and-l, and-r, same→≡, same-sym, or-false-l, or-false-r, neither}
 use Rattle.place.specs.Place.{strEnd, strIn}
-use Rattle.rows.specs.Strings.{stringsIn, Laid, place}
+use Rattle.rows.specs.Strings.{rowsOf, stringsIn, Laid, place}
 
 -- ---- rows by their numbers
-
--- what g gives for n numbers from i on
-unfoldable pub rowsOf : {A : Type 0} → (ℕ → A) → ℕ → ℕ → List A
-rowsOf g zero i = []
-rowsOf g (suc n) i = g i ∷ rowsOf g n (suc i)
 
 module _ {A : Type 0} where
   pub rows-same : (g h : ℕ → A) (n i : ℕ) → ((j : ℕ) → i ≤ j → j < i + n → g j ≡ h j) → rowsOf g n i ≡ rowsOf h n i

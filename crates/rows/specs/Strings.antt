@@ -1,4 +1,4 @@
--- Strings in decoded bytes, by the positions of their length bytes.
+-- Rows of a table by arrays of positions: `starts` has the position of each row's string (its length byte) in the decoded bytes f.
 use Prim.Native.Nat.{ℕ, zero, suc, _/_, _≤_, _<_}
 use mathlib.Core.List.{List, [], _∷_}
 use lib.ListN.{length, getD}
@@ -8,12 +8,17 @@ use Rattle.place.specs.Place.{strEnd, strIn}
 use Rattle.hash.specs.declared.Seed.{Seed}
 use Rattle.hash.specs.Mix.{mix}
 
+-- what g gives for n numbers from i on
+unfoldable pub rowsOf : {A : Type 0} → (ℕ → A) → ℕ → ℕ → List A
+rowsOf g zero i = []
+rowsOf g (suc n) i = g i ∷ rowsOf g n (suc i)
+
 -- n strings, from number i on
 unfoldable pub stringsIn : List ℕ → List ℕ → ℕ → ℕ → List Str
 stringsIn f starts zero i = []
 stringsIn f starts (suc n) i = strIn f (getD starts i 0) ∷ stringsIn f starts n (suc i)
 
--- the first n lie within the bytes
+-- the first n strings lie within the bytes
 abbrev pub Laid : List ℕ → List ℕ → ℕ → Type 0
 Laid f starts n = (i : ℕ) → i < n → strEnd f (getD starts i 0) ≤ length f
 
@@ -22,9 +27,11 @@ unfoldable pub place : Str → List Str → ℕ
 place name [] = 0
 place name (s ∷ ss) = if same name s then 0 else suc (place name ss)
 
--- a number that equal strings share
+-- ---- a hash, which only says where to look first
+
 abbrev pub factors : Seed
 factors = record { first = 1201626857; second = 1150305587 }
 
+-- the upper 13 of the 32 bits of `mix`: a number below 8,192 that equal strings share
 unfoldable pub hashOf : Str → ℕ
 hashOf s = mix factors 0 s / 524288

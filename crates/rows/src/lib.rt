@@ -1,5 +1,4 @@
-// Strings of decoded rows, found by an array of positions: lookups, and a hash for a filter that saves most of them.
-
+// Strings of decoded rows, found by an array of positions: lookups, and a hash that says where to look first.
 ghost use mathlib.Core.Path.{_≡_};
 ghost use mathlib.Core.Bool.{false};
 ghost use Prim.Native.Nat.{_≤_, _<_};

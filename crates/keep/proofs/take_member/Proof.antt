@@ -176,7 +176,7 @@ returns-5 c =
     let at-a = c .before .before .before .before .before .before .before .before .before .before .before .before .before .before .before .before .before .before .before .before .before .before .before .before .before .a in
     let at-string-end = c .before .before .before .before .before .before .before .before .before .before .before .before .before .before .before .before .before .before .before .before .before .before .before .before .before .before .before .string-end in
     let at-start = c .before .before .before .before .before .before .before .before .before .before .before .before .before .before .before .before .before .before .before .before .before .before .before .before .before .before .before .before .before .before in
-    (λ b w g m. member-graded _ (at-start .pre .0) _ (at-string-end .ensures) _ (at-a .given .1) _ (at-string-end2 .ensures) _ (at-z .given .1) (at-if1 .left) _ _ (at-is-out-of-order .ensures) (at-if2 .left) (at-start .args .old .now) (at-start .args .groups .now) _ (at-start .args .users .now) (at-start .args .owners .now) (at-start .args .kept .now) _ (at-start .pre .1 .0 .0) (at-start .pre .1 .1 .2) (at-start .pre .1 .1 .1) _ _ _ _ _ _ _ _ (at-is-unsized .ensures) (at-is-unsized2 .ensures) (at-all-print .ensures) (at-all-print2 .ensures) (at-number-of .ensures) (at-hash .ensures) (at-find .ensures) (at-number .ensures) b w g m, λ x. absurd (at-if3 .taken x))
+    (λ b w g m. member-graded _ (at-start .pre .0) _ (at-string-end .ensures) _ (at-a .given .1) _ (at-string-end2 .ensures) _ (at-z .given .1) (at-if1 .left) _ _ (at-is-out-of-order .ensures) (at-if2 .left) (at-start .args .old .now) (at-start .args .groups .now) _ (at-start .args .users .now) (at-start .args .owners .now) (at-start .args .keys .now) _ (at-start .pre .1 .0 .0) (at-start .pre .1 .1 .2) (at-start .pre .1 .1 .1) _ _ _ _ _ _ _ _ (at-is-unsized .ensures) (at-is-unsized2 .ensures) (at-all-print .ensures) (at-all-print2 .ensures) (at-number-of .ensures) (at-hash .ensures) (at-find .ensures) (at-number .ensures) b w g m, λ x. absurd (at-if3 .taken x))
 
 add-users : tie.Need-add-users
 add-users c =
@@ -211,7 +211,7 @@ mul-users c =
     let at-a = c .before .before .before .before .before .before .before .before .before .before .before .before .before .before .before .before .before .before .before .before .before .before .before .before .before .a in
     let at-string-end = c .before .before .before .before .before .before .before .before .before .before .before .before .before .before .before .before .before .before .before .before .before .before .before .before .before .before .before .string-end in
     let at-start = c .before .before .before .before .before .before .before .before .before .before .before .before .before .before .before .before .before .before .before .before .before .before .before .before .before .before .before .before .before .before in
-    let h = member-room _ (at-start .pre .0) _ (at-string-end .ensures) _ (at-a .given .1) _ (at-string-end2 .ensures) _ (at-z .given .1) (at-if1 .left) _ _ (at-is-out-of-order .ensures) (at-if2 .left) (at-start .args .old .now) (at-start .args .groups .now) _ (at-start .args .users .now) (at-start .args .owners .now) (at-start .args .kept .now) _ (at-start .pre .1 .0 .0) (at-start .pre .1 .1 .2) (at-start .pre .1 .1 .1) _ _ _ _ _ _ _ _ (at-is-unsized .ensures) (at-is-unsized2 .ensures) (at-all-print .ensures) (at-all-print2 .ensures) (at-number-of .ensures) (at-hash .ensures) (at-find .ensures) (at-number .ensures) (at-if3 .left) in omega arith
+    let h = member-room _ (at-start .pre .0) _ (at-string-end .ensures) _ (at-a .given .1) _ (at-string-end2 .ensures) _ (at-z .given .1) (at-if1 .left) _ _ (at-is-out-of-order .ensures) (at-if2 .left) (at-start .args .old .now) (at-start .args .groups .now) _ (at-start .args .users .now) (at-start .args .owners .now) (at-start .args .keys .now) _ (at-start .pre .1 .0 .0) (at-start .pre .1 .1 .2) (at-start .pre .1 .1 .1) _ _ _ _ _ _ _ _ (at-is-unsized .ensures) (at-is-unsized2 .ensures) (at-all-print .ensures) (at-all-print2 .ensures) (at-number-of .ensures) (at-hash .ensures) (at-find .ensures) (at-number .ensures) (at-if3 .left) in omega arith
 
 element-write-users : tie.Need-element-write-users
 element-write-users c =
@@ -232,7 +232,7 @@ element-write-users c =
     let at-a = c .before .before .before .before .before .before .before .before .before .before .before .before .before .before .before .before .before .before .before .before .before .before .before .before .before .a in
     let at-string-end = c .before .before .before .before .before .before .before .before .before .before .before .before .before .before .before .before .before .before .before .before .before .before .before .before .before .before .before .string-end in
     let at-start = c .before .before .before .before .before .before .before .before .before .before .before .before .before .before .before .before .before .before .before .before .before .before .before .before .before .before .before .before .before .before in
-    member-room _ (at-start .pre .0) _ (at-string-end .ensures) _ (at-a .given .1) _ (at-string-end2 .ensures) _ (at-z .given .1) (at-if1 .left) _ _ (at-is-out-of-order .ensures) (at-if2 .left) (at-start .args .old .now) (at-start .args .groups .now) _ (at-start .args .users .now) (at-start .args .owners .now) (at-start .args .kept .now) _ (at-start .pre .1 .0 .0) (at-start .pre .1 .1 .2) (at-start .pre .1 .1 .1) _ _ _ _ _ _ _ _ (at-is-unsized .ensures) (at-is-unsized2 .ensures) (at-all-print .ensures) (at-all-print2 .ensures) (at-number-of .ensures) (at-hash .ensures) (at-find .ensures) (at-number .ensures) (at-if3 .left)
+    member-room _ (at-start .pre .0) _ (at-string-end .ensures) _ (at-a .given .1) _ (at-string-end2 .ensures) _ (at-z .given .1) (at-if1 .left) _ _ (at-is-out-of-order .ensures) (at-if2 .left) (at-start .args .old .now) (at-start .args .groups .now) _ (at-start .args .users .now) (at-start .args .owners .now) (at-start .args .keys .now) _ (at-start .pre .1 .0 .0) (at-start .pre .1 .1 .2) (at-start .pre .1 .1 .1) _ _ _ _ _ _ _ _ (at-is-unsized .ensures) (at-is-unsized2 .ensures) (at-all-print .ensures) (at-all-print2 .ensures) (at-number-of .ensures) (at-hash .ensures) (at-find .ensures) (at-number .ensures) (at-if3 .left)
 
 cast-owners : tie.Need-cast-owners
 cast-owners c =
@@ -259,7 +259,7 @@ element-write-owners c =
     let at-a = c .before .before .before .before .before .before .before .before .before .before .before .before .before .before .before .before .before .before .before .before .before .before .before .before .before .a in
     let at-string-end = c .before .before .before .before .before .before .before .before .before .before .before .before .before .before .before .before .before .before .before .before .before .before .before .before .before .before .before .string-end in
     let at-start = c .before .before .before .before .before .before .before .before .before .before .before .before .before .before .before .before .before .before .before .before .before .before .before .before .before .before .before .before .before .before in
-    member-room _ (at-start .pre .0) _ (at-string-end .ensures) _ (at-a .given .1) _ (at-string-end2 .ensures) _ (at-z .given .1) (at-if1 .left) _ _ (at-is-out-of-order .ensures) (at-if2 .left) (at-start .args .old .now) (at-start .args .groups .now) _ (at-start .args .users .now) (at-start .args .owners .now) (at-start .args .kept .now) _ (at-start .pre .1 .0 .0) (at-start .pre .1 .1 .2) (at-start .pre .1 .1 .1) _ _ _ _ _ _ _ _ (at-is-unsized .ensures) (at-is-unsized2 .ensures) (at-all-print .ensures) (at-all-print2 .ensures) (at-number-of .ensures) (at-hash .ensures) (at-find .ensures) (at-number .ensures) (at-if3 .left)
+    member-room _ (at-start .pre .0) _ (at-string-end .ensures) _ (at-a .given .1) _ (at-string-end2 .ensures) _ (at-z .given .1) (at-if1 .left) _ _ (at-is-out-of-order .ensures) (at-if2 .left) (at-start .args .old .now) (at-start .args .groups .now) _ (at-start .args .users .now) (at-start .args .owners .now) (at-start .args .keys .now) _ (at-start .pre .1 .0 .0) (at-start .pre .1 .1 .2) (at-start .pre .1 .1 .1) _ _ _ _ _ _ _ _ (at-is-unsized .ensures) (at-is-unsized2 .ensures) (at-all-print .ensures) (at-all-print2 .ensures) (at-number-of .ensures) (at-hash .ensures) (at-find .ensures) (at-number .ensures) (at-if3 .left)
 
 add-begin : tie.Need-add-begin
 add-begin c =
@@ -292,7 +292,7 @@ add-requires c κs =
     let at-a = c .before .before .before .before .before .before .before .before .before .before .before .before .before .before .before .before .before .before .before .before .before .before .before .before .before .before .a in
     let at-string-end = c .before .before .before .before .before .before .before .before .before .before .before .before .before .before .before .before .before .before .before .before .before .before .before .before .before .before .before .before .string-end in
     let at-start = c .before .before .before .before .before .before .before .before .before .before .before .before .before .before .before .before .before .before .before .before .before .before .before .before .before .before .before .before .before .before .before in
-    let h = string-ends _ _ _ (at-string-end2 .ensures) _ (at-z .given .1) in (fits-is _ (at-start .pre .0) _ (at-string-end .ensures) _ (at-a .given .1) _ (at-string-end2 .ensures) _ (at-z .given .1) (at-if1 .left) _ _ (at-is-out-of-order .ensures) (at-if2 .left) (at-start .args .old .now) (at-start .args .groups .now) _ (at-start .args .users .now) (at-start .args .owners .now) (at-start .args .kept .now) _ (at-start .pre .1 .0 .0) (at-start .pre .1 .1 .2) (at-start .pre .1 .1 .1) _ _ _ _ _ _ _ _ (at-is-unsized .ensures) (at-is-unsized2 .ensures) (at-all-print .ensures) (at-all-print2 .ensures) (at-number-of .ensures) (at-hash .ensures) (at-find .ensures) (at-number .ensures), sorted-room _ (at-start .pre .0) _ (at-string-end .ensures) _ (at-a .given .1) _ (at-string-end2 .ensures) _ (at-z .given .1) (at-if1 .left) _ _ (at-is-out-of-order .ensures) (at-if2 .left) (at-start .args .old .now) (at-start .args .groups .now) _ (at-start .args .users .now) (at-start .args .owners .now) (at-start .args .kept .now) _ (at-start .pre .1 .0 .0) (at-start .pre .1 .1 .2) (at-start .pre .1 .1 .1) _ _ _ _ _ _ _ _ (at-is-unsized .ensures) (at-is-unsized2 .ensures) (at-all-print .ensures) (at-all-print2 .ensures) (at-number-of .ensures) (at-hash .ensures) (at-find .ensures) (at-number .ensures) (at-if3 .left), omega arith, omega arith, spot-fits _ (at-start .pre .0) _ (at-string-end .ensures) _ (at-a .given .1) _ (at-string-end2 .ensures) _ (at-z .given .1) (at-if1 .left) _ _ (at-is-out-of-order .ensures) (at-if2 .left) (at-start .args .old .now) (at-start .args .groups .now) _ (at-start .args .users .now) (at-start .args .owners .now) (at-start .args .kept .now) _ (at-start .pre .1 .0 .0) (at-start .pre .1 .1 .2) (at-start .pre .1 .1 .1) _ _ _ _ _ _ _ _ (at-is-unsized .ensures) (at-is-unsized2 .ensures) (at-all-print .ensures) (at-all-print2 .ensures) (at-number-of .ensures) (at-hash .ensures) (at-find .ensures) (at-number .ensures), omega (arith, h .1, h .2, at-start .pre .1 .0 .0), omega (arith, h .1, h .2, at-start .pre .1 .0 .0))
+    let h = string-ends _ _ _ (at-string-end2 .ensures) _ (at-z .given .1) in (fits-is _ (at-start .pre .0) _ (at-string-end .ensures) _ (at-a .given .1) _ (at-string-end2 .ensures) _ (at-z .given .1) (at-if1 .left) _ _ (at-is-out-of-order .ensures) (at-if2 .left) (at-start .args .old .now) (at-start .args .groups .now) _ (at-start .args .users .now) (at-start .args .owners .now) (at-start .args .keys .now) _ (at-start .pre .1 .0 .0) (at-start .pre .1 .1 .2) (at-start .pre .1 .1 .1) _ _ _ _ _ _ _ _ (at-is-unsized .ensures) (at-is-unsized2 .ensures) (at-all-print .ensures) (at-all-print2 .ensures) (at-number-of .ensures) (at-hash .ensures) (at-find .ensures) (at-number .ensures), sorted-room _ (at-start .pre .0) _ (at-string-end .ensures) _ (at-a .given .1) _ (at-string-end2 .ensures) _ (at-z .given .1) (at-if1 .left) _ _ (at-is-out-of-order .ensures) (at-if2 .left) (at-start .args .old .now) (at-start .args .groups .now) _ (at-start .args .users .now) (at-start .args .owners .now) (at-start .args .keys .now) _ (at-start .pre .1 .0 .0) (at-start .pre .1 .1 .2) (at-start .pre .1 .1 .1) _ _ _ _ _ _ _ _ (at-is-unsized .ensures) (at-is-unsized2 .ensures) (at-all-print .ensures) (at-all-print2 .ensures) (at-number-of .ensures) (at-hash .ensures) (at-find .ensures) (at-number .ensures) (at-if3 .left), omega arith, omega arith, spot-fits _ (at-start .pre .0) _ (at-string-end .ensures) _ (at-a .given .1) _ (at-string-end2 .ensures) _ (at-z .given .1) (at-if1 .left) _ _ (at-is-out-of-order .ensures) (at-if2 .left) (at-start .args .old .now) (at-start .args .groups .now) _ (at-start .args .users .now) (at-start .args .owners .now) (at-start .args .keys .now) _ (at-start .pre .1 .0 .0) (at-start .pre .1 .1 .2) (at-start .pre .1 .1 .1) _ _ _ _ _ _ _ _ (at-is-unsized .ensures) (at-is-unsized2 .ensures) (at-all-print .ensures) (at-all-print2 .ensures) (at-number-of .ensures) (at-hash .ensures) (at-find .ensures) (at-number .ensures), omega (arith, h .1, h .2, at-start .pre .1 .0 .0), omega (arith, h .1, h .2, at-start .pre .1 .0 .0))
 
 returns-6 : tie.Need-returns-6
 returns-6 c =
@@ -314,7 +314,7 @@ returns-6 c =
     let at-a = c .before .before .before .before .before .before .before .before .before .before .before .before .before .before .before .before .before .before .before .before .before .before .before .before .before .before .before .a in
     let at-string-end = c .before .before .before .before .before .before .before .before .before .before .before .before .before .before .before .before .before .before .before .before .before .before .before .before .before .before .before .before .before .string-end in
     let at-start = c .before .before .before .before .before .before .before .before .before .before .before .before .before .before .before .before .before .before .before .before .before .before .before .before .before .before .before .before .before .before .before .before in
-    (λ b w g m. sym (at-if3 .left) ∙ member-graded _ (at-start .pre .0) _ (at-string-end .ensures) _ (at-a .given .1) _ (at-string-end2 .ensures) _ (at-z .given .1) (at-if1 .left) _ _ (at-is-out-of-order .ensures) (at-if2 .left) (at-start .args .old .now) (at-start .args .groups .now) _ (at-start .args .users .now) (at-start .args .owners .now) (at-start .args .kept .now) _ (at-start .pre .1 .0 .0) (at-start .pre .1 .1 .2) (at-start .pre .1 .1 .1) _ _ _ _ _ _ _ _ (at-is-unsized .ensures) (at-is-unsized2 .ensures) (at-all-print .ensures) (at-all-print2 .ensures) (at-number-of .ensures) (at-hash .ensures) (at-find .ensures) (at-number .ensures) b w g m, λ x. member-kept _ (at-start .pre .0) _ (at-string-end .ensures) _ (at-a .given .1) _ (at-string-end2 .ensures) _ (at-z .given .1) (at-if1 .left) _ _ (at-is-out-of-order .ensures) (at-if2 .left) (at-start .args .old .now) (at-start .args .groups .now) _ (at-start .args .users .now) (at-start .args .owners .now) (at-start .args .kept .now) _ (at-start .pre .1 .0 .0) (at-start .pre .1 .1 .2) (at-start .pre .1 .1 .1) _ _ _ _ _ _ _ _ (at-is-unsized .ensures) (at-is-unsized2 .ensures) (at-all-print .ensures) (at-all-print2 .ensures) (at-number-of .ensures) (at-hash .ensures) (at-find .ensures) (at-number .ensures) (at-if3 .left) _ (at-add .ensures))
+    (λ b w g m. sym (at-if3 .left) ∙ member-graded _ (at-start .pre .0) _ (at-string-end .ensures) _ (at-a .given .1) _ (at-string-end2 .ensures) _ (at-z .given .1) (at-if1 .left) _ _ (at-is-out-of-order .ensures) (at-if2 .left) (at-start .args .old .now) (at-start .args .groups .now) _ (at-start .args .users .now) (at-start .args .owners .now) (at-start .args .keys .now) _ (at-start .pre .1 .0 .0) (at-start .pre .1 .1 .2) (at-start .pre .1 .1 .1) _ _ _ _ _ _ _ _ (at-is-unsized .ensures) (at-is-unsized2 .ensures) (at-all-print .ensures) (at-all-print2 .ensures) (at-number-of .ensures) (at-hash .ensures) (at-find .ensures) (at-number .ensures) b w g m, λ x. member-kept _ (at-start .pre .0) _ (at-string-end .ensures) _ (at-a .given .1) _ (at-string-end2 .ensures) _ (at-z .given .1) (at-if1 .left) _ _ (at-is-out-of-order .ensures) (at-if2 .left) (at-start .args .old .now) (at-start .args .groups .now) _ (at-start .args .users .now) (at-start .args .owners .now) (at-start .args .keys .now) _ (at-start .pre .1 .0 .0) (at-start .pre .1 .1 .2) (at-start .pre .1 .1 .1) _ _ _ _ _ _ _ _ (at-is-unsized .ensures) (at-is-unsized2 .ensures) (at-all-print .ensures) (at-all-print2 .ensures) (at-number-of .ensures) (at-hash .ensures) (at-find .ensures) (at-number .ensures) (at-if3 .left) _ (at-add .ensures))
 
 pub take-member-spec : {M : Type 1} → statement M
 take-member-spec =

@@ -169,7 +169,7 @@ returns-3 c =
     let at-r = c .before .before .before .before .before .before .before .before .before .before .before .before .before .before .before .before .before .before .before .before .before .before .r in
     let at-read-rule = c .before .before .before .before .before .before .before .before .before .before .before .before .before .before .before .before .before .before .before .before .before .before .before .before .read-rule in
     let at-start = c .before .before .before .before .before .before .before .before .before .before .before .before .before .before .before .before .before .before .before .before .before .before .before .before .before .before .before in
-    (λ b w g d. rule-graded _ (at-start .pre .0) _ (at-read-rule .ensures) _ _ _ _ (at-r .given .1) _ _ (at-is-out-of-order .ensures) (at-if1 .left) (at-start .args .old .now) (at-start .args .groups .now) _ (at-start .args .ids .now) (at-start .args .kept .now) _ (at-start .pre .1 .0 .0) (at-start .pre .1 .1 .2) (at-start .pre .1 .1 .1) _ _ _ _ _ _ _ _ _ (at-is-unsized .ensures) (at-is-unsized2 .ensures) (at-all-print .ensures) (at-all-print2 .ensures) (at-all-print3 .ensures) (at-holder-of .ensures) (at-hash .ensures) (at-find .ensures) (at-number .ensures) b w g d, λ x. absurd (at-if2 .taken x))
+    (λ b w g d. rule-graded _ (at-start .pre .0) _ (at-read-rule .ensures) _ _ _ _ (at-r .given .1) _ _ (at-is-out-of-order .ensures) (at-if1 .left) (at-start .args .old .now) (at-start .args .groups .now) _ (at-start .args .ids .now) (at-start .args .keys .now) _ (at-start .pre .1 .0 .0) (at-start .pre .1 .1 .2) (at-start .pre .1 .1 .1) _ _ _ _ _ _ _ _ _ (at-is-unsized .ensures) (at-is-unsized2 .ensures) (at-all-print .ensures) (at-all-print2 .ensures) (at-all-print3 .ensures) (at-holder-of .ensures) (at-hash .ensures) (at-find .ensures) (at-number .ensures) b w g d, λ x. absurd (at-if2 .taken x))
 
 add-ids : tie.Need-add-ids
 add-ids c =
@@ -202,7 +202,7 @@ mul-ids c =
     let at-r = c .before .before .before .before .before .before .before .before .before .before .before .before .before .before .before .before .before .before .before .before .before .before .r in
     let at-read-rule = c .before .before .before .before .before .before .before .before .before .before .before .before .before .before .before .before .before .before .before .before .before .before .before .before .read-rule in
     let at-start = c .before .before .before .before .before .before .before .before .before .before .before .before .before .before .before .before .before .before .before .before .before .before .before .before .before .before .before in
-    let h = rule-room _ (at-start .pre .0) _ (at-read-rule .ensures) _ _ _ _ (at-r .given .1) _ _ (at-is-out-of-order .ensures) (at-if1 .left) (at-start .args .old .now) (at-start .args .groups .now) _ (at-start .args .ids .now) (at-start .args .kept .now) _ (at-start .pre .1 .0 .0) (at-start .pre .1 .1 .2) (at-start .pre .1 .1 .1) _ _ _ _ _ _ _ _ _ (at-is-unsized .ensures) (at-is-unsized2 .ensures) (at-all-print .ensures) (at-all-print2 .ensures) (at-all-print3 .ensures) (at-holder-of .ensures) (at-hash .ensures) (at-find .ensures) (at-number .ensures) (at-if2 .left) in omega arith
+    let h = rule-room _ (at-start .pre .0) _ (at-read-rule .ensures) _ _ _ _ (at-r .given .1) _ _ (at-is-out-of-order .ensures) (at-if1 .left) (at-start .args .old .now) (at-start .args .groups .now) _ (at-start .args .ids .now) (at-start .args .keys .now) _ (at-start .pre .1 .0 .0) (at-start .pre .1 .1 .2) (at-start .pre .1 .1 .1) _ _ _ _ _ _ _ _ _ (at-is-unsized .ensures) (at-is-unsized2 .ensures) (at-all-print .ensures) (at-all-print2 .ensures) (at-all-print3 .ensures) (at-holder-of .ensures) (at-hash .ensures) (at-find .ensures) (at-number .ensures) (at-if2 .left) in omega arith
 
 element-write-ids : tie.Need-element-write-ids
 element-write-ids c =
@@ -221,7 +221,7 @@ element-write-ids c =
     let at-r = c .before .before .before .before .before .before .before .before .before .before .before .before .before .before .before .before .before .before .before .before .before .before .r in
     let at-read-rule = c .before .before .before .before .before .before .before .before .before .before .before .before .before .before .before .before .before .before .before .before .before .before .before .before .read-rule in
     let at-start = c .before .before .before .before .before .before .before .before .before .before .before .before .before .before .before .before .before .before .before .before .before .before .before .before .before .before .before in
-    rule-room _ (at-start .pre .0) _ (at-read-rule .ensures) _ _ _ _ (at-r .given .1) _ _ (at-is-out-of-order .ensures) (at-if1 .left) (at-start .args .old .now) (at-start .args .groups .now) _ (at-start .args .ids .now) (at-start .args .kept .now) _ (at-start .pre .1 .0 .0) (at-start .pre .1 .1 .2) (at-start .pre .1 .1 .1) _ _ _ _ _ _ _ _ _ (at-is-unsized .ensures) (at-is-unsized2 .ensures) (at-all-print .ensures) (at-all-print2 .ensures) (at-all-print3 .ensures) (at-holder-of .ensures) (at-hash .ensures) (at-find .ensures) (at-number .ensures) (at-if2 .left)
+    rule-room _ (at-start .pre .0) _ (at-read-rule .ensures) _ _ _ _ (at-r .given .1) _ _ (at-is-out-of-order .ensures) (at-if1 .left) (at-start .args .old .now) (at-start .args .groups .now) _ (at-start .args .ids .now) (at-start .args .keys .now) _ (at-start .pre .1 .0 .0) (at-start .pre .1 .1 .2) (at-start .pre .1 .1 .1) _ _ _ _ _ _ _ _ _ (at-is-unsized .ensures) (at-is-unsized2 .ensures) (at-all-print .ensures) (at-all-print2 .ensures) (at-all-print3 .ensures) (at-holder-of .ensures) (at-hash .ensures) (at-find .ensures) (at-number .ensures) (at-if2 .left)
 
 add-starts : tie.Need-add-starts
 add-starts c =
@@ -254,7 +254,7 @@ mul-starts c =
     let at-r = c .before .before .before .before .before .before .before .before .before .before .before .before .before .before .before .before .before .before .before .before .before .before .r in
     let at-read-rule = c .before .before .before .before .before .before .before .before .before .before .before .before .before .before .before .before .before .before .before .before .before .before .before .before .read-rule in
     let at-start = c .before .before .before .before .before .before .before .before .before .before .before .before .before .before .before .before .before .before .before .before .before .before .before .before .before .before .before in
-    let h = rule-room _ (at-start .pre .0) _ (at-read-rule .ensures) _ _ _ _ (at-r .given .1) _ _ (at-is-out-of-order .ensures) (at-if1 .left) (at-start .args .old .now) (at-start .args .groups .now) _ (at-start .args .ids .now) (at-start .args .kept .now) _ (at-start .pre .1 .0 .0) (at-start .pre .1 .1 .2) (at-start .pre .1 .1 .1) _ _ _ _ _ _ _ _ _ (at-is-unsized .ensures) (at-is-unsized2 .ensures) (at-all-print .ensures) (at-all-print2 .ensures) (at-all-print3 .ensures) (at-holder-of .ensures) (at-hash .ensures) (at-find .ensures) (at-number .ensures) (at-if2 .left) in omega arith
+    let h = rule-room _ (at-start .pre .0) _ (at-read-rule .ensures) _ _ _ _ (at-r .given .1) _ _ (at-is-out-of-order .ensures) (at-if1 .left) (at-start .args .old .now) (at-start .args .groups .now) _ (at-start .args .ids .now) (at-start .args .keys .now) _ (at-start .pre .1 .0 .0) (at-start .pre .1 .1 .2) (at-start .pre .1 .1 .1) _ _ _ _ _ _ _ _ _ (at-is-unsized .ensures) (at-is-unsized2 .ensures) (at-all-print .ensures) (at-all-print2 .ensures) (at-all-print3 .ensures) (at-holder-of .ensures) (at-hash .ensures) (at-find .ensures) (at-number .ensures) (at-if2 .left) in omega arith
 
 element-write-starts : tie.Need-element-write-starts
 element-write-starts c =
@@ -273,7 +273,7 @@ element-write-starts c =
     let at-r = c .before .before .before .before .before .before .before .before .before .before .before .before .before .before .before .before .before .before .before .before .before .before .r in
     let at-read-rule = c .before .before .before .before .before .before .before .before .before .before .before .before .before .before .before .before .before .before .before .before .before .before .before .before .read-rule in
     let at-start = c .before .before .before .before .before .before .before .before .before .before .before .before .before .before .before .before .before .before .before .before .before .before .before .before .before .before .before in
-    rule-room _ (at-start .pre .0) _ (at-read-rule .ensures) _ _ _ _ (at-r .given .1) _ _ (at-is-out-of-order .ensures) (at-if1 .left) (at-start .args .old .now) (at-start .args .groups .now) _ (at-start .args .ids .now) (at-start .args .kept .now) _ (at-start .pre .1 .0 .0) (at-start .pre .1 .1 .2) (at-start .pre .1 .1 .1) _ _ _ _ _ _ _ _ _ (at-is-unsized .ensures) (at-is-unsized2 .ensures) (at-all-print .ensures) (at-all-print2 .ensures) (at-all-print3 .ensures) (at-holder-of .ensures) (at-hash .ensures) (at-find .ensures) (at-number .ensures) (at-if2 .left)
+    rule-room _ (at-start .pre .0) _ (at-read-rule .ensures) _ _ _ _ (at-r .given .1) _ _ (at-is-out-of-order .ensures) (at-if1 .left) (at-start .args .old .now) (at-start .args .groups .now) _ (at-start .args .ids .now) (at-start .args .keys .now) _ (at-start .pre .1 .0 .0) (at-start .pre .1 .1 .2) (at-start .pre .1 .1 .1) _ _ _ _ _ _ _ _ _ (at-is-unsized .ensures) (at-is-unsized2 .ensures) (at-all-print .ensures) (at-all-print2 .ensures) (at-all-print3 .ensures) (at-holder-of .ensures) (at-hash .ensures) (at-find .ensures) (at-number .ensures) (at-if2 .left)
 
 cast-holders : tie.Need-cast-holders
 cast-holders c =
@@ -298,7 +298,7 @@ element-write-holders c =
     let at-r = c .before .before .before .before .before .before .before .before .before .before .before .before .before .before .before .before .before .before .before .before .before .before .r in
     let at-read-rule = c .before .before .before .before .before .before .before .before .before .before .before .before .before .before .before .before .before .before .before .before .before .before .before .before .read-rule in
     let at-start = c .before .before .before .before .before .before .before .before .before .before .before .before .before .before .before .before .before .before .before .before .before .before .before .before .before .before .before in
-    rule-room _ (at-start .pre .0) _ (at-read-rule .ensures) _ _ _ _ (at-r .given .1) _ _ (at-is-out-of-order .ensures) (at-if1 .left) (at-start .args .old .now) (at-start .args .groups .now) _ (at-start .args .ids .now) (at-start .args .kept .now) _ (at-start .pre .1 .0 .0) (at-start .pre .1 .1 .2) (at-start .pre .1 .1 .1) _ _ _ _ _ _ _ _ _ (at-is-unsized .ensures) (at-is-unsized2 .ensures) (at-all-print .ensures) (at-all-print2 .ensures) (at-all-print3 .ensures) (at-holder-of .ensures) (at-hash .ensures) (at-find .ensures) (at-number .ensures) (at-if2 .left)
+    rule-room _ (at-start .pre .0) _ (at-read-rule .ensures) _ _ _ _ (at-r .given .1) _ _ (at-is-out-of-order .ensures) (at-if1 .left) (at-start .args .old .now) (at-start .args .groups .now) _ (at-start .args .ids .now) (at-start .args .keys .now) _ (at-start .pre .1 .0 .0) (at-start .pre .1 .1 .2) (at-start .pre .1 .1 .1) _ _ _ _ _ _ _ _ _ (at-is-unsized .ensures) (at-is-unsized2 .ensures) (at-all-print .ensures) (at-all-print2 .ensures) (at-all-print3 .ensures) (at-holder-of .ensures) (at-hash .ensures) (at-find .ensures) (at-number .ensures) (at-if2 .left)
 
 add-begin : tie.Need-add-begin
 add-begin c =
@@ -331,7 +331,7 @@ add-requires c κs =
     let at-r = c .before .before .before .before .before .before .before .before .before .before .before .before .before .before .before .before .before .before .before .before .before .before .before .r in
     let at-read-rule = c .before .before .before .before .before .before .before .before .before .before .before .before .before .before .before .before .before .before .before .before .before .before .before .before .before .read-rule in
     let at-start = c .before .before .before .before .before .before .before .before .before .before .before .before .before .before .before .before .before .before .before .before .before .before .before .before .before .before .before .before in
-    let h = rule-long _ (at-start .pre .0) _ (at-read-rule .ensures) _ _ _ _ (at-r .given .1) in (id-fits _ (at-start .pre .0) _ (at-read-rule .ensures) _ _ _ _ (at-r .given .1) _ _ (at-is-out-of-order .ensures) (at-if1 .left) (at-start .args .old .now) (at-start .args .groups .now) _ (at-start .args .ids .now) (at-start .args .kept .now) _ (at-start .pre .1 .0 .0) (at-start .pre .1 .1 .2) (at-start .pre .1 .1 .1) _ _ _ _ _ _ _ _ _ (at-is-unsized .ensures) (at-is-unsized2 .ensures) (at-all-print .ensures) (at-all-print2 .ensures) (at-all-print3 .ensures) (at-holder-of .ensures) (at-hash .ensures) (at-find .ensures) (at-number .ensures), id-sorted-room _ (at-start .pre .0) _ (at-read-rule .ensures) _ _ _ _ (at-r .given .1) _ _ (at-is-out-of-order .ensures) (at-if1 .left) (at-start .args .old .now) (at-start .args .groups .now) _ (at-start .args .ids .now) (at-start .args .kept .now) _ (at-start .pre .1 .0 .0) (at-start .pre .1 .1 .2) (at-start .pre .1 .1 .1) _ _ _ _ _ _ _ _ _ (at-is-unsized .ensures) (at-is-unsized2 .ensures) (at-all-print .ensures) (at-all-print2 .ensures) (at-all-print3 .ensures) (at-holder-of .ensures) (at-hash .ensures) (at-find .ensures) (at-number .ensures) (at-if2 .left), omega arith, omega arith, id-spot-fits _ (at-start .pre .0) _ (at-read-rule .ensures) _ _ _ _ (at-r .given .1) _ _ (at-is-out-of-order .ensures) (at-if1 .left) (at-start .args .old .now) (at-start .args .groups .now) _ (at-start .args .ids .now) (at-start .args .kept .now) _ (at-start .pre .1 .0 .0) (at-start .pre .1 .1 .2) (at-start .pre .1 .1 .1) _ _ _ _ _ _ _ _ _ (at-is-unsized .ensures) (at-is-unsized2 .ensures) (at-all-print .ensures) (at-all-print2 .ensures) (at-all-print3 .ensures) (at-holder-of .ensures) (at-hash .ensures) (at-find .ensures) (at-number .ensures), omega (arith, h .0, h .1, h .2, h .3, at-start .pre .1 .0 .0), omega (arith, h .0, h .1, h .2, h .3, at-start .pre .1 .0 .0))
+    let h = rule-long _ (at-start .pre .0) _ (at-read-rule .ensures) _ _ _ _ (at-r .given .1) in (id-fits _ (at-start .pre .0) _ (at-read-rule .ensures) _ _ _ _ (at-r .given .1) _ _ (at-is-out-of-order .ensures) (at-if1 .left) (at-start .args .old .now) (at-start .args .groups .now) _ (at-start .args .ids .now) (at-start .args .keys .now) _ (at-start .pre .1 .0 .0) (at-start .pre .1 .1 .2) (at-start .pre .1 .1 .1) _ _ _ _ _ _ _ _ _ (at-is-unsized .ensures) (at-is-unsized2 .ensures) (at-all-print .ensures) (at-all-print2 .ensures) (at-all-print3 .ensures) (at-holder-of .ensures) (at-hash .ensures) (at-find .ensures) (at-number .ensures), id-sorted-room _ (at-start .pre .0) _ (at-read-rule .ensures) _ _ _ _ (at-r .given .1) _ _ (at-is-out-of-order .ensures) (at-if1 .left) (at-start .args .old .now) (at-start .args .groups .now) _ (at-start .args .ids .now) (at-start .args .keys .now) _ (at-start .pre .1 .0 .0) (at-start .pre .1 .1 .2) (at-start .pre .1 .1 .1) _ _ _ _ _ _ _ _ _ (at-is-unsized .ensures) (at-is-unsized2 .ensures) (at-all-print .ensures) (at-all-print2 .ensures) (at-all-print3 .ensures) (at-holder-of .ensures) (at-hash .ensures) (at-find .ensures) (at-number .ensures) (at-if2 .left), omega arith, omega arith, id-spot-fits _ (at-start .pre .0) _ (at-read-rule .ensures) _ _ _ _ (at-r .given .1) _ _ (at-is-out-of-order .ensures) (at-if1 .left) (at-start .args .old .now) (at-start .args .groups .now) _ (at-start .args .ids .now) (at-start .args .keys .now) _ (at-start .pre .1 .0 .0) (at-start .pre .1 .1 .2) (at-start .pre .1 .1 .1) _ _ _ _ _ _ _ _ _ (at-is-unsized .ensures) (at-is-unsized2 .ensures) (at-all-print .ensures) (at-all-print2 .ensures) (at-all-print3 .ensures) (at-holder-of .ensures) (at-hash .ensures) (at-find .ensures) (at-number .ensures), omega (arith, h .0, h .1, h .2, h .3, at-start .pre .1 .0 .0), omega (arith, h .0, h .1, h .2, h .3, at-start .pre .1 .0 .0))
 
 returns-4 : tie.Need-returns-4
 returns-4 c =
@@ -351,7 +351,7 @@ returns-4 c =
     let at-r = c .before .before .before .before .before .before .before .before .before .before .before .before .before .before .before .before .before .before .before .before .before .before .before .before .r in
     let at-read-rule = c .before .before .before .before .before .before .before .before .before .before .before .before .before .before .before .before .before .before .before .before .before .before .before .before .before .before .read-rule in
     let at-start = c .before .before .before .before .before .before .before .before .before .before .before .before .before .before .before .before .before .before .before .before .before .before .before .before .before .before .before .before .before in
-    (λ b w g d. sym (at-if2 .left) ∙ rule-graded _ (at-start .pre .0) _ (at-read-rule .ensures) _ _ _ _ (at-r .given .1) _ _ (at-is-out-of-order .ensures) (at-if1 .left) (at-start .args .old .now) (at-start .args .groups .now) _ (at-start .args .ids .now) (at-start .args .kept .now) _ (at-start .pre .1 .0 .0) (at-start .pre .1 .1 .2) (at-start .pre .1 .1 .1) _ _ _ _ _ _ _ _ _ (at-is-unsized .ensures) (at-is-unsized2 .ensures) (at-all-print .ensures) (at-all-print2 .ensures) (at-all-print3 .ensures) (at-holder-of .ensures) (at-hash .ensures) (at-find .ensures) (at-number .ensures) b w g d, λ x. rule-kept _ (at-start .pre .0) _ (at-read-rule .ensures) _ _ _ _ (at-r .given .1) _ _ (at-is-out-of-order .ensures) (at-if1 .left) (at-start .args .old .now) (at-start .args .groups .now) _ (at-start .args .ids .now) (at-start .args .kept .now) _ (at-start .pre .1 .0 .0) (at-start .pre .1 .1 .2) (at-start .pre .1 .1 .1) _ _ _ _ _ _ _ _ _ (at-is-unsized .ensures) (at-is-unsized2 .ensures) (at-all-print .ensures) (at-all-print2 .ensures) (at-all-print3 .ensures) (at-holder-of .ensures) (at-hash .ensures) (at-find .ensures) (at-number .ensures) (at-if2 .left) _ _ _ (at-add .ensures))
+    (λ b w g d. sym (at-if2 .left) ∙ rule-graded _ (at-start .pre .0) _ (at-read-rule .ensures) _ _ _ _ (at-r .given .1) _ _ (at-is-out-of-order .ensures) (at-if1 .left) (at-start .args .old .now) (at-start .args .groups .now) _ (at-start .args .ids .now) (at-start .args .keys .now) _ (at-start .pre .1 .0 .0) (at-start .pre .1 .1 .2) (at-start .pre .1 .1 .1) _ _ _ _ _ _ _ _ _ (at-is-unsized .ensures) (at-is-unsized2 .ensures) (at-all-print .ensures) (at-all-print2 .ensures) (at-all-print3 .ensures) (at-holder-of .ensures) (at-hash .ensures) (at-find .ensures) (at-number .ensures) b w g d, λ x. rule-kept _ (at-start .pre .0) _ (at-read-rule .ensures) _ _ _ _ (at-r .given .1) _ _ (at-is-out-of-order .ensures) (at-if1 .left) (at-start .args .old .now) (at-start .args .groups .now) _ (at-start .args .ids .now) (at-start .args .keys .now) _ (at-start .pre .1 .0 .0) (at-start .pre .1 .1 .2) (at-start .pre .1 .1 .1) _ _ _ _ _ _ _ _ _ (at-is-unsized .ensures) (at-is-unsized2 .ensures) (at-all-print .ensures) (at-all-print2 .ensures) (at-all-print3 .ensures) (at-holder-of .ensures) (at-hash .ensures) (at-find .ensures) (at-number .ensures) (at-if2 .left) _ _ _ (at-add .ensures))
 
 pub take-rule-spec : {M : Type 1} → statement M
 take-rule-spec =
