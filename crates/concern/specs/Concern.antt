@@ -1,4 +1,5 @@
--- Which rules concern a request: by its mode, its origin, its user, and the set of the user's groups.
+-- Which rules concern a request, by its mode, its origin, its user, and `set`, the set of the user's groups: `applies` of verdict/specs/Verdict,
+-- with the group of a rule as its number.
 use Prim.Native.Nat.{ℕ, _<_}
 use mathlib.Core.Path.{_≡_}
 use mathlib.Core.Bool.{Bool, true}
@@ -11,14 +12,15 @@ use Rattle.table.specs.Table.{Rule}
 use Rattle.membership.specs.Set.{hasOf}
 use Rattle.judge.specs.Rules.{ruleIn}
 
--- of a rule whose subject, if it is a group, has the number g
+-- the subject is the user or a group of the user; g is its number, if it is a group
 unfoldable pub concernsBy : ℕ → ℕ → Str → Rule → Bool
 concernsBy set g user r = if r .byGroup then hasOf set g else same (r .subject) user
 
+-- and mode and origin are equal
 unfoldable pub appliesBy : ℕ → ℕ → Str → ℕ → Str → Rule → Bool
 appliesBy set g user mode origin r = eqb (r .mode) mode and same (r .origin) origin and concernsBy set g user r
 
--- the groups of the first n rules are among 64
+-- the groups of the first n rules have numbers below 64
 abbrev pub Few : List ℕ → List ℕ → List ℕ → ℕ → Type 0
 Few f starts holders n = (i : ℕ) → i < n → ruleIn f (getD starts i 0) .byGroup ≡ true → getD holders i 0 < 64
 

@@ -10,7 +10,7 @@ use table::GroupNumber;
 use table::RuleNumber;
 
 // Whether the subject of the rule at s, group g if it is a group, is the user or in the user's groups.
-pub fn concerns_at(f: &[u8], s: usize, g: GroupNumber, set: u64, user: &[u8]) -> bool
+fn concerns_at(f: &[u8], s: usize, g: GroupNumber, set: u64, user: &[u8]) -> bool
     requires { ⌜ (ruleEnd (now f) s ≤ length (now f)) × (ruleIn (now f) s .byGroup ≡ true → g .0 < 64) ⌝ }
     ensures { λ r. ⌜ r ≡ concernsBy set (g .0) (now (user .entry)) (ruleIn (now (f .entry)) s) ⌝ }
 {
@@ -23,7 +23,7 @@ pub fn concerns_at(f: &[u8], s: usize, g: GroupNumber, set: u64, user: &[u8]) ->
 }
 
 // 1 where the rule at s concerns the request, else 0.
-pub fn mark_at(
+fn mark_at(
     f: &[u8],
     s: usize,
     g: GroupNumber,

@@ -14,20 +14,22 @@ use Rattle.explain.specs.declared.Place.the-variants.{Stands, Missing}
 use Rattle.explain.specs.declared.Step.{Step}
 use Rattle.explain.specs.declared.Step.the-variants as step
 
+-- what the ranking looks at, apart from the id
 unfoldable pub standing : Rule → Standing
 standing r = record { elements = length (r .path); keys = definites (r .path); group = r .byGroup; permit = r .permit }
 
--- "Rules .. are numbered from 0 in text order."
+-- the standing of the rule with number n: "Rules and groups are numbered from 0 in text order."
 unfoldable pub placeOf : List Rule → ℕ → Place
 placeOf [] n = Missing
 placeOf (r ∷ rs) zero = Stands (standing r)
 placeOf (r ∷ rs) (suc n) = placeOf rs n
 
+-- and of a table's text
 unfoldable pub placeIn : Checked → List Rule → ℕ → Place
 placeIn checked.Accepted rs n = placeOf rs n
 placeIn (checked.Refused m l) rs n = Missing
 
--- a step decides where two numbers differ
+-- this step decides where its two numbers differ, and else the next
 unfoldable pub decides : ℕ → ℕ → Step → Step → Step
 decides a b here next = if eqb a b then next else here
 

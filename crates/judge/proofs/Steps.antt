@@ -9,7 +9,7 @@ use native.Mathlib.Omega.{arith}
 use borrow.Author.Tests.{ne-eqb}
 use lib.ListN.{getD}
 use Rattle.text.specs.Test.{_and_, _or_, if_then_else_}
-use Rattle.text.proofs.Tests.{clash, by}
+use Rattle.text.proofs.Tests.{clash, by, and-first, and-second}
 use Rattle.table.specs.Table.{Rule}
 use Rattle.verdict.specs.Order.{Numbered, prefer, candidate, choose}
 use Rattle.verdict.proofs.Order.{Order}
@@ -17,15 +17,6 @@ use Rattle.verdict.proofs.Choose.{prefer-assoc}
 use Rattle.judge.specs.Rules.{ruleIn, rulesIn}
 use Rattle.judge.specs.Best.{lacks, held, wins}
 use Rattle.judge.specs.declared.best.Best.{Best}
-
-pub and-first : (a b : Bool) → a ≡ false → (a and b) ≡ false
-unfolding _and_
-and-first a b e = rw e
-
-pub and-second : (a b : Bool) → b ≡ false → (a and b) ≡ false
-unfolding _and_
-and-second true b e = e
-and-second false b e = refl
 
 module _ (over : Rule → Rule → Bool) where
   prefer-none : (x : Option Numbered) → prefer over x none ≡ x

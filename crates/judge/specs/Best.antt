@@ -1,4 +1,4 @@
--- The best rule so far, and the tests that the loops over the rules make.
+-- The best rule so far, as programs keep it (`Best`, in src/best.rt), and the test that the loop over the rules makes. f are the decoded bytes.
 use mathlib.Core.Path.{_≡_}
 use Prim.Native.Nat.{ℕ, suc, _≤_}
 use mathlib.Core.Bool.{Bool, false}
@@ -14,18 +14,19 @@ use Rattle.verdict.specs.Order.{Numbered, rank}
 use Rattle.judge.specs.Rules.{ruleIn, ruleEnd}
 use Rattle.judge.specs.declared.best.Best.{Best}
 
--- there is none
+-- there is none so far
 abbrev pub lacks : Best → Bool
 lacks b = eqb (b .weight) 0
 
+-- the rule that is kept, with its number
 unfoldable pub held : List ℕ → Best → Option Numbered
 held f b = if lacks b then none else some (record { number = b .number; rule = ruleIn f (b .at) })
 
--- what is held lies within the bytes
+-- where there is one, it lies within the bytes
 abbrev pub Sound : List ℕ → Best → Type 0
 Sound f b = lacks b ≡ false → ruleEnd f (b .at) ≤ length f
 
--- and its weight is its rank and 1
+-- and its weight is its rank + 1
 abbrev pub Ranked : List ℕ → Best → Type 0
 Ranked f b = lacks b ≡ false → (ruleEnd f (b .at) ≤ length f) × (b .weight ≡ suc (rank (ruleIn f (b .at))))
 
@@ -33,8 +34,6 @@ Ranked f b = lacks b ≡ false → (ruleEnd f (b .at) ≤ length f) × (b .weigh
 abbrev pub wins : (Rule → Rule → Bool) → List ℕ → ℕ → Best → Bool
 wins over f s b = lacks b or over (ruleIn f s) (ruleIn f (b .at))
 
--- ---- the tests
-
--- the rule passes `app`, and covers p
+-- the rule passes `app`, and its path covers p
 abbrev pub matching : (Rule → Bool) → Path → Rule → Bool
 matching app p s = app s and covers (s .path) p

@@ -8,7 +8,8 @@ use lib.ListN.{length, getD}
 use Rattle.table.specs.Table.{Rule}
 use Rattle.place.specs.Place.{strEnd, strIn, pathIn, pathEnd}
 
--- "action (0 deny, 1 permit), mode (1 read, 2 write), subject (0 user, 1 group), S subject name, S id, S origin, path"
+-- "action (0 deny, 1 permit), mode (1 read, 2 write), subject (0 user, 1 group), S subject name, S id, S origin, path": where the rule's id,
+-- origin and path stand
 unfoldable pub idAt : List ℕ → ℕ → ℕ
 idAt f at = strEnd f (at + 3)
 
@@ -18,6 +19,7 @@ originAt f at = strEnd f (idAt f at)
 unfoldable pub pathAt : List ℕ → ℕ → ℕ
 pathAt f at = strEnd f (originAt f at)
 
+-- the rule at a position, and where it ends
 unfoldable pub ruleIn : List ℕ → ℕ → Rule
 ruleIn f at = record {
   permit = eqb (getD f at 0) 1;

@@ -7,7 +7,7 @@ ghost use Rattle.verdict.specs.Verdict.{action};
 ghost use Rattle.judge.specs.Rules.{ruleIn, ruleEnd};
 ghost use Rattle.judge.specs.Best.{held, Sound, Ranked, wins};
 
-// Its number, and where its action byte is. The weight is 0 where there is none yet; where the ranking counts, it is the rank and 1.
+// Its number, and where its action byte stands. The weight is 0 where there is none yet; where the ranking decides, it is the rank + 1.
 pub struct Best {
     pub weight: usize,
     pub number: usize,
@@ -15,7 +15,7 @@ pub struct Best {
 }
 
 // Whether the id of the rule at s comes before that of the rule at t.
-pub fn earlier_at(f: &[u8], s: usize, t: usize) -> bool
+fn earlier_at(f: &[u8], s: usize, t: usize) -> bool
     requires { ⌜ (ruleEnd (now f) s ≤ length (now f)) × (ruleEnd (now f) t ≤ length (now f)) ⌝ }
     ensures { λ r. ⌜ r ≡ earlier (ruleIn (now (f .entry)) s) (ruleIn (now (f .entry)) t) ⌝ }
 {
@@ -51,7 +51,7 @@ pub fn wins_earlier(f: &[u8], s: usize, b: Best) -> bool
     earlier_at(f, s, b.at)
 }
 
-// "With no match: deny".
+// The action of the deciding rule. "With no match: deny".
 pub fn permitted(f: &[u8], b: Best) -> bool
     requires { ⌜ Sound (now f) b ⌝ }
     ensures { λ r. ⌜ r ≡ action (held (now (f .entry)) b) ⌝ }

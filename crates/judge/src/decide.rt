@@ -12,16 +12,7 @@ ghost use Rattle.judge.specs.Best.{held, Ranked, matching};
 use crate::best::Best;
 
 // The best after the rule at s, whose number is i: that rule where it is marked, matches the k elements at p of g, and wins.
-pub fn take_match(
-    b: Best,
-    i: usize,
-    s: usize,
-    mark: u8,
-    f: &[u8],
-    g: &[u8],
-    p: usize,
-    k: usize,
-) -> Best
+fn take_match(b: Best, i: usize, s: usize, mark: u8, f: &[u8], g: &[u8], p: usize, k: usize) -> Best
     requires { ⌜ (ruleEnd (now f) s ≤ length (now f)) × Ranked (now f) b × (elemsEnd k (now g) p ≤ length (now g)) × (length (now f) < 65536) ⌝ }
     ensures { λ c. ⌜ Ranked (now (f .entry)) c × ((app : Rule → Bool) → eqb mark 1 ≡ app (ruleIn (now (f .entry)) s) → held (now (f .entry)) c ≡ prefer better (held (now (f .entry)) b) (candidate (matching app (elemsIn k (now (g .entry)) p)) i (ruleIn (now (f .entry)) s))) ⌝ }
 {
@@ -44,7 +35,7 @@ pub fn take_match(
     }
 }
 
-// Of the n rules, those that `on` marks concern the request.
+// The deciding rule for the k elements at p of g, of those n rules that `on` marks: they concern the request.
 pub fn decide(f: &[u8], starts: &[u16], on: &[u8], n: usize, g: &[u8], p: usize, k: usize) -> Best
     requires { ⌜ Laid (now f) (now starts) n × (n ≤ length (now starts)) × (n ≤ length (now on)) × (elemsEnd k (now g) p ≤ length (now g)) × (length (now f) < 65536) ⌝ }
     ensures { λ c. ⌜ Ranked (now (f .entry)) c × ((app : Rule → Bool) → Marked app (now (f .entry)) (now (starts .entry)) (now (on .entry)) n → held (now (f .entry)) c ≡ choose better (matching app (elemsIn k (now (g .entry)) p)) 0 (rulesIn (now (f .entry)) (now (starts .entry)) n 0)) ⌝ }

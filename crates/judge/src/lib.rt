@@ -1,4 +1,4 @@
-// The verdicts over the decoded bytes of a checked table.
+// The single-path verdict over the decoded bytes of a checked table.
 pub mod best;
 pub mod decide;
 pub mod rule;

@@ -8,7 +8,7 @@ ghost use Rattle.place.specs.Place.{keyEnd, keyIn, keysEnd, keysIn, elemsEnd, e
 ghost use Rattle.judge.specs.Rules.{idAt, pathAt, ruleIn, ruleEnd};
 
 // 1 for a definite key, 0 for a wildcard.
-pub fn count_key(f: &[u8], at: usize) -> usize
+fn count_key(f: &[u8], at: usize) -> usize
     requires { ⌜ keyEnd (now f) at ≤ length (now f) ⌝ }
     ensures { λ r. ⌜ r ≡ unless (wild (keyIn (now (f .entry)) at)) ⌝ }
 {
@@ -19,7 +19,7 @@ pub fn count_key(f: &[u8], at: usize) -> usize
 }
 
 // How many of k keys are definite.
-pub fn count_given(f: &[u8], at: usize, k: usize) -> usize
+fn count_given(f: &[u8], at: usize, k: usize) -> usize
     requires { ⌜ keysEnd k (now f) at ≤ length (now f) ⌝ }
     ensures { λ r. ⌜ r ≡ length (given (keysIn k (now (f .entry)) at)) ⌝ }
 {
@@ -52,6 +52,7 @@ pub fn count_keys(f: &[u8], at: usize, k: usize) -> usize
     n
 }
 
+// Where the id of the rule at `at` stands.
 pub fn id_at(f: &[u8], at: usize) -> usize
     requires { ⌜ ruleEnd (now f) at ≤ length (now f) ⌝ }
     ensures { λ r. ⌜ r ≡ idAt (now (f .entry)) at ⌝ }
@@ -59,6 +60,7 @@ pub fn id_at(f: &[u8], at: usize) -> usize
     place::str_end(f, at + 3)
 }
 
+// Where the path of the rule at `at` stands.
 pub fn path_at(f: &[u8], at: usize) -> usize
     requires { ⌜ ruleEnd (now f) at ≤ length (now f) ⌝ }
     ensures { λ r. ⌜ r ≡ pathAt (now (f .entry)) at ⌝ }

@@ -15,7 +15,7 @@ unfoldable pub definites : Path → ℕ
 definites [] = 0
 definites (e ∷ es) = length (definite e) + definites es
 
--- a user, a deny: 1
+-- 1 unless b holds: so a user weighs more than a group, and a deny more than a permit
 abbrev pub unless : Bool → ℕ
 unless b = if b then 0 else 1
 
@@ -35,7 +35,7 @@ earlier r s = before (r .id) (s .id)
 
 -- ---- the best of a list
 
--- a rule with its number: "Rules .. are numbered from 0 in text order."
+-- a rule with its number: "Rules and groups are numbered from 0 in text order."
 pub record Numbered : Type 0 where
   pub number : ℕ
   pub rule : Rule

@@ -46,6 +46,7 @@ unfoldable pub action : Option Numbered → Bool
 action none = false
 action (some n) = n .rule .permit
 
+-- the verdict as the action alone
 unfoldable pub permits : Table → Request → Bool
 permits t q = action (decider t q)
 
@@ -59,11 +60,12 @@ fits t q r = applies t q r and agree (r .path) (q .path)
 unfoldable pub opposes : Table → Request → Rule → Bool
 opposes t q r = fits t q r and xor (permits t (at q (join (r .path) (q .path)))) (permits t q)
 
--- "MIXED names .. the one with the smallest id, by its number."
+-- the tree answer; "with MIXED that number comes beside it"
 pub data Tree : Type 0 where
   ALL NONE : Tree
   MIXED : Numbered → Tree
 
+-- where no rule opposes, every path has P's verdict
 unfoldable pub word : Bool → Tree
 word true = ALL
 word false = NONE
@@ -72,5 +74,6 @@ unfoldable pub answer : Bool → Option Numbered → Tree
 answer b none = word b
 answer b (some n) = MIXED n
 
+-- "MIXED names .. the one with the smallest id"
 unfoldable pub tree : Table → Request → Tree
 tree t q = answer (permits t q) (choose earlier (opposes t q) 0 (t .rules))

@@ -3,7 +3,7 @@ ghost use mathlib.Core.Path.{_≡_};
 ghost use Prim.Native.Nat.{_<_};
 ghost use Rattle.verdict.specs.Order.{unless, rankBy};
 
-// 1 for a user, and for a deny.
+// 1 unless b holds: for a user, which is no group, and for a deny, which is no permit.
 pub fn unless_so(b: bool) -> usize
     ensures { λ r. ⌜ r ≡ unless b ⌝ }
 {

@@ -32,6 +32,7 @@ badMode mode = not (eqb mode 1 or eqb mode 2)
 unfoldable pub badOrigin : Str → Bool
 badOrigin origin = ltb 32 (length origin) or stray origin
 
+-- the text spells no path
 unfoldable pub unspelled : Option Path → Bool
 unspelled none = true
 unspelled (some p) = false
@@ -46,6 +47,7 @@ requestRefusal user mode origin text =
 
 -- ---- the request
 
+-- the path that it spells, which is asked only where the request is not refused
 unfoldable pub spelled : Option Path → Path
 spelled none = []
 spelled (some p) = p
@@ -64,11 +66,12 @@ unfoldable pub decidedBy : Option Numbered → PathAnswer
 decidedBy none = path.Default
 decidedBy (some n) = if n .rule .permit then path.Permit (record { 0 = n .number }) else path.Deny (record { 0 = n .number })
 
--- "text before request"
+-- the table's refusal, the request's, or the verdict: "text before request"
 unfoldable pub pathAnswer : Checked → ℕ → Option Numbered → PathAnswer
 pathAnswer (checked.Refused n l) number d = path.Refused n l
 pathAnswer checked.Accepted number d = if eqb number clear then decidedBy d else path.Refused number 0
 
+-- the call, on texts
 unfoldable pub pathVerdict : Str → Str → ℕ → Str → Str → PathAnswer
 pathVerdict table user mode origin text =
     pathAnswer (check table) (requestRefusal user mode origin text) (decider (tableOf table) (request user mode origin text))
@@ -82,20 +85,23 @@ pathWord (path.Refused n l) = n + 256 * (l % 4294967296)
 
 -- ---- the tree verdict
 
+-- "with MIXED that number comes beside it"
 unfoldable pub spread : Tree → TreeAnswer
 spread ALL = trees.All
 spread NONE = trees.None
 spread (MIXED n) = trees.Mixed (record { 0 = n .number })
 
+-- the same order of refusals
 unfoldable pub treeAnswer : Checked → ℕ → Tree → TreeAnswer
 treeAnswer (checked.Refused n l) number w = trees.Refused n l
 treeAnswer checked.Accepted number w = if eqb number clear then spread w else trees.Refused number 0
 
+-- the call, on texts
 unfoldable pub treeVerdict : Str → Str → ℕ → Str → Str → TreeAnswer
 treeVerdict table user mode origin text =
     treeAnswer (check table) (requestRefusal user mode origin text) (tree (tableOf table) (request user mode origin text))
 
--- the answer word: 0 NONE, 1 ALL, 2 MIXED from bit 8 on, and with MIXED the rule's number + 1 from bit 16 on
+-- the answer word: 0 NONE, 1 ALL, 2 MIXED from bit 8 on, and with MIXED the rule's number + 1 from bit 16 on; a refusal as above
 unfoldable pub treeWord : TreeAnswer → ℕ
 treeWord trees.All = 256
 treeWord trees.None = 0

@@ -27,7 +27,7 @@ pub fn decided(f: &[u8], b: Best) -> PathAnswer
     PathAnswer::Deny(rule)
 }
 
-// The answer where v is the verdict on the path itself, and b the opposing rule.
+// The tree answer, where v is the verdict on the path itself, and b the opposing rule of smallest id.
 pub fn spread_of(f: &[u8], v: bool, b: Best) -> TreeAnswer
     requires { ⌜ (lacks b ≡ false → b .number < 65536) ⌝ }
     ensures { λ r. ⌜ r ≡ spread (answer «v» (held (now (f .entry)) b)) ⌝ }
@@ -41,7 +41,7 @@ pub fn spread_of(f: &[u8], v: bool, b: Best) -> TreeAnswer
     TreeAnswer::None
 }
 
-// A refusal of either call.
+// A refusal: of the tree call where `whole` holds, else of the path call.
 pub fn refused(number: u8, line: usize, whole: bool) -> Verdict
     ensures { λ r. ⌜ r ≡ refusedAs whole number line ⌝ }
 {
@@ -59,6 +59,7 @@ pub fn refused(number: u8, line: usize, whole: bool) -> Verdict
     Verdict::Path(p)
 }
 
+// The answer of the path call; `Default` stands for the other case, which it never gets.
 pub fn path_of(v: Verdict) -> PathAnswer
     ensures { λ r. ⌜ r ≡ pathOf v ⌝ }
 {
@@ -68,6 +69,7 @@ pub fn path_of(v: Verdict) -> PathAnswer
     a
 }
 
+// The answer of the tree call; `None` stands for the other case, which it never gets.
 pub fn tree_of(v: Verdict) -> TreeAnswer
     ensures { λ r. ⌜ r ≡ treeOf v ⌝ }
 {

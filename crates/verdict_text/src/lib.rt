@@ -1,10 +1,11 @@
-// The single-path verdict and the tree verdict on texts.
+// Requests and answers of the single-path verdict and the tree verdict.
 pub mod answer;
 pub mod request;
 pub mod word;
 
 use table::RuleNumber;
 
+// The answer of the single-path verdict.
 pub enum PathAnswer {
     Permit(RuleNumber),
     Deny(RuleNumber),
@@ -13,6 +14,7 @@ pub enum PathAnswer {
     Refused { number: u8, line: usize },
 }
 
+// The answer of the tree verdict.
 pub enum TreeAnswer {
     All,
     None,

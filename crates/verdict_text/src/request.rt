@@ -5,7 +5,7 @@ ghost use Rattle.text.specs.Refusal.{_when_else_, clear};
 ghost use Rattle.table.specs.Group.{badUser};
 ghost use Rattle.verdict_text.specs.Calls.{badMode, badOrigin};
 
-pub fn is_bad_user(user: &[u8]) -> bool
+fn is_bad_user(user: &[u8]) -> bool
     ensures { λ r. ⌜ r ≡ badUser (now (user .entry)) ⌝ }
 {
     let n = user.len();
@@ -15,13 +15,13 @@ pub fn is_bad_user(user: &[u8]) -> bool
     !text::string::all_print(user)
 }
 
-pub fn is_bad_mode(mode: u32) -> bool
+fn is_bad_mode(mode: u32) -> bool
     ensures { λ r. ⌜ r ≡ badMode mode ⌝ }
 {
     !((mode == 1) | (mode == 2))
 }
 
-pub fn is_bad_origin(origin: &[u8]) -> bool
+fn is_bad_origin(origin: &[u8]) -> bool
     ensures { λ r. ⌜ r ≡ badOrigin (now (origin .entry)) ⌝ }
 {
     if 32 < origin.len() {

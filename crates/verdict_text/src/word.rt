@@ -1,4 +1,4 @@
-// The answers as words.
+// The answers as words, for the C boundary.
 ghost use mathlib.Core.Path.{_≡_};
 ghost use Rattle.verdict_text.specs.Calls.{pathWord, treeWord};
 use crate::PathAnswer;

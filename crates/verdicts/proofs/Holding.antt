@@ -1,13 +1,11 @@
 -- A loaded table is ready for the verdicts.
-use mathlib.Core.Path.{_≡_, sym, ap, _∙_}
+use mathlib.Core.Path.{_≡_, sym, _∙_}
 use mathlib.Core.Bool.{Bool, true}
 use mathlib.Core.List.{List, []}
 use Prim.Native.Nat.{ℕ, _+_, _≤_, _<_}
 use native.Mathlib.Omega.{arith}
 use lib.ListN.{length, take, getD}
 use Rattle.text.specs.String.{Str}
-use Rattle.rows.proofs.Grow.{strings-length}
-use Rattle.keep.specs.Held.{Owned}
 use Rattle.table.specs.Text.{tableOf}
 use Rattle.table.specs.declared.Checked.the-variants as checked
 use Rattle.load.specs.declared.row.Counts.{Counts}
@@ -16,7 +14,7 @@ use Rattle.load.specs.declared.Loaded.the-variants as loaded
 use Rattle.load.specs.Loaded.{Kept, Outcome}
 use Rattle.membership.specs.Set.{setIn}
 use Rattle.membership.proofs.Sets.{has-lists}
-use Rattle.groups.proofs.Calls.{front-is, outcome-refused}
+use Rattle.groups.proofs.Calls.{named-long, own-named, front-is, outcome-refused}
 use Rattle.verdict.specs.Verdict.{decider, tree}
 use Rattle.judge.specs.Rules.{ruleIn, rulesIn, Laid}
 use Rattle.verdicts.specs.Ready.{Ready, Groups}
@@ -28,12 +26,6 @@ use Rattle.verdicts.proofs.RuleBytes.{rules-read, rules-laid, holders-r
 use Rattle.acceptance.proofs.Reordered.{accepted-orderly}
 
 module _ {text buf : List ℕ} {u : ℕ} {c : Counts} {groups users owners ids starts holders : List ℕ} (K : Kept text buf u c groups users owners ids starts holders) where
-  named-long : length (tableOf text .groups) ≡ c .groups
-  named-long = ap length (K .holds .groups-are) ∙ strings-length (take u buf) groups (c .groups)
-
-  own-named : Owned owners (c .members) (length (tableOf text .groups))
-  own-named j h = omega (arith, named-long, K .holds .owned j h)
-
   rules-are : rulesIn (take u buf) starts (c .rules) 0 ≡ tableOf text .rules
   rules-are = rw (sym (K .holds .rules-count)) (rules-read (take u buf) starts (tableOf text .rules) 0 (K .holds .rules-are))
 
@@ -49,7 +41,7 @@ module _ {text buf : List ℕ} {u : ℕ} {c : Counts} {groups users owners ids s
       let z : 0 + i ≡ i = omega arith in
       let k : i < length (tableOf text .rules) = omega (arith, K .holds .rules-count) in
       let h = (rw z at (holders-read (take u buf) starts holders (tableOf text .groups) (tableOf text .rules) 0 (K .holds .rules-are) (K .holds .holders-are) i k)) e in
-      (omega (arith, h .0, named-long, K .holds .few .0), h .0, h .1)
+      (omega (arith, h .0, named-long K, K .holds .few .0), h .0, h .1)
 
   pub ready : Ready (tableOf text) (take u buf) starts holders (c .rules)
   ready =
@@ -63,7 +55,7 @@ module _ {text buf : List ℕ} {u : ℕ} {c : Counts} {groups users owners ids s
       }
 
   pub grouped : (user : Str) → Groups (tableOf text) user (setIn user (take u buf) users owners (c .members) 0 0)
-  grouped user g h = has-lists (tableOf text .groups) (tableOf text .members) user (take u buf) users owners (c .members) (K .holds .distinct) (K .holds .members-are) own-named g h
+  grouped user g h = has-lists (tableOf text .groups) (tableOf text .members) user (take u buf) users owners (c .members) (K .holds .distinct) (K .holds .members-are) (own-named K) g h
 
   pub rooms : (c .rules ≤ length starts) × (c .rules ≤ length holders)
   rooms = (omega (arith, K .holds .long .4, K .holds .few .2), omega (arith, K .holds .long .5, K .holds .few .2))

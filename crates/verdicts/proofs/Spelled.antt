@@ -5,7 +5,7 @@ use mathlib.Core.List.{List}
 use mathlib.Core.Option.{Option, none, some}
 use Prim.Native.Nat.{ℕ, _≤_}
 use native.Mathlib.Omega.{arith}
-use borrow.Author.Tests.{ne-eqb, le-leb, not-true}
+use borrow.Author.Tests.{ne-eqb, le-leb}
 use lib.Dec.{leb}
 use lib.ListN.{length, take, length-append}
 use lib.Seq.{take-at}
@@ -13,16 +13,16 @@ use Rattle.text.specs.Test.{_or_, if_then_else_}
 use Rattle.text.specs.String.{Str}
 use Rattle.text.specs.Fill.{put}
 use Rattle.text.specs.Refusal.{_when_else_, clear}
-use Rattle.text.proofs.Tests.{by, or-false-r}
+use Rattle.text.proofs.Tests.{by}
 use Rattle.path.specs.Path.{Path}
 use Rattle.path.specs.Bytes.{path, pathBytes}
-use Rattle.path.specs.Faults.{overLimit, strayByte, misplaced, keyTwice, goodPath}
+use Rattle.path.specs.Faults.{keyTwice, goodPath}
 use Rattle.path.proofs.Bytes.{bytes-whole}
 use Rattle.path_text.specs.TextReader.{readText}
 use Rattle.path_text.specs.Calls.{bytesFor, answer, lent}
 use Rattle.path_text.specs.declared.Filled.{Filled}
 use Rattle.path_text.specs.declared.Filled.the-variants as filled
-use Rattle.path_text.proofs.RoundTrip.{text-reader}
+use Rattle.path_text.proofs.RoundTrip.{no-key-twice, text-reader}
 use Rattle.path_text.proofs.Longest.{bytes-length}
 use Rattle.table.specs.Group.{badUser}
 use Rattle.table.specs.declared.Checked.the-variants.{Accepted}
@@ -36,10 +36,6 @@ use Rattle.verdict_text.specs.declared.PathAnswer.the-variants as answers
 use Rattle.verdict_text.specs.declared.TreeAnswer.the-variants as trees
 
 -- ---- the path text
-
-good-once : (p : Path) → goodPath p ≡ true → keyTwice p ≡ false
-unfolding goodPath
-good-once p g = or-false-r (misplaced p) _ (or-false-r (strayByte p) _ (or-false-r (overLimit p) _ (not-true _ g)))
 
 -- what was read: the path, and its bytes at the start of the buffer
 pub record Read (s : Str) (len : ℕ) (out : List ℕ) : Type 0 where
@@ -70,7 +66,7 @@ module _ (s : Str) (out out′ : List ℕ) (l : 9377 ≤ length out) where
       record {
         path = p;
         reads = e;
-        once = good-once p g;
+        once = no-key-twice p g;
         bytes = rw (o′, n) (put-take (pathBytes p));
         fits = rw (o′, n) (put-length (pathBytes p) (omega arith));
       }

@@ -1,4 +1,5 @@
-// The verdicts on a loaded table. f are its decoded bytes, g the bytes of the path asked for.
+// The verdicts on a loaded table. f are its decoded bytes, `starts` and `holders` the positions and the groups of its n rules, `set` the user's groups,
+// g the bytes of the path asked for.
 ghost use mathlib.Core.Path.{_≡_};
 ghost use mathlib.Core.Bool.{false};
 ghost use Prim.Native.Nat.{_≤_};
@@ -17,7 +18,7 @@ use verdict_text::TreeAnswer;
 use verdict_text::Verdict;
 
 // The single-path verdict on path bytes.
-pub fn path_answer(
+fn path_answer(
     f: &[u8],
     starts: &[u16],
     holders: &[u8],
@@ -40,7 +41,7 @@ pub fn path_answer(
 }
 
 // The tree verdict on path bytes.
-pub fn tree_answer(
+fn tree_answer(
     f: &[u8],
     starts: &[u16],
     holders: &[u8],
