@@ -73,7 +73,7 @@ module _ (t : Str) (out : List ℕ) (c : Checked) (i : c ≡ check t) where
 
 -- ---- pack
 
--- where all lines went over, so many bytes were stored
+-- where all lines were converted, so many bytes were stored
 module _ (g : Str → Option Str) (room : ℕ) where
   pub stored-length : (ls : List Str) (n at m : ℕ) → at ≤ room → ending g room n at ls ≡ ended.All m → (m ≡ at + length (stored g room at ls)) × (m ≤ room)
   unfolding ending onward stored storing if_then_else_

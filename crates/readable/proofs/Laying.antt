@@ -1,4 +1,4 @@
--- Lines that go over one after another.
+-- Lines converted one after another.
 use mathlib.Core.Path.{_≡_, refl, sym, ap, _∙_}
 use mathlib.Core.List.{List, [], _∷_, _++_, append-assoc, append-nil}
 use mathlib.Core.Option.{Option, none, some}
@@ -30,7 +30,7 @@ module _ (g : Str → Option Str) (room n at : ℕ) (l : Str) (ls : List Str) wh
   unfolding ending onward stored storing if_then_else_
   end-some w e h = (rw (e, le-leb _ _ h), rw (e, le-leb _ _ h))
 
--- the lines before `from` went over, which made d to `out`; the next line has that number, and is to be stored at `at`
+-- the lines before `from` were converted, so that `out` has come of d; the next line has that number, and is to be stored at `at`
 pub record Laying (g : Str → Option Str) (text : Str) (d : List ℕ) (from at number : ℕ) (out : List ℕ) : Type 0 where
   pub so-far : Str
   pub ends : ending g (length d) 1 0 (lines text) ≡ ending g (length d) number at (lines (drop from text))

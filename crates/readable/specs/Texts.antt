@@ -1,4 +1,4 @@
--- Whole texts: each line goes over to one line; and what the two calls answer and leave in the lent buffer.
+-- Whole texts, converted line by line; and what the two calls answer and leave in the lent buffer.
 use Prim.Native.Nat.{ℕ, _+_, _-_}
 use mathlib.Core.List.{List, [], _∷_, _++_}
 use mathlib.Core.Option.{Option, none, some}
@@ -17,28 +17,31 @@ use Rattle.readable.specs.declared.Converted.the-variants.{Length, Refus
 use Rattle.readable.specs.declared.Ended.{Ended}
 use Rattle.readable.specs.declared.Ended.the-variants as ended
 
--- ---- line after line by g, into a buffer with so much room; n is the number of the next line, and `at` where it is to be stored
+-- ---- line after line, converted by g, into a buffer with so much room; n is the number of the next line, and `at` where it is to be stored
 
+-- one line, and then k, from where the next is to be stored
 unfoldable pub onward : ℕ → ℕ → ℕ → Option Str → (ℕ → Ended) → Ended
 onward room n at none k = ended.Unread n
 onward room n at (some w) k = if leb (length w) (room - at) then k (at + length w) else ended.Full
 
--- all lines went over, to so many bytes; or the number of the first that does not; or there is no room for it
+-- all lines were converted, to so many bytes; or the number of the first that g does not convert; or there is no room for one
 unfoldable pub ending : (Str → Option Str) → ℕ → ℕ → ℕ → List Str → Ended
 ending g room n at [] = ended.All at
 ending g room n at (l ∷ ls) = onward room n at (g l) (λ to. ending g room (n + 1) to ls)
 
+-- the same of what is stored
 unfoldable pub storing : ℕ → ℕ → Option Str → (ℕ → Str) → Str
 storing room at none k = []
 storing room at (some w) k = if leb (length w) (room - at) then w ++ k (at + length w) else []
 
--- what was stored before that
+-- what was stored before the end
 unfoldable pub stored : (Str → Option Str) → ℕ → ℕ → List Str → Str
 stored g room at [] = []
 stored g room at (l ∷ ls) = storing room at (g l) (λ to. stored g room to ls)
 
 -- ---- the calls
 
+-- the answer of `show`, by how its lines ended
 unfoldable pub shownAs : Ended → Converted
 shownAs (ended.All n) = Length n
 shownAs (ended.Unread l) = Unread l
@@ -49,6 +52,7 @@ unfoldable pub showAnswer : Checked → Str → List ℕ → Converted
 showAnswer (checked.Refused n l) text out = Refused n l
 showAnswer checked.Accepted text out = shownAs (ending shownLine (length out) 1 0 (lines text))
 
+-- with a refusal "nothing lent is stored to"
 unfoldable pub showLent : Checked → Str → List ℕ → List ℕ
 showLent (checked.Refused n l) text out = out
 showLent checked.Accepted text out = put out 0 (stored shownLine (length out) 0 (lines text))
@@ -62,7 +66,7 @@ unfoldable pub madeLent : Checked → Str → List ℕ → List ℕ
 madeLent (checked.Refused n l) table out = out
 madeLent checked.Accepted table out = if leb (length table) (length out) then put out 0 table else out
 
--- the number of the first line that is not of the readable form; 1 for "table text over 32,768 bytes (line 0)"
+-- the number of the first line that is not of the readable form; 1 for "table text over 32,768 bytes (line 0)"; or by the table that was made
 unfoldable pub packAnswer : Ended → Str → List ℕ → Converted
 packAnswer (ended.All n) table out = madeAnswer (check table) table out
 packAnswer (ended.Unread l) table out = Unread l
@@ -73,6 +77,7 @@ packLent (ended.All n) table out = madeLent (check table) table out
 packLent (ended.Unread l) table out = out
 packLent ended.Full table out = out
 
+-- the table is made in a buffer of its own, of 32,768 bytes
 unfoldable pub packedEnd : Str → Ended
 packedEnd text = ending packedLine 32768 1 0 (lines text)
 

@@ -8,11 +8,10 @@ ghost use Rattle.line.specs.Lines.{lines};
 ghost use Rattle.table.specs.Text.{check};
 ghost use Rattle.readable_lines.specs.Lines.{lineBy};
 ghost use Rattle.readable.specs.Texts.{ending, stored, showAnswer, showLent, madeAnswer, madeLent, packAnswer, packLent, packedEnd, packedTable};
-use line::Line;
 use path_text::reader::Stored;
 use table::Checked;
 
-// Of `show` and `pack`.
+// The answer of `show` and of `pack`.
 pub enum Converted {
     // The start of the lent buffer is the result, which has this length.
     Length(usize),
@@ -23,14 +22,17 @@ pub enum Converted {
     NoRoom,
 }
 
-// Of the lines of a text, stored one after another.
+// How the lines of a text ended, converted and stored one after another.
 pub enum Ended {
+    // All were stored, in so many bytes.
     All(usize),
+    // A line that is not of the form.
     Unread { line: usize },
+    // There is no room for a line.
     Full,
 }
 
-// The lines one after another into out.
+// Converts the lines one after another into out.
 fn convert_lines(packing: bool, text: &[u8], out: &mut [u8]) -> Ended
     requires { ⌜ (packing ≡ false → length (now text) ≤ 32768) ⌝ }
     ensures { λ r. ⌜ (r ≡ ending (lineBy packing) (length (now (out .entry))) 1 0 (lines (now (text .entry)))) × (now (out .exit) ≡ put (now (out .entry)) 0 (stored (lineBy packing) (length (now (out .entry))) 0 (lines (now (text .entry))))) ⌝ }
@@ -74,7 +76,7 @@ pub fn show(table: &[u8], out: &mut [u8]) -> Converted
     }
 }
 
-// The table that was made, where it is one and there is room.
+// The table that was made goes to out, where it is accepted and there is room.
 fn hand_out(table: &[u8], out: &mut [u8]) -> Converted
     ensures { λ r. ⌜ (r ≡ madeAnswer (check (now (table .entry))) (now (table .entry)) (now (out .entry))) × (now (out .exit) ≡ madeLent (check (now (table .entry))) (now (table .entry)) (now (out .entry))) ⌝ }
 {

@@ -1,4 +1,4 @@
--- The rules' table, line by line.
+-- Lines of the rules' table (E to K), shown.
 use mathlib.Core.Path.{_≡_, refl}
 use mathlib.Core.List.{[], _∷_, _++_}
 use mathlib.Core.Option.{some}

@@ -131,10 +131,6 @@ whole-some s (got b t) a e =
     (λ u. let i : none ≡ some a = rw u at e in let z : _≡_ {A = ℕ} 0 1 = cc in absurd (omega arith))
 whole-some s unread a e = let z : _≡_ {A = ℕ} 0 1 = cc in absurd (omega arith)
 
-whole-got : {A : Type 0} (s : Str) (x : Parsed A) (a : A) (t : ℕ) → x ≡ got a t → drop t s ≡ [] → t ≤ length s → whole s x ≡ some a
-unfolding whole if_then_else_
-whole-got s x a t e d h = let l : length s - t ≡ 0 = sym (length-drop t s) ∙ ap length d in rw (e, eq-eqb t (length s) (omega arith))
-
 pub printed-some : (o : Option Str) (w : Str) → printed o ≡ some w → (o ≡ some w) × (all isPrint w ≡ true)
 unfolding printed if_then_else_
 printed-some none w e = let z : _≡_ {A = ℕ} 0 1 = cc in absurd (omega arith)

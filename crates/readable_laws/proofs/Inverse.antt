@@ -1,4 +1,4 @@
--- Each part that goes over comes back the same, and so do the parts of a form.
+-- From parts to forms: where each part comes back the same, so do the parts of a form one after another.
 use mathlib.Core.Path.{_≡_, refl, sym, _∙_}
 use mathlib.Core.Bool.{Bool, true, false, _||_, not}
 use mathlib.Core.List.{[], _∷_, _++_, append-nil}

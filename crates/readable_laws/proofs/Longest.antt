@@ -1,5 +1,5 @@
 -- How long the readable text of an accepted table can be: at most 43,532 bytes. A byte of a frame is two digits of the table's text, so each line is compared with the
--- readable line that it goes over to, and the limits on groups, members and rules bound by how much all readable lines together are longer.
+-- readable line that it is shown as, and the limits on groups, members and rules bound by how much all readable lines together are longer.
 use mathlib.Core.Path.{_≡_, refl, sym, ap, _∙_}
 use mathlib.Core.Bool.{true, false}
 use mathlib.Core.List.{List, [], _∷_}

@@ -1,4 +1,4 @@
--- Each part that goes over comes back: strings, words, bytes that stand for themselves, the time, paths.
+-- Each part that is shown or packed comes back: strings, words, bytes that stand for themselves, the time, paths.
 use mathlib.Core.Path.{_≡_, refl, sym, ap, _∙_}
 use mathlib.Core.Bool.{true, false}
 use mathlib.Core.List.{[], _∷_, _++_, append-assoc, append-nil}

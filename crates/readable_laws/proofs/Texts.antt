@@ -85,7 +85,7 @@ pub joint-cons : (l : Str) (ls : List Str) → joint (l ∷ ls) ≡ l ++ joint l
 unfolding joined
 joint-cons l ls = refl
 
--- where a line goes over and there is room for it
+-- where a line is converted and there is room for it
 module _ (g : Str → Option Str) (room n at : ℕ) (l w : Str) (ls : List Str) (e : g l ≡ some w) (h : length w ≤ room - at) where
   step-end : ending g room n at (l ∷ ls) ≡ ending g room (n + 1) (at + length w) ls
   unfolding ending onward if_then_else_
@@ -95,7 +95,7 @@ module _ (g : Str → Option Str) (room n at : ℕ) (l w : Str) (ls : List Str) 
   unfolding stored storing if_then_else_
   step-stored = rw (e, le-leb _ _ h)
 
--- it does, where all lines do
+-- it is, where all lines are
 step-told : (g : Str → Option Str) (room n at m : ℕ) (l : Str) (ls : List Str) → ending g room n at (l ∷ ls) ≡ ended.All m → (w : Str) × (g l ≡ some w) × (length w ≤ room - at)
 unfolding ending
 step-told g room n at m l ls e = go (g l) refl e

@@ -1,4 +1,4 @@
--- Parts that go over one after another, and whole frames and lines.
+-- Parts converted one after another, and whole frames and lines.
 use mathlib.Core.Path.{_≡_, refl, sym, ap, _∙_}
 use mathlib.Core.Bool.{true, false}
 use mathlib.Core.List.{List, [], _∷_, _++_, append-assoc, append-nil}
@@ -59,7 +59,7 @@ room-cons : (c : ℕ) (cs : Str) → roomFor (c ∷ cs) ≡ longest c + roomFor 
 unfolding roomFor
 room-cons c cs = refl
 
--- the first i parts went over, so that `out` has come of d; reading goes on at `at`, storing at q
+-- the first i parts were converted, so that `out` has come of d; reading goes on at `at`, storing at q
 pub record Going (p : Parts) (form s : Str) (start : ℕ) (d : List ℕ) (to i at : ℕ) (out : List ℕ) (q : ℕ) : Type 0 where
   pub so-far : Str
   pub same : parts p form s start ≡ after so-far (parts p (drop i form) s at)

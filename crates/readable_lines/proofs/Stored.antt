@@ -1,4 +1,4 @@
--- What an answer tells.
+-- What an answer of the programs on lines tells.
 use mathlib.Core.Path.{_≡_, refl, ap, _∙_}
 use mathlib.Core.List.{List, _∷_}
 use mathlib.Core.Option.{Option, none, some}

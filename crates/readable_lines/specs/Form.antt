@@ -11,7 +11,7 @@ use Rattle.text.specs.Frame.{Reader, _>>=_, ret}
 use Rattle.table.specs.Frame.{unknown, whole}
 use Rattle.readable_parts.specs.Parts.{Parts, partOf, shown, packed}
 
--- one part after another
+-- the parts that a form names, one after another
 unfoldable pub parts : Parts → Str → Reader Str
 parts p [] = ret []
 parts p (c ∷ cs) = do
@@ -28,9 +28,9 @@ formBy p k =
     else if eqb k 4 then parts p (bytes "rule A M K S id S origin S P")
     else unknown
 
--- ---- from a frame
+-- ---- shown, from a frame
 
--- only text in the bytes of our strings, so in one line
+-- only printable text, so in one line
 unfoldable pub printed : Option Str → Option Str
 printed none = none
 printed (some w) = if all isPrint w then some w else none
@@ -39,9 +39,9 @@ printed (some w) = if all isPrint w then some w else none
 unfoldable pub shownFrame : Str → Option Str
 shownFrame f = printed (whole f (formBy shown (getD f 0 0) f 1))
 
--- ---- and back
+-- ---- packed, from a readable line
 
--- the kind of a line, by its first letter
+-- the kind of a line, by its first letter: v (118), g (103), m (109) or r (114)
 unfoldable pub kindBy : ℕ → ℕ
 kindBy b = if eqb b 118 then 1 else if eqb b 103 then 2 else if eqb b 109 then 3 else if eqb b 114 then 4 else 0
 

@@ -11,6 +11,7 @@ use Rattle.line.specs.Lines.{frame}
 use Rattle.readable_parts.specs.Parts.{hexText}
 use Rattle.readable_lines.specs.Form.{shownFrame, packedFrame}
 
+-- what k makes of it, if there is something
 unfoldable pub andThen : Option Str → (Str → Option Str) → Option Str
 andThen none k = none
 andThen (some a) k = k a
@@ -28,13 +29,15 @@ unlined l = if eqb (getD l (length l - 1) 0) 10 then some (take (length l - 1) l
 unfoldable pub shownLine : Str → Option Str
 shownLine l = lined (andThen (frame l) shownFrame)
 
+-- as hex digits
 unfoldable pub hexed : Option Str → Option Str
 hexed none = none
 hexed (some f) = some (hexText f)
 
--- and back
+-- a readable line to its line of the table
 unfoldable pub packedLine : Str → Option Str
 packedLine l = lined (hexed (andThen (unlined l) packedFrame))
 
+-- either of the two
 unfoldable pub lineBy : Bool → (Str → Option Str)
 lineBy packing = if packing then packedLine else shownLine

@@ -1,4 +1,4 @@
--- The answers of the programs that go over line by line, said of what is read there.
+-- The answers of the programs that convert line by line, said of what is read there.
 use Prim.Native.Nat.{ℕ, _+_, _≤_, _<_}
 use mathlib.Core.Path.{_≡_}
 use mathlib.Core.Bool.{Bool}
@@ -14,6 +14,7 @@ use Rattle.path_text.specs.declared.reader.Stored.the-variants as stored
 use Rattle.readable_parts.specs.Parts.{Parts, shown, packed}
 use Rattle.readable_parts.specs.Steps.{longest}
 
+-- the readers for either direction
 unfoldable pub partsBy : Bool → Parts
 partsBy packing = if packing then packed else shown
 
@@ -22,12 +23,13 @@ unfoldable pub roomFor : Str → ℕ
 roomFor [] = 0
 roomFor (c ∷ cs) = longest c + roomFor cs
 
--- what there is, at most 14,001 bytes, fills the start of d, and nothing else does; where there is nothing, nothing is said of d
+-- what there is fills the start of d, and nothing else does; where there is nothing, nothing is said of d. (The parts of no form take more than
+-- 14,000 bytes, as `by_kind` shows; a frame has its kind byte too.)
 pub data Fills : Option Str → List ℕ → List ℕ → Stored → Type 0 where
   fills : {w : Str} {d d′ : List ℕ} {next end : ℕ} → Wrote d 0 w d′ end → end ≤ 14001 → Fills (some w) d d′ (stored.To next end)
   nothing : {d d′ : List ℕ} → Fills none d d′ stored.Unread
 
--- the line of the text that starts at `from` goes over to the start of d; the next one starts at `next`
+-- the line of the text that starts at `from` was converted by g to the start of d, and the next one starts at `next`; or g does not convert it
 pub data Lays (g : Str → Option Str) (text : Str) (from : ℕ) : List ℕ → List ℕ → Stored → Type 0 where
   lays : {l w : Str} {d d′ : List ℕ} {next end : ℕ} → lines (drop from text) ≡ l ∷ lines (drop next text) → g l ≡ some w → Wrote d 0 w d′ end
       → end ≤ length d → from < next → next ≤ length text → Lays g text from d d′ (stored.To next end)

@@ -8,6 +8,7 @@ ghost use Rattle.readable_parts.specs.Steps.{longest, Puts};
 ghost use Rattle.readable_lines.specs.Steps.{partsBy, roomFor, Fills};
 use path_text::reader::Stored;
 
+// The part that c names, packed or shown.
 fn convert_part(packing: bool, c: u8, s: &[u8], at: usize, out: &mut [u8], to: usize) -> Stored
     requires { ⌜ (to + longest c ≤ length (now out)) × (at ≤ length (now s)) ⌝ }
     ensures { λ r. ⌜ Puts (longest c) (partOf (partsBy packing) c) (now (s .entry)) at (now (out .entry)) to (now (out .exit)) r ⌝ }
@@ -45,7 +46,7 @@ fn convert_parts(
     Stored::To { next: p, end: q }
 }
 
-// The parts of a frame of that kind.
+// The parts of a frame of that kind: no form takes more than 14,000 bytes.
 fn by_kind(packing: bool, kind: u8, s: &[u8], at: usize, out: &mut [u8], to: usize) -> Stored
     requires { ⌜ (to + 14000 ≤ length (now out)) × (at ≤ length (now s)) ⌝ }
     ensures { λ r. ⌜ Puts 14000 (formBy (partsBy packing) kind) (now (s .entry)) at (now (out .entry)) to (now (out .exit)) r ⌝ }
@@ -70,7 +71,7 @@ pub fn show_frame(f: &[u8], out: &mut [u8]) -> Stored
     requires { ⌜ 16384 ≤ length (now out) ⌝ }
     ensures { λ r. ⌜ Fills (shownFrame (now (f .entry))) (now (out .entry)) (now (out .exit)) r ⌝ }
 {
-    if f.len() <= 0 {
+    if f.len() == 0 {
         return Stored::Unread;
     }
     let r = by_kind(false, f[0], f, 1, out, 0);
@@ -89,6 +90,7 @@ pub fn show_frame(f: &[u8], out: &mut [u8]) -> Stored
     }
 }
 
+// The kind of a readable line, by its first letter; 0 for none.
 fn kind_by(b: u8) -> u8
     ensures { λ r. ⌜ r ≡ kindBy b ⌝ }
 {
@@ -115,7 +117,7 @@ pub fn pack_frame(s: &[u8], out: &mut [u8]) -> Stored
     if !text::string::all_print(s) {
         return Stored::Unread;
     }
-    if s.len() <= 0 {
+    if s.len() == 0 {
         return Stored::Unread;
     }
     let kind = kind_by(s[0]);

@@ -24,7 +24,7 @@ fn show_line(text: &[u8], from: usize, out: &mut [u8]) -> Stored
     let Stored::To { next: _, end } = s else {
         return Stored::Unread;
     };
-    out[end] = 10;
+    out[end] = b'\n';
     Stored::To {
         next: next,
         end: end + 1,
@@ -36,7 +36,7 @@ fn pack_line(text: &[u8], from: usize, out: &mut [u8]) -> Stored
     requires { ⌜ (from < length (now text)) × (32769 ≤ length (now out)) ⌝ }
     ensures { λ r. ⌜ Lays packedLine (now (text .entry)) from (now (out .entry)) (now (out .exit)) r ⌝ }
 {
-    let stop = path_text::reader::find(text, from, 10, 10);
+    let stop = path_text::reader::find(text, from, b'\n', b'\n');
     if text.len() <= stop {
         return Stored::Unread;
     }
@@ -46,14 +46,14 @@ fn pack_line(text: &[u8], from: usize, out: &mut [u8]) -> Stored
         return Stored::Unread;
     };
     let close = readable_parts::hex::write_hex(&frame[..end], out, 0);
-    out[close] = 10;
+    out[close] = b'\n';
     Stored::To {
         next: stop + 1,
         end: close + 1,
     }
 }
 
-// Either of the two.
+// Either of the two: `packing` makes the table's line of a readable one.
 pub fn convert_line(packing: bool, text: &[u8], from: usize, out: &mut [u8]) -> Stored
     requires { ⌜ (from < length (now text)) × (packing ≡ false → length (now text) ≤ 32768) × (32769 ≤ length (now out)) ⌝ }
     ensures { λ r. ⌜ Lays (lineBy packing) (now (text .entry)) from (now (out .entry)) (now (out .exit)) r ⌝ }

@@ -1,4 +1,4 @@
-// The parts of a readable line, as the bytes of a frame.
+// The parts of a readable line, as the bytes of a frame: each function stores the bytes of the part at `at` of s into out from `to` on.
 ghost use mathlib.Core.Path.{_≡_};
 ghost use Prim.Native.Nat.{_+_, _≤_};
 ghost use lib.ListN.{length};
@@ -8,6 +8,7 @@ use line::Line;
 use path_text::Filled;
 use path_text::reader::Stored;
 
+// In brackets.
 fn string(s: &[u8], at: usize, out: &mut [u8], to: usize) -> Stored
     requires { ⌜ (to + 130 ≤ length (now out)) × (at ≤ length (now s)) ⌝ }
     ensures { λ r. ⌜ Puts 130 packedString (now (s .entry)) at (now (out .entry)) to (now (out .exit)) r ⌝ }
@@ -15,12 +16,13 @@ fn string(s: &[u8], at: usize, out: &mut [u8], to: usize) -> Stored
     if s.len() <= at {
         return Stored::Unread;
     }
-    if s[at] != 91 {
+    if s[at] != b'[' {
         return Stored::Unread;
     }
     path_text::reader::read_value(s, at + 1, out, to)
 }
 
+// The rest of the line, 16 digits.
 fn time(s: &[u8], at: usize, out: &mut [u8], to: usize) -> Stored
     requires { ⌜ (to + 16 ≤ length (now out)) × (at ≤ length (now s)) ⌝ }
     ensures { λ r. ⌜ Puts 16 packedTime (now (s .entry)) at (now (out .entry)) to (now (out .exit)) r ⌝ }
@@ -29,7 +31,7 @@ fn time(s: &[u8], at: usize, out: &mut [u8], to: usize) -> Stored
         return Stored::Unread;
     }
     // the digits with an LF, a hex line
-    let mut digits = [10u8; 17];
+    let mut digits = [b'\n'; 17];
     text::fill::copy(&s[at..], &mut digits, 0);
     let l = line::read_line(&digits, 0, out, to);
     let Line::Frame { len, next } = l else {
@@ -44,6 +46,7 @@ fn time(s: &[u8], at: usize, out: &mut [u8], to: usize) -> Stored
     }
 }
 
+// The rest of the line, path text.
 fn path(s: &[u8], at: usize, out: &mut [u8], to: usize) -> Stored
     requires { ⌜ to + 13520 ≤ length (now out) ⌝ }
     ensures { λ r. ⌜ Puts 13520 packedPath (now (s .entry)) at (now (out .entry)) to (now (out .exit)) r ⌝ }
@@ -61,6 +64,7 @@ fn path(s: &[u8], at: usize, out: &mut [u8], to: usize) -> Stored
     }
 }
 
+// The word w stands at `at`.
 fn stands_at(w: &[u8], s: &[u8], at: usize) -> bool
     requires { ⌜ at ≤ length (now s) ⌝ }
     ensures { λ r. ⌜ r ≡ standsAt (now (w .entry)) (now (s .entry)) at ⌝ }
@@ -94,6 +98,7 @@ fn code(s: &[u8], at: usize, n: u8, a: &[u8], b: &[u8], out: &mut [u8], to: usiz
     Stored::Unread
 }
 
+// The part that c names.
 pub fn part(c: u8, s: &[u8], at: usize, out: &mut [u8], to: usize) -> Stored
     requires { ⌜ (to + longest c ≤ length (now out)) × (at ≤ length (now s)) ⌝ }
     ensures { λ r. ⌜ Puts (longest c) (partOf packed c) (now (s .entry)) at (now (out .entry)) to (now (out .exit)) r ⌝ }

@@ -1,4 +1,4 @@
--- What an answer tells.
+-- What an answer of the programs on parts tells.
 use mathlib.Core.Path.{_≡_, sym, ap, _∙_}
 use mathlib.Core.List.{List}
 use Prim.Native.Nat.{ℕ, _≤_}

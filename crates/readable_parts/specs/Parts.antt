@@ -1,4 +1,5 @@
--- The parts of a readable line: how each is shown of a frame, and packed to the bytes of a frame.
+-- The parts of a readable line: how each is shown, which reads a frame and makes text, and packed, which reads the text and makes the bytes of
+-- a frame.
 use Prim.Native.Nat.{ℕ, _+_, _-_, _/_, _%_}
 use mathlib.Core.Bool.{Bool, cond}
 use mathlib.Core.List.{List, [], _∷_, _++_}
@@ -16,16 +17,18 @@ use Rattle.table.specs.Frame.{unknown}
 
 -- ---- the parts of a line
 
--- how each part goes over
+-- a reader for each sort of part: all that show, or all that pack
 pub record Parts : Type 0 where
   pub string : Reader Str
   pub time : Reader Str
   pub path : Reader Str
   -- two words that stand for the code byte n and the next one
   pub code : ℕ → Str → Str → Reader Str
+  -- a byte of the form that stands for itself
   pub plain : ℕ → Reader Str
 
--- S is a string, T the creation time, P a path, A the action, M the mode, K the kind of subject; any other byte stands for itself
+-- by the byte that names the part in a form: S (83) is a string, T (84) the creation time, P (80) a path, A (65) the action, M (77) the mode,
+-- K (75) the kind of subject; any other byte stands for itself
 unfoldable pub partOf : Parts → ℕ → Reader Str
 partOf p c =
     if eqb c 83 then p .string
@@ -45,12 +48,13 @@ rest (some w) t = got w t
 unfoldable pub ofRest : (Str → Option Str) → Reader Str
 ofRest g s at = if ltb at (length s) then rest (g (drop at s)) (length s) else unread
 
--- ---- from a frame
+-- ---- shown, from a frame
 
 -- in brackets, with the escapes of path text
 unfoldable pub quoted : Str → Str
 quoted s = bytes "[" ++ (joined escaped s ++ bytes "]")
 
+-- the digit that stands for n
 abbrev pub hexDigit : ℕ → ℕ
 hexDigit n = cond (ltb n 10) (48 + n) (87 + n)
 
@@ -60,6 +64,7 @@ hexPair b = hexDigit (b / 16) ∷ hexDigit (b % 16) ∷ []
 unfoldable pub hexText : Str → Str
 hexText f = joined hexPair f
 
+-- no string of a table is longer than 64 bytes
 unfoldable pub shownString : Reader Str
 shownString = do
   s ← string
@@ -84,8 +89,9 @@ shownPlain c = ret (c ∷ [])
 unfoldable pub shown : Parts
 shown = record { string = shownString; time = shownTime; path = shownPath; code = shownCode; plain = shownPlain }
 
--- ---- and back
+-- ---- packed, from a readable line
 
+-- [value]
 unfoldable pub packedString : Reader Str
 packedString = do
   b ← literal 91

@@ -1,4 +1,4 @@
--- The answers of the programs that go over part by part, said of what is read there.
+-- The answers of the programs that convert part by part, said of what is read there.
 use Prim.Native.Nat.{ℕ, _≤_}
 use mathlib.Core.Path.{_≡_}
 use mathlib.Core.List.{List}
@@ -11,7 +11,7 @@ use Rattle.text.specs.Fill.{Wrote}
 use Rattle.path_text.specs.declared.reader.Stored.{Stored}
 use Rattle.path_text.specs.declared.reader.Stored.the-variants as stored
 
--- the longest that a part can be, as text or in a frame
+-- the longest that a part can be, as text or in a frame: 64 bytes escaped, in brackets; 16 digits; the longest path text; `permit`
 unfoldable pub longest : ℕ → ℕ
 longest c =
     if eqb c 83 then 130

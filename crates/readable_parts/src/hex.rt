@@ -9,9 +9,10 @@ fn hex_digit(n: u8) -> u8
     requires { ⌜ n < 16 ⌝ }
     ensures { λ r. ⌜ r ≡ hexDigit n ⌝ }
 {
-    if n < 10 { 48 + n } else { 87 + n }
+    if n < 10 { b'0' + n } else { b'a' - 10 + n }
 }
 
+// Stores the digits of f into out, from `at` on.
 pub fn write_hex(f: &[u8], out: &mut [u8], at: usize) -> usize
     requires { ⌜ at + length (hexText (now f)) ≤ length (now out) ⌝ }
     ensures { λ r. ⌜ Wrote (now (out .entry)) at (hexText (now (f .entry))) (now (out .exit)) r ⌝ }

@@ -1,4 +1,4 @@
-// The parts of a frame, as text.
+// The parts of a frame, as text: each function stores the text of the part at `at` of f into out from `to` on.
 ghost use Prim.Native.Nat.{_+_, _≤_};
 ghost use lib.ListN.{length};
 ghost use Rattle.readable_parts.specs.Parts.{shown, partOf, shownString, shownTime, shownPath, shownCode};
@@ -7,6 +7,7 @@ use path_text::Filled;
 use path_text::reader::Stored;
 use text::frame::End;
 
+// In brackets.
 fn string(f: &[u8], at: usize, out: &mut [u8], to: usize) -> Stored
     requires { ⌜ to + 130 ≤ length (now out) ⌝ }
     ensures { λ r. ⌜ Puts 130 shownString (now (f .entry)) at (now (out .entry)) to (now (out .exit)) r ⌝ }
@@ -20,15 +21,16 @@ fn string(f: &[u8], at: usize, out: &mut [u8], to: usize) -> Stored
     if 64 < s.len() {
         return Stored::Unread;
     }
-    out[to] = 91;
+    out[to] = b'[';
     let close = path_write::write_value(s, out, to + 1);
-    out[close] = 93;
+    out[close] = b']';
     Stored::To {
         next: end,
         end: close + 1,
     }
 }
 
+// The rest of the frame, as 16 digits.
 fn time(f: &[u8], at: usize, out: &mut [u8], to: usize) -> Stored
     requires { ⌜ (to + 16 ≤ length (now out)) × (at ≤ length (now f)) ⌝ }
     ensures { λ r. ⌜ Puts 16 shownTime (now (f .entry)) at (now (out .entry)) to (now (out .exit)) r ⌝ }
@@ -43,6 +45,7 @@ fn time(f: &[u8], at: usize, out: &mut [u8], to: usize) -> Stored
     }
 }
 
+// The rest of the frame, as path text.
 fn path(f: &[u8], at: usize, out: &mut [u8], to: usize) -> Stored
     requires { ⌜ to + 13520 ≤ length (now out) ⌝ }
     ensures { λ r. ⌜ Puts 13520 shownPath (now (f .entry)) at (now (out .entry)) to (now (out .exit)) r ⌝ }
@@ -86,6 +89,7 @@ fn code(f: &[u8], at: usize, n: u8, a: &[u8], b: &[u8], out: &mut [u8], to: usiz
     Stored::Unread
 }
 
+// The part that c names.
 pub fn part(c: u8, f: &[u8], at: usize, out: &mut [u8], to: usize) -> Stored
     requires { ⌜ (to + longest c ≤ length (now out)) × (at ≤ length (now f)) ⌝ }
     ensures { λ r. ⌜ Puts (longest c) (partOf shown c) (now (f .entry)) at (now (out .entry)) to (now (out .exit)) r ⌝ }

@@ -22,7 +22,7 @@ returns-2 : tie.Need-returns-2
 returns-2 c =
     let at-if2 = c .if2 in
     let at-start = c .before .before .before .before .before in
-    rw (line-empty (at-start .args .s .now) (at-if2 .taken)) nothing
+    rw (line-empty (at-start .args .s .now) (omega (arith, at-if2 .taken))) nothing
 
 shared-slice-read-kind-by : tie.Need-shared-slice-read-kind-by
 shared-slice-read-kind-by c = search needs

@@ -13,7 +13,7 @@ returns : tie.Need-returns
 returns c =
     let at-if1 = c .if1 in
     let at-start = c .before .before .before in
-    rw (frame-empty (at-start .args .f .now) (at-if1 .taken)) nothing
+    rw (frame-empty (at-start .args .f .now) (omega (arith, at-if1 .taken))) nothing
 
 shared-slice-read-by-kind : tie.Need-shared-slice-read-by-kind
 shared-slice-read-by-kind c = search needs

@@ -7,6 +7,9 @@ use Rattle.readable_parts.proofs.hex.hex_digit.Tie as tie
 add-result : tie.Need-add-result
 add-result c = search needs
 
+sub-result : tie.Need-sub-result
+sub-result c = search needs
+
 add-result-2 : tie.Need-add-result-2
 add-result-2 c = search needs
 
@@ -21,4 +24,4 @@ returns-2 c =
     rw (le-ltb _ _ (at-if1 .left))
 
 pub hex-digit-spec : {M : Type 1} → statement M
-hex-digit-spec = tie.close (tie.spec add-result add-result-2 returns returns-2)
+hex-digit-spec = tie.close (tie.spec add-result sub-result add-result-2 returns returns-2)
