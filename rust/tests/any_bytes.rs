@@ -156,13 +156,10 @@ fn every_declared_call_is_a_target() {
 #[test]
 fn any_bytes_to_every_call() {
     let mut random = Random::new(setting("BURGEE_FUZZ_SEED").unwrap_or(0x61));
-    let (rounds, until) = match setting("BURGEE_FUZZ_SECONDS") {
-        Some(seconds) => (usize::MAX, Instant::now() + Duration::from_secs(seconds)),
-        None => (ROUNDS, Instant::now() + Duration::from_secs(3_600)),
-    };
+    let (start, time) = (Instant::now(), setting("BURGEE_FUZZ_SECONDS").map(Duration::from_secs));
     let mut made = 0;
     let mut tallies: [Tally; TARGETS.len()] = Default::default();
-    while made < rounds && Instant::now() < until {
+    while time.map_or(made < ROUNDS, |time| start.elapsed() < time) {
         for (target, tally) in TARGETS.iter().zip(&mut tallies) {
             tally.count((target.call)(&mut random));
         }
