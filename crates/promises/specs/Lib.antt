@@ -5,4 +5,5 @@ pub mod Groups
 pub mod Verdicts
 pub mod Rpc
 pub mod Rotation
+pub mod Probes
 pub mod Examples
