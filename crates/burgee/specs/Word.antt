@@ -1,4 +1,5 @@
--- The answer word: one 64-bit number for each answer.
+-- The answer word: one 64-bit number for each answer. The words of verdicts stand beside the verdicts: `pathWord` and `treeWord` in verdict_text, `rpcWord`
+-- in rpc and `rpcProbeWord` in probe; the policy check's `policyWord` in policy_text.
 use Prim.Native.Nat.{ℕ, _+_, _*_, _%_, _^_}
 use Rattle.path_text.specs.declared.Filled.{Filled}
 use Rattle.path_text.specs.declared.Filled.the-variants as filled
@@ -20,7 +21,7 @@ unfoldable pub filledWord : Filled → ℕ
 filledWord (filled.Length n) = upper n
 filledWord (filled.Refused number) = refusalWord number 0
 
--- a table check
+-- a table check, and each call on the record
 unfoldable pub checkedWord : Checked → ℕ
 checkedWord checked.Accepted = 0
 checkedWord (checked.Refused number line) = refusalWord number line

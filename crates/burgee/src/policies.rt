@@ -1,13 +1,13 @@
 // The C boundary of RPC policies.
 ghost use mathlib.Core.Path.{_≡_};
 ghost use Rattle.policy.specs.Policy.{judgement};
-ghost use Rattle.policy_text.specs.Answer.{checkOf, wordOf};
+ghost use Rattle.policy_text.specs.Answer.{checkOf, policyWord};
 ghost use Rattle.rpc.specs.Verdict.{rpcWord};
 ghost use Rattle.rpc.specs.Call.{rpcVerdict};
 use policy_text::check::Check;
 
 fn of_check(c: Check) -> u64
-    ensures { λ r. ⌜ r ≡ wordOf c ⌝ }
+    ensures { λ r. ⌜ r ≡ policyWord c ⌝ }
 {
     match c {
         Check::Accepted => 0,
@@ -18,7 +18,7 @@ fn of_check(c: Check) -> u64
 // A policy: accepted or refused.
 #[no_mangle]
 pub extern "C" fn burgee_policy_check(policy: &[u8]) -> u64
-    ensures { λ r. ⌜ r ≡ wordOf (checkOf (judgement (now (policy .entry)))) ⌝ }
+    ensures { λ r. ⌜ r ≡ policyWord (checkOf (judgement (now (policy .entry)))) ⌝ }
 {
     of_check(policy_text::check::check_policy(policy))
 }

@@ -1,4 +1,4 @@
-// The C boundary of the probes: a record's five numbers, the store, and a request.
+// The C boundary of the probes, which judge a request on what is in force: a record's five numbers, the store, and a request.
 ghost use mathlib.Core.Path.{_≡_};
 ghost use Rattle.verdict_text.specs.Calls.{pathWord, treeWord};
 ghost use Rattle.probe.specs.Probe.{probePath, probeTree};

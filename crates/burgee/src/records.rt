@@ -25,6 +25,7 @@ fn of_stepped(s: Stepped) -> Answered
     }
 }
 
+// The steps, on a record r and a store of n bytes.
 pub fn start_step(r: Record, n: usize) -> Answered
     ensures { λ a. ⌜ a ≡ answered (start r n) ⌝ }
 {

@@ -1,4 +1,4 @@
-// Answers as words.
+// Answers as words: bits 0 to 7 the refusal number, and from bit 8 on the line, the length, or the count and, from bit 16 on, the first group + 1.
 ghost use mathlib.Core.Path.{_≡_};
 ghost use Rattle.burgee.specs.Word.{refusalWord, filledWord, checkedWord, countedWord};
 use path_text::Filled;

@@ -1,9 +1,9 @@
--- The recogniser says yes exactly where the parser answers, so exactly to the texts of RFC 8259.
+-- The recogniser says yes exactly where the parser answers.
 use mathlib.Core.Path.{_≡_, refl, sym, ap, _∙_, subst}
 use mathlib.Core.Bool.{true, false}
 use mathlib.Core.List.{List, [], _∷_}
 use mathlib.Core.Option.{Option, none, some}
-use Prim.Native.Nat.{ℕ, _-_, _≤_}
+use Prim.Native.Nat.{ℕ, _≤_}
 use native.Mathlib.Omega.{arith}
 use lib.ListN.{length, drop}
 use lib.Dec.{eqb}
@@ -13,11 +13,10 @@ use Rattle.json.specs.declared.scan.Next.the-variants.{At, Bad}
 use Rattle.json.specs.Scan.{whiteAt}
 use Rattle.json.specs.Value.{valueAt, atEnd, isJson}
 use Rattle.rfc8259.specs.Json.{Json}
-use Rattle.rfc8259.specs.Grammar.{white, Text}
+use Rattle.rfc8259.specs.Grammar.{white}
 use Rattle.rfc8259.specs.Parser.{_>>=_, skip, readValue, atEnd as atLast, parse}
 use Rattle.text.proofs.Tests.{clash}
 use Rattle.rfc8259.proofs.Basics.{binds, binds-none}
-use Rattle.rfc8259.proofs.Promises.{parse-sound, parse-complete}
 use Rattle.json.specs.Meaning.{Same, answered}
 use Rattle.json.proofs.Places.{inside, outside, ws-drop, ws-within}
 use Rattle.json.proofs.Values.{value-same}
@@ -43,18 +42,8 @@ recognises s =
     whole s (valueAt 16 s (whiteAt s 0)) (readValue 16 (skip white s))
     (subst (λ (y : List ℕ). Same (skip white) s (valueAt 16 s (whiteAt s 0)) (readValue 16 y)) (ws-drop s 0 (omega arith)) (value-same s (string-same s) (scalar-same s) 16 (whiteAt s 0) (ws-within s 0 (omega arith))))
 
+-- what was answered
 pub there : {A : Type 0} (o : Option A) → answered o ≡ true → (a : A) × (o ≡ some a)
 unfolding answered
 there none e = clash e refl
 there (some a) e = (a, refl)
-
-answered-some : {A : Type 0} {o : Option A} {a : A} → o ≡ some a → answered o ≡ true
-unfolding answered
-answered-some e = rw e
-
--- a yes is for a JSON text, and every JSON text gets one
-pub yes-is-json : (s : List ℕ) → isJson s ≡ true → (j : Json) × Text s j
-yes-is-json s e = let a = there (parse s) (sym (recognises s) ∙ e) in (a .0, parse-sound s (a .0) (a .1))
-
-pub json-is-yes : {s : List ℕ} {j : Json} → Text s j → isJson s ≡ true
-json-is-yes {s} m = recognises s ∙ answered-some (parse-complete m)

@@ -1,3 +1,3 @@
-pub mod Tree
 pub mod Names
+pub mod Tree
 pub mod Walk

@@ -1,3 +1,3 @@
 pub mod Kept
-pub mod Words
+pub mod Labels
 pub mod Faults

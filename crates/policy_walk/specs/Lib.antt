@@ -1,3 +1,3 @@
-pub mod Walk
+pub mod Labels
 pub mod Kept
-pub mod Words
+pub mod Walk

@@ -1,4 +1,4 @@
--- What `find_source` answers: where the text in force lies in the store.
+-- What the programs answer step by step: where the text in force lies in the store.
 use Prim.Native.Nat.{ℕ, _+_}
 use Rattle.rotation.specs.State.{slotStart}
 use Rattle.rotation.specs.declared.Record.{Record}
@@ -8,6 +8,7 @@ use Rattle.probe.specs.Probe.{probed}
 use Rattle.probe.specs.declared.force.Source.{Source}
 use Rattle.probe.specs.declared.force.Source.the-variants.{Refused, Factory, Part}
 
+-- the part of the store that holds it
 unfoldable pub placed : InForce → Source
 placed (force.Text slot len) = Part (slotStart slot) (slotStart slot + len)
 placed force.Factory = Factory

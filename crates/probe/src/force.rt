@@ -4,6 +4,7 @@ ghost use Rattle.probe.specs.Source.{sourceOf};
 use rotation::InForce;
 use rotation::Record;
 
+// The record's refusal; no text; or the part of the store that holds the text in force.
 pub enum Source {
     Refused(u8),
     Factory,

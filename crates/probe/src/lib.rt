@@ -28,7 +28,7 @@ fn factory(user: &[u8], mode: u32, origin: &[u8], path: &[u8], whole: bool) -> V
     verdicts::loaded::call(&f, &starts, &holders, 0, 0, user, mode, origin, path, whole)
 }
 
-// By the table that stands in the store from `start` to `end`, whatever the answer.
+// By the table text that stands in the store from `start` to `end`.
 fn judge(
     store: &[u8],
     start: usize,
@@ -45,7 +45,7 @@ fn judge(
     verdicts::verdict(&store[start..end], user, mode, origin, path, whole)
 }
 
-// Either probe.
+// Either probe: the path probe, or the tree probe where `whole`.
 fn probe(
     r: Record,
     store: &[u8],

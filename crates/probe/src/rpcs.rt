@@ -6,12 +6,14 @@ use crate::force::Source;
 use rotation::Record;
 use rpc::verdict::Verdict;
 
+// The answer of an RPC probe.
 pub enum RpcAnswer {
     // Without a text: everything is permitted, and no rule named.
     PermitAll,
     Judged(Verdict),
 }
 
+// The answer word.
 pub fn of_rpc(a: RpcAnswer) -> u64
     ensures { λ w. ⌜ w ≡ rpcProbeWord a ⌝ }
 {

@@ -1,7 +1,8 @@
 pub mod AnyBytes
-pub mod Examples
-pub mod Groups
 pub mod PathReturn
-pub mod Rotation
-pub mod Rpc
+pub mod Groups
 pub mod Verdicts
+pub mod Rpc
+pub mod Rotation
+pub mod Probes
+pub mod Examples

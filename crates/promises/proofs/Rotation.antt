@@ -4,7 +4,6 @@ use mathlib.Core.Bool.{Bool, true, false}
 use mathlib.Core.List.{List, [], _∷_}
 use mathlib.Core.Option.{Option, none, some}
 use Prim.Native.Nat.{ℕ}
-use native.Mathlib.Omega.{arith}
 use lib.ListN.{length}
 use Rattle.text.specs.Test.{if_then_else_}
 use Rattle.text.specs.String.{Str}
@@ -19,7 +18,7 @@ use Rattle.rotation.specs.Machine.{Call, Start, Upload, Finalize, Close, Machin
 use Rattle.rotation.specs.declared.Record.{Record}
 use Rattle.rotation.proofs.Follows.{stepped-answer, follows, same-end, same-force}
 use Rattle.upload.specs.Offered.{offeredCheck}
-use Rattle.upload.proofs.Offered.{offered-short}
+use Rattle.upload.proofs.Offered.{never, offered-short}
 use Rattle.promises.specs.Rotation as promise
 use Rattle.promises.specs.Rotation.{StepPromise, RotationPromise, Trying, live, force}
 
@@ -102,9 +101,6 @@ unfolding machineForce machineNext lacking if_then_else_
 uploaded-force text m = refl
 
 -- finalize is refused without a candidate
-never : {X : Type 0} (n l : ℕ) → Refused n l ≡ Accepted → X
-never n l e = let z : _≡_ {A = ℕ} 0 1 = cc in absurd (omega arith)
-
 with-candidate : (r : Bool) (o : Option Str) (x : Option Str) → unless (13 when r else 14 when lacking o else clear) 0 Accepted ≡ Accepted → o ≡ (if lacking o then x else o)
 unfolding unless lacking if_then_else_
 with-candidate true o x e = never 13 0 e

@@ -13,7 +13,7 @@ use Rattle.table.specs.Text.{check}
 use Rattle.table.specs.Group.{groupCount}
 use Rattle.verdict_text.specs.Calls.{pathVerdict, treeVerdict, pathWord, treeWord}
 use Rattle.policy.specs.Policy.{judgement}
-use Rattle.policy_text.specs.Answer.{checkOf, wordOf}
+use Rattle.policy_text.specs.Answer.{checkOf, policyWord}
 use Rattle.rpc.specs.Call.{rpcVerdict}
 use Rattle.rpc.specs.Verdict.{rpcWord}
 use Rattle.rotation.specs.Calls.{start, upload, uploadStore, finalize, close}
@@ -49,7 +49,7 @@ word (TableCheck table) = checkedWord (check table)
 word (GroupCount table user) = countedWord (groupCount table user)
 word (PathVerdict table user mode origin path) = pathWord (pathVerdict table user mode origin path)
 word (TreeVerdict table user mode origin path) = treeWord (treeVerdict table user mode origin path)
-word (PolicyCheck policy) = wordOf (checkOf (judgement policy))
+word (PolicyCheck policy) = policyWord (checkOf (judgement policy))
 word (RpcVerdict policy identity path headers) = rpcWord (rpcVerdict policy identity path headers)
 word (Start rec store) = checkedWord (start rec (length store) .answer)
 word (Upload rec store text) = checkedWord (upload offeredCheck rec (length store) text .answer)
@@ -59,15 +59,16 @@ word (ProbePath rec store user mode origin path) = pathWord (probePath rec store
 word (ProbeTree rec store user mode origin path) = treeWord (probeTree rec store user mode origin path)
 word (ProbeRpc rec store identity path headers) = rpcProbeWord (probeRpc rec store identity path headers)
 
--- what is lent to be stored to: a record, and bytes
+-- what is lent: the record, if there is one, and the bytes of the buffer or the store
 pub record Lending : Type 0 where
   pub state : Option Record
   pub bytes : Str
 
--- nothing is
+-- nothing but what is only read
 abbrev nothing : Lending
 nothing = record { state = none; bytes = [] }
 
+-- as it is lent
 unfoldable pub before : PublicCall → Lending
 before (PathRead text out) = record { state = none; bytes = out }
 before (PathWrite bytes out) = record { state = none; bytes = out }
@@ -85,6 +86,7 @@ before (ProbePath rec store user mode origin path) = nothing
 before (ProbeTree rec store user mode origin path) = nothing
 before (ProbeRpc rec store identity path headers) = nothing
 
+-- as the call leaves it
 unfoldable pub after : PublicCall → Lending
 after (PathRead text out) = record { state = none; bytes = lent out (bytesFor text) }
 after (PathWrite bytes out) = record { state = none; bytes = lent out (textFor bytes) }
@@ -106,5 +108,6 @@ after (ProbeRpc rec store identity path headers) = nothing
 abbrev pub Refuses : PublicCall → Type 0
 Refuses c = word c % 2 ^ 8 ≡ 0 → ⊥
 
+-- the demand
 abbrev pub AnyBytes : Type 0
 AnyBytes = (c : PublicCall) → Refuses c → after c ≡ before c

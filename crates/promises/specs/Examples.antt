@@ -51,6 +51,7 @@ elem n ks = record { name = bytes n; keys = ks }
 nq : String → String → Path
 nq n p = elem "network-instances" [] ∷ elem "network-instance" (key "name" n ∷ []) ∷ elem "protocols" [] ∷ elem "protocol" (key "identifier" p ∷ []) ∷ []
 
+-- the action, the kind of subject, the subject, the id and the path
 rule : Bool → Bool → String → String → Path → Rule
 rule permit byGroup subject id path =
     record { permit = permit; mode = 1; byGroup = byGroup; subject = bytes subject; id = bytes id; origin = []; path = path }
@@ -94,6 +95,7 @@ line s = bytes s ++ (10 ∷ [])
 small : Str
 small = line "010276310000000000000001" ++ line "020167" ++ line "0301670175" ++ line "04010101016701720001016101016b012a"
 
+-- user, mode and path text
 pathOf : String → ℕ → String → Answer
 pathOf user mode text = verdict (pathVerdict small (bytes user) mode [] (bytes text))
 
@@ -102,10 +104,11 @@ treeOf user mode text = tree (treeVerdict small (bytes user) mode [] (bytes text
 
 -- ---- the table
 
+infix 5 _⇒_
 _⇒_ : Answer → Answer → Example
 given ⇒ expected = record { given = given; expected = expected }
 
-infix 5 _⇒_
+-- proofs/Examples has the one statement: what is given is what is expected, from the first to the last
 unfoldable pub examples : List Example
 unfolding key elem nq rule user group permits denies member stevie line small pathOf treeOf _⇒_
 examples =

@@ -22,7 +22,8 @@ module _ (x user : Str) (ok : check x ≡ Accepted) (fine : badUser user ≡ fal
   listing = lists (t .members) user
 
   pub record GroupPromise : Type 0 where
-    -- the number of groups that list him, and the first of them
+    -- where a group lists him: the number of groups that do, and the number of the first
     pub counted : any listing (t .groups) ≡ true
         → (g : ℕ) × (groupCount x user ≡ Count (length (only listing (t .groups))) (record { 0 = g })) × First listing g (t .groups)
+    -- where none does
     pub none : any listing (t .groups) ≡ false → groupCount x user ≡ NoGroup

@@ -1,8 +1,9 @@
 pub mod AnyBytes
-pub mod Examples
+pub mod PathReturn
 pub mod First
 pub mod Groups
-pub mod PathReturn
-pub mod Rotation
-pub mod Rpc
 pub mod Verdicts
+pub mod Rpc
+pub mod Rotation
+pub mod Probes
+pub mod Examples

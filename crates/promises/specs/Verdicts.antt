@@ -3,7 +3,7 @@
 -- none of it (by id) depends on the order of group, member and rule lines."
 -- The definitions named here are those of the contracts of `burgee_path_verdict` and `burgee_tree_verdict`: a table text is accepted where `check`
 -- says so, `tableOf` is the table that it holds, a request is accepted where `requestRefusal` gives no number, and `request` is what it asks.
--- What is not promised: rule numbers and line numbers change with the order of lines; only ids do not.
+-- (01 is the customer's paper with the rules.) What is not promised: rule numbers and line numbers change with the order of lines; only ids do not.
 use Prim.Native.Nat.{ℕ}
 use mathlib.Core.Path.{_≡_}
 use mathlib.Core.Option.{Option}

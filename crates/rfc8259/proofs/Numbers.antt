@@ -7,8 +7,7 @@ use Prim.Native.Nat.{ℕ}
 use native.Mathlib.Omega.{arith}
 use borrow.Author.Tests.{ne-eqb}
 use Rattle.text.specs.Test.{_or_}
-use Rattle.rfc8259.specs.Abnf.{is}
-use Rattle.rfc8259.specs.Abnf.{one, _then_, seq, first, second, Opt, absent, present}
+use Rattle.rfc8259.specs.Abnf.{is, one, _then_, seq, first, second, Opt, absent, present}
 use Rattle.rfc8259.specs.Grammar.{DIGIT, digit1-9, e-or-E, minus-or-plus, Digits, Int, Frac, Exp, Number}
 use Rattle.rfc8259.specs.Parser.{readDigits, readInt, readFrac, readExp, readNumber}
 use Rattle.text.proofs.Tests.{by, or-false-l, or-false-r}

@@ -8,8 +8,7 @@ use native.Mathlib.Omega.{arith}
 use borrow.Author.Tests.{eqb-true, ne-eqb}
 use Rattle.text.specs.Test.{_or_}
 use Rattle.text.specs.String.{bytes}
-use Rattle.rfc8259.specs.Abnf.{is}
-use Rattle.rfc8259.specs.Abnf.{Rule, one, seq, first, second, absent, present, done, more}
+use Rattle.rfc8259.specs.Abnf.{is, Rule, one, seq, first, second, absent, present, done, more}
 use Rattle.rfc8259.specs.Json.{Json, jnull, jtrue, jfalse, jnumber, jstring}
 use Rattle.rfc8259.specs.Grammar.{white, Ws, Sign, sign, DIGIT, digit1-9, e-or-E, Number, Quoted, quoted, Scalar, false-text, null-text, true-text, number, string}
 use Rattle.rfc8259.specs.Parser.{Reader, _>>=_, skip, plainly, readChars, readWord, readNumber, spaced, readScalar}

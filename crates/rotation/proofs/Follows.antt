@@ -19,7 +19,7 @@ use Rattle.table.specs.declared.Checked.{Checked}
 use Rattle.table.specs.declared.Checked.the-variants.{Accepted, Refused}
 use Rattle.rotation.specs.State.{noLength, given, off, on, shortStore, badKind, badSlot, badLength, badRecord, recordRefusal, slotStart, candidateSlot, textIn, inForce, atRest}
 use Rattle.rotation.specs.Calls.{startRefusal, offRefusal, noCandidate, finalizeRefusal, started, uploaded, finalized, closed, stepped, start, uploadAnswer, upload, storedBy, uploadStore, finalize, close}
-use Rattle.rotation.specs.Machine.{Call, Start, Upload, Finalize, Close, Machine, lacking, machineRefusal, machineNext, machineForce, Lent, heldText, machineOf, forceText, Whole, offered, machineAnswer, machineStep, answers, leaves, Follows, trace, end, machineTrace, machineEnd}
+use Rattle.rotation.specs.Machine.{Call, Start, Upload, Finalize, Close, Machine, lacking, machineRefusal, machineNext, machineForce, Lent, heldText, machineOf, forceText, Whole, offered, machineAnswer, machineStep, answers, leaves, Follows, end, machineEnd}
 use Rattle.rotation.specs.declared.Record.{Record}
 use Rattle.rotation.proofs.Slots.{put-own, put-first, put-second}
 
@@ -339,12 +339,7 @@ module _ (check : ℕ → Str → Checked) (short : (kind : ℕ) (text : Str) �
   follows Finalize l w = follows-finalize check short l w
   follows Close l w = follows-close check short l w
 
-  -- and so over any trace
-  pub same-trace : (cs : List Call) (l : Lent) → Whole l → trace check cs l ≡ machineTrace check cs (machineOf l)
-  unfolding trace machineTrace
-  same-trace [] l w = refl
-  same-trace (c ∷ cs) l w = let f = follows c l w in ap₂ _∷_ (f .same-answer) (same-trace cs (leaves check c l) (f .whole) ∙ ap (machineTrace check cs) (f .same-next))
-
+  -- and so after any number of calls
   pub same-end : (cs : List Call) (l : Lent) → Whole l → (machineOf (end check cs l) ≡ machineEnd check cs (machineOf l)) × Whole (end check cs l)
   unfolding end machineEnd
   same-end [] l w = (refl, w)

@@ -4,7 +4,7 @@ use mathlib.Core.Bool.{Bool, true, false, not, _&&_, _||_}
 use Prim.Native.Nat.{ℕ, _≤_, _<_}
 use borrow.Author.Tests.{lt-ltb, le-ltb}
 use lib.Dec.{eqb, ltb}
-use Rattle.text.specs.Test.{_and_, _or_, if_then_else_}
+use Rattle.text.specs.Test.{_and_, if_then_else_}
 use Rattle.text.proofs.Tests.{or-is}
 use Rattle.rotation.specs.State.{given, off, shortStore, badKind, badSlot, badLength, badRecord, recordRefusal, candidateSlot, inForce}
 use Rattle.rotation.specs.declared.Record.{Record}

@@ -57,7 +57,7 @@ closed r = atRest r (r .«live_slot») (r .«live_len»)
 
 -- ---- the calls
 
--- a refusal leaves the record as it was
+-- what a call on the record r answers and leaves: `next` where it is accepted, and r where it is refused
 unfoldable pub stepped : Checked → Record → Record → Stepped
 stepped Accepted r next = record { next = next; answer = Accepted }
 stepped (Refused n l) r next = record { next = r; answer = Refused n l }
@@ -71,7 +71,7 @@ finalize r n = stepped (unless (finalizeRefusal r n) 0 Accepted) r (finalized r)
 unfoldable pub close : Record → ℕ → Stepped
 close r n = stepped (unless (offRefusal r n) 0 Accepted) r (closed r)
 
--- `check` judges a text of each kind; "then the text offered"
+-- "then the text offered": `check` judges a text, given the record's kind
 module _ (check : ℕ → Str → Checked) where
   unfoldable pub uploadAnswer : Record → ℕ → Str → Checked
   uploadAnswer r n text = unless (offRefusal r n) 0 (check (r .kind) text)

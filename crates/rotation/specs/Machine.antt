@@ -25,6 +25,7 @@ pub data Call : Type 0 where
 
 -- ---- the machine
 
+-- its texts are whole; `none` is no text
 pub record Machine : Type 0 where
   pub kind : ℕ
   pub live : Option Str
@@ -35,6 +36,7 @@ unfoldable pub lacking : Option Str → Bool
 lacking none = true
 lacking (some text) = false
 
+-- 12, 13 and 14
 unfoldable pub machineRefusal : Call → Machine → ℕ
 machineRefusal Start m = 12 when m .rotating else clear
 machineRefusal (Upload text) m = 13 when not (m .rotating) else clear
@@ -48,16 +50,18 @@ machineNext (Upload text) m = record { kind = m .kind; live = m .live; candidate
 machineNext Finalize m = record { kind = m .kind; live = m .candidate; candidate = none; rotating = false }
 machineNext Close m = record { kind = m .kind; live = m .live; candidate = none; rotating = false }
 
+-- "the candidate, else the live text", else none
 unfoldable pub machineForce : Machine → Option Str
 machineForce m = if lacking (m .candidate) then m .live else m .candidate
 
 -- ---- record and store
 
+-- what is lent to a call
 pub record Lent : Type 0 where
   pub state : Record
   pub store : Str
 
--- the text of a slot, if its length is one
+-- the text of a slot; none where there is no length
 unfoldable pub heldText : Str → ℕ → ℕ → Option Str
 heldText store slot len = if given len then some (textIn store slot len) else none
 
@@ -70,6 +74,7 @@ machineOf l = record {
   rotating = on (l .state);
 }
 
+-- the text in force; none for factory
 unfoldable pub forceText : Str → InForce → Option Str
 forceText store (Text slot len) = some (textIn store slot len)
 forceText store Factory = none
@@ -79,8 +84,9 @@ pub record Whole (l : Lent) : Type 0 where
   pub long : shortStore (length (l .store)) ≡ false
   pub good : badRecord (l .state) ≡ false
 
--- `check` judges a text of each kind
+-- `check` judges a text, given the record's kind
 module _ (check : ℕ → Str → Checked) where
+  -- the judgement of what a call offers: only an upload offers a text
   unfoldable pub offered : Call → ℕ → Checked
   offered Start kind = Accepted
   offered (Upload text) kind = check kind text
@@ -112,18 +118,10 @@ module _ (check : ℕ → Str → Checked) where
     pub same-next : machineOf (leaves c l) ≡ machineStep c (machineOf l)
     pub whole : Whole (leaves c l)
 
-  -- a trace of calls
-  unfoldable pub trace : List Call → Lent → List Checked
-  trace [] l = []
-  trace (c ∷ cs) l = answers c l ∷ trace cs (leaves c l)
-
+  -- after any number of calls
   unfoldable pub end : List Call → Lent → Lent
   end [] l = l
   end (c ∷ cs) l = end cs (leaves c l)
-
-  unfoldable pub machineTrace : List Call → Machine → List Checked
-  machineTrace [] m = []
-  machineTrace (c ∷ cs) m = machineAnswer c m ∷ machineTrace cs (machineStep c m)
 
   unfoldable pub machineEnd : List Call → Machine → Machine
   machineEnd [] m = m

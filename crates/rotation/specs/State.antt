@@ -15,10 +15,11 @@ use Rattle.rotation.specs.declared.InForce.the-variants.{Text, Factory}
 abbrev pub noLength : ℕ
 noLength = 4294967295
 
--- 0 is a length
+-- there is a length; 0 is one
 unfoldable pub given : ℕ → Bool
 given len = not (eqb len noLength)
 
+-- no rotation is on
 unfoldable pub off : Record → Bool
 off r = eqb (r .rotating) 0
 

@@ -7,7 +7,7 @@ use crate::Record;
 fn is_given(len: u32) -> bool
     ensures { λ b. ⌜ b ≡ given len ⌝ }
 {
-    !(len == 4294967295)
+    !(len == crate::NO_LENGTH)
 }
 
 fn is_bad_length(len: u32) -> bool
@@ -16,6 +16,7 @@ fn is_bad_length(len: u32) -> bool
     is_given(len) & (32768 < len)
 }
 
+// 15.
 fn is_bad(r: Record) -> bool
     ensures { λ b. ⌜ b ≡ badRecord r ⌝ }
 {
@@ -59,7 +60,7 @@ pub fn at_rest(r: Record, slot: u32, len: u32) -> Record
         live_slot: slot,
         live_len: len,
         rotating: 0,
-        candidate_len: 4294967295,
+        candidate_len: crate::NO_LENGTH,
     }
 }
 

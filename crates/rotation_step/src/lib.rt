@@ -1,4 +1,4 @@
-// Start, finalize and close on a record and a store of n bytes, and what an upload makes of a record.
+// Start, finalize and close as steps by value, on a record and a store of n bytes; and what an upload makes of a record.
 ghost use mathlib.Core.Path.{_≡_};
 ghost use Rattle.table.specs.Text.{unless};
 ghost use Rattle.table.specs.declared.Checked.the-variants.{Accepted};
@@ -7,7 +7,7 @@ use rotation::Record;
 use rotation::Stepped;
 use table::Checked;
 
-// A refusal keeps the record.
+// The step that a call takes: to `next` where it is accepted; a refusal keeps the record r.
 pub fn settle(c: Checked, r: Record, next: Record) -> Stepped
     ensures { λ s. ⌜ s ≡ stepped c r next ⌝ }
 {
@@ -26,6 +26,7 @@ pub fn settle(c: Checked, r: Record, next: Record) -> Stepped
     }
 }
 
+// A refusal number as an answer.
 fn checked(number: u8) -> Checked
     ensures { λ c. ⌜ c ≡ unless number 0 Accepted ⌝ }
 {
@@ -38,6 +39,7 @@ fn checked(number: u8) -> Checked
     }
 }
 
+// 11, 15 or 12; 255 for none.
 fn start_refusal(r: Record, n: usize) -> u8
     ensures { λ k. ⌜ k ≡ startRefusal r n ⌝ }
 {
@@ -47,7 +49,7 @@ fn start_refusal(r: Record, n: usize) -> u8
     rotation::state::refusal(r, n, 12)
 }
 
-// Of upload and close.
+// Of upload and close: 11, 15 or 13.
 pub fn off_refusal(r: Record, n: usize) -> u8
     ensures { λ k. ⌜ k ≡ offRefusal r n ⌝ }
 {
@@ -57,19 +59,20 @@ pub fn off_refusal(r: Record, n: usize) -> u8
     rotation::state::refusal(r, n, 255)
 }
 
+// 11, 15, 13 or 14.
 fn finalize_refusal(r: Record, n: usize) -> u8
     ensures { λ k. ⌜ k ≡ finalizeRefusal r n ⌝ }
 {
     if r.rotating == 0 {
         return rotation::state::refusal(r, n, 13);
     }
-    if r.candidate_len == 4294967295 {
+    if r.candidate_len == rotation::NO_LENGTH {
         return rotation::state::refusal(r, n, 14);
     }
     rotation::state::refusal(r, n, 255)
 }
 
-// Of a probe for records of that kind.
+// Of a probe for records of that kind: 11, 15 or 16.
 pub fn probe_refusal(r: Record, n: usize, kind: u32) -> u8
     ensures { λ k. ⌜ k ≡ probeRefusal kind r n ⌝ }
 {
@@ -100,7 +103,7 @@ pub fn start(r: Record, n: usize) -> Stepped
         live_slot: r.live_slot,
         live_len: r.live_len,
         rotating: 1,
-        candidate_len: 4294967295,
+        candidate_len: rotation::NO_LENGTH,
     };
     settle(checked(start_refusal(r, n)), r, next)
 }

@@ -1,4 +1,4 @@
--- The answer as a theorem about lists: a deny rule matches, else an allow rule, else default (gRFC A43).
+-- The answer as a theorem about lists: a deny rule matches, else an allow rule, else default (gRPC's proposal A43, which is quoted).
 use mathlib.Core.Path.{_≡_, refl, ap, _∙_}
 use mathlib.Core.Bool.{Bool, true, false, not}
 use mathlib.Core.List.{List, [], _∷_}

@@ -12,6 +12,7 @@ use Rattle.rpc.specs.Verdict.{verdict}
 use Rattle.rpc.specs.declared.verdict.Verdict.{Verdict}
 use Rattle.rpc.specs.declared.verdict.Verdict.the-variants.{Refused, Default}
 
+-- the lines that were read; none where they are ill-formed
 unfoldable pub written : Option (List Line) → List Line
 written none = []
 written (some l) = l
@@ -20,6 +21,7 @@ written (some l) = l
 unfoldable pub request : Str → Str → Str → Request
 request identity path headers = record { identity = identity; path = path; headers = written (headersOf headers) }
 
+-- (an accepted text stands for a policy, so the first case does not arise)
 unfoldable pub verdictBy : Option Policy → Request → Verdict
 verdictBy none r = Default
 verdictBy (some p) r = verdict p r

@@ -7,6 +7,7 @@ use Rattle.text.specs.Test.{if_then_else_}
 use Rattle.text.specs.String.{Str, same}
 use Rattle.policy.specs.Text.{empty, begins, ends, starFirst, starLast}
 
+-- the pattern p matches the value v
 unfoldable pub matches : Str → Str → Bool
 matches p v =
     if starFirst p then (if eqb (length p) 1 then not (empty v) else ends (drop 1 p) v)

@@ -11,6 +11,7 @@ use Rattle.text.specs.String.{Str, same}
 use Rattle.text.specs.Refusal.{_when_else_, clear}
 use Rattle.policy.specs.Text.{empty, isHeaderByte}
 
+-- a header line
 pub record Line : Type 0 where
   pub name : Str
   pub value : Str
@@ -20,6 +21,7 @@ pub record Request : Type 0 where
   pub path : Str
   pub headers : List Line
 
+-- c in front of the first part
 unfoldable pub longer : ℕ → Option (Str × Str) → Option (Str × Str)
 longer c none = none
 longer c (some r) = some (c ∷ r .0, r .1)
@@ -34,16 +36,18 @@ unfoldable pub lineOf : Option (Str × Str) → Option Line
 lineOf none = none
 lineOf (some r) = if not (empty (r .0)) and all isHeaderByte (r .0) and all isPrint (r .1) then some (record { name = r .0; value = r .1 }) else none
 
+-- a first one and the others, if all are there
 unfoldable pub cons : {A : Type 0} → Option A → Option (List A) → Option (List A)
 cons none l = none
 cons (some a) none = none
 cons (some a) (some l) = some (a ∷ l)
 
+-- the line before an LF, which a colon (58) cuts, and then the rest
 unfoldable pub lineThen : (Str → Option (List Line)) → Option (Str × Str) → Option (List Line)
 lineThen rest none = none
 lineThen rest (some r) = cons (lineOf (cutAt 58 (r .0))) (rest (r .1))
 
--- the lines of a text, at most n of them: each ends with LF
+-- the lines of a text, at most n of them: each ends with LF (10)
 unfoldable pub linesOf : ℕ → Str → Option (List Line)
 linesOf zero s = if empty s then some [] else none
 linesOf (suc n) s = if empty s then some [] else lineThen (linesOf n) (cutAt 10 s)
@@ -52,6 +56,7 @@ linesOf (suc n) s = if empty s then some [] else lineThen (linesOf n) (cutAt 10 
 abbrev pub headersOf : Str → Option (List Line)
 headersOf s = linesOf (length s) s
 
+-- whether something was read
 unfoldable pub readable : {A : Type 0} → Option A → Bool
 readable none = false
 readable (some a) = true

@@ -16,6 +16,7 @@ unfoldable pub listed : List Str → Str → Bool
 listed [] v = true
 listed (p ∷ ps) v = any (λ (q : Str). matches q v) (p ∷ ps)
 
+-- "Entries of a list are alternatives"; `values` is never empty
 unfoldable pub headerMatches : Request → Header → Bool
 headerMatches r h = any (λ (p : Str). matches p (headerValue (h .key) (r .headers))) (h .values)
 
@@ -28,10 +29,12 @@ unfoldable pub firstFrom : {A : Type 0} → ℕ → (A → Bool) → List A → 
 firstFrom k f [] = none
 firstFrom k f (x ∷ xs) = if f x then some k else firstFrom (suc k) f xs
 
+-- by the first allow rule that matches
 unfoldable pub allowed : Option ℕ → Verdict
 allowed none = Default
 allowed (some n) = Permitted n
 
+-- by the first deny rule that matches; else by the first allow rule
 unfoldable pub decided : Option ℕ → Option ℕ → Verdict
 decided none allow = allowed allow
 decided (some n) allow = Denied n
@@ -39,6 +42,7 @@ decided (some n) allow = Denied n
 unfoldable pub verdict : Policy → Request → Verdict
 verdict p r = decided (firstFrom 0 (ruleMatches r) (p .deny)) (firstFrom 0 (ruleMatches r) (p .allow))
 
+-- the action: "default deny"
 unfoldable pub permits : Verdict → Bool
 permits (Refused n) = false
 permits (Denied n) = false

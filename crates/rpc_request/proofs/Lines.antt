@@ -8,7 +8,7 @@ use native.Mathlib.Numerals.{add-one}
 use native.Mathlib.Omega.{arith}
 use lib.Dec.{ltb}
 use lib.ListN.{length, take, drop, getD, length-drop, drop-of-length-le}
-use lib.Seq.{drop-cons, take-all, take-add, drop-at, length-take-le}
+use lib.Seq.{drop-cons, take-all, length-take-le}
 use borrow.Author.Tests.{eq-eqb, ne-eqb, lt-ltb, le-ltb, ltb-true, ltb-false, not-false}
 use Rattle.text.specs.Test.{_and_, _or_, if_then_else_, all}
 use Rattle.text.specs.Byte.{isPrint}
@@ -27,11 +27,6 @@ here-on h i l = rw add-one (drop-cons h i 0 l)
 
 part-cons : (h : Str) (i e : ℕ) → i < length h → i < e → part h i e ≡ getD h i 0 ∷ part h (i + 1) e
 part-cons h i e l k = let q : e - i ≡ suc (e - (i + 1)) = omega arith in rw (q, here-on h i l)
-
-drop-take : (v n : ℕ) (l : Str) → v ≤ n → v ≤ length l → drop v (take n l) ≡ take (n - v) (drop v l)
-drop-take v n l h k =
-    let q : v + (n - v) ≡ n = omega arith in
-    ap (drop v) (ap (λ (x : ℕ). take x l) (sym q) ∙ take-add v (n - v) l) ∙ drop-at (take v l) _ v (length-take-le v l k)
 
 pub part-long : (h : Str) (i e : ℕ) → e ≤ length h → length (part h i e) ≡ e - i
 part-long h i e l = length-take-le (e - i) (drop i h) (omega (arith, length-drop i h))

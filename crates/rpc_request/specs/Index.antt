@@ -1,4 +1,5 @@
--- The header lines by bucket: a chain of lines for each, from the last to the first.
+-- What the programs answer step by step: the header lines by bucket, a chain of lines for each, from the last to the first. Any bucket would do: only
+-- that equal names share one is used.
 use mathlib.Core.Path.{_≡_}
 use mathlib.Core.Bool.{Bool}
 use mathlib.Core.List.{List, [], _∷_}
@@ -17,6 +18,7 @@ use Rattle.rpc_request.specs.Steps.{Cut}
 unfoldable pub bucketOf : Str → ℕ
 bucketOf s = (length s % 256 + 3 * getD s 0 0 + 5 * getD s (length s / 2) 0 + 7 * getD s (length s - 1) 0) % 256
 
+-- the name of a line has the bucket b
 unfoldable pub inBucket : ℕ → Line → Bool
 inBucket b x = eqb (bucketOf (x .name)) b
 
@@ -36,7 +38,8 @@ unfoldable pub onto : List Line → List Line → List Line
 onto [] r = r
 onto (x ∷ l) r = onto l (x ∷ r)
 
--- a chain for each bucket, from what `last` has for it
+-- A chain for each bucket, from what `last` has for it. A line has three bytes or more, so those that start at different positions below 8,192 have
+-- different places in `before`, 2,731 in all.
 pub record Indexed (h last before : Str) : Type 0 where
   pub back : List Line
   pub is : written (headersOf h) ≡ onto back []

@@ -1,4 +1,4 @@
--- What the programs over header lines say step by step.
+-- What the programs answer step by step: header lines by position, and the joined value of a header.
 use mathlib.Core.Path.{_≡_}
 use mathlib.Core.List.{List, [], _∷_, _++_}
 use mathlib.Core.Option.{Option, none, some}

@@ -20,12 +20,12 @@ pub fn byte_from(h: &[u8], at: usize, b: u8) -> usize
     i
 }
 
-// A line, without its LF.
+// Whether l is a line, without its LF.
 fn is_line(l: &[u8]) -> bool
     ensures { λ r. ⌜ r ≡ readable (lineOf (cutAt 58 (now (l .entry)))) ⌝ }
 {
     let n = l.len();
-    let c = byte_from(l, 0, 58);
+    let c = byte_from(l, 0, b':');
     if c == n {
         return false;
     }
@@ -39,13 +39,14 @@ fn is_line(l: &[u8]) -> bool
     text::string::all_print(&l[from..n])
 }
 
+// Whether h is lines, each with its LF.
 fn are_lines(h: &[u8]) -> bool
     ensures { λ r. ⌜ r ≡ readable (headersOf (now (h .entry))) ⌝ }
 {
     let n = h.len();
     let mut i = 0;
     while i < n {
-        let e = byte_from(h, i, 10);
+        let e = byte_from(h, i, b'\n');
         if e == n {
             return false;
         }
@@ -57,7 +58,7 @@ fn are_lines(h: &[u8]) -> bool
     true
 }
 
-// 41.
+// 41: header lines ill-formed or too long.
 pub fn is_bad_headers(h: &[u8]) -> bool
     ensures { λ r. ⌜ r ≡ badHeaders (now (h .entry)) ⌝ }
 {

@@ -28,7 +28,7 @@ fn line_bucket(l: &[u8]) -> usize
     requires { ⌜ readable (lineOf (cutAt 58 (now l))) ≡ true ⌝ }
     ensures { λ r. ⌜ (r < 256) × ((x : Line) → lineOf (cutAt 58 (now (l .entry))) ≡ some x → r ≡ bucketOf (x .name)) ⌝ }
 {
-    let c = crate::headers::byte_from(l, 0, 58);
+    let c = crate::headers::byte_from(l, 0, b':');
     bucket(&l[0..c])
 }
 
@@ -41,7 +41,7 @@ pub fn index_lines(h: &[u8], last: &mut [u16], before: &mut [u16])
     let n = h.len();
     let mut i = 0;
     while i < n {
-        let e = crate::headers::byte_from(h, i, 10);
+        let e = crate::headers::byte_from(h, i, b'\n');
         let b = line_bucket(&h[i..e]);
         before[i / 3] = last[b];
         last[b] = i as u16;
@@ -55,7 +55,7 @@ fn join_line(l: &[u8], key: &[u8], out: &mut [u8], at: usize) -> usize
     requires { ⌜ (readable (lineOf (cutAt 58 (now l))) ≡ true) × (length (now l) ≤ at) × (at ≤ length (now out)) ⌝ }
     ensures { λ r. ⌜ Wrote (now (out .entry)) r (lineValue (now (key .entry)) (now (l .entry))) (now (out .exit)) at × (at ≤ r + length (now (l .entry))) ⌝ }
 {
-    let c = crate::headers::byte_from(l, 0, 58);
+    let c = crate::headers::byte_from(l, 0, b':');
     if !text::string::is_same(&l[0..c], key) {
         return at;
     }
@@ -64,7 +64,7 @@ fn join_line(l: &[u8], key: &[u8], out: &mut [u8], at: usize) -> usize
     let start = at - (n - from);
     text::fill::copy(&l[from..n], out, start);
     let comma = start - 1;
-    out[comma] = 44;
+    out[comma] = b',';
     comma
 }
 
@@ -85,7 +85,7 @@ pub fn header_value(h: &[u8], last: &[u16], before: &[u16], key: &[u8], out: &mu
     let mut p = last[b] as usize;
     let mut at = end;
     while p < n {
-        let e = crate::headers::byte_from(h, p, 10);
+        let e = crate::headers::byte_from(h, p, b'\n');
         at = join_line(&h[p..e], key, out, at);
         p = before[p / 3] as usize;
     }

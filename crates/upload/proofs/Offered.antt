@@ -16,7 +16,6 @@ use Rattle.table.specs.declared.Checked.the-variants.{Accepted, Refused}
 use Rattle.policy.specs.Policy.{judgement}
 use Rattle.policy_text.specs.Answer.{checkOf}
 use Rattle.policy_text.specs.declared.check.Check.{Check}
-use Rattle.policy_text.specs.declared.check.Check.the-variants as policy
 use Rattle.rotation.specs.State.{shortStore, recordRefusal, slotStart, candidateSlot}
 use Rattle.rotation.specs.Calls.{offRefusal, uploaded, stepped, uploadAnswer, upload, storedBy, uploadStore}
 use Rattle.rotation.specs.declared.Record.{Record}
@@ -24,7 +23,7 @@ use Rattle.rotation.specs.declared.Stepped.{Stepped}
 use Rattle.rotation.proofs.Follows.{candidate-low}
 use Rattle.upload.specs.Offered.{ofPolicy, offeredCheck}
 
-never : {X : Type 0} (n l : ℕ) → Refused n l ≡ Accepted → X
+pub never : {X : Type 0} (n l : ℕ) → Refused n l ≡ Accepted → X
 never n l e = let z : _≡_ {A = ℕ} 0 1 = cc in absurd (omega arith)
 
 table-short : (text : Str) → check text ≡ Accepted → length text ≤ 32768

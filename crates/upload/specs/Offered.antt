@@ -16,5 +16,6 @@ unfoldable pub ofPolicy : Check → Checked
 ofPolicy policy.Accepted = checked.Accepted
 ofPolicy (policy.Refused n) = checked.Refused n 0
 
+-- a text offered to a record of that kind
 unfoldable pub offeredCheck : ℕ → Str → Checked
 offeredCheck kind text = if eqb kind 1 then ofPolicy (checkOf (judgement text)) else check text

@@ -11,6 +11,7 @@ use rotation::Record;
 use rotation::Stepped;
 use table::Checked;
 
+// A policy's refusal carries no line.
 fn of_policy(c: Check) -> Checked
     ensures { λ r. ⌜ r ≡ ofPolicy c ⌝ }
 {
@@ -23,7 +24,7 @@ fn of_policy(c: Check) -> Checked
     }
 }
 
-// A text offered for a record of that kind.
+// The check of a text offered to a record of that kind.
 fn check_offered(kind: u32, text: &[u8]) -> Checked
     ensures { λ r. ⌜ r ≡ offeredCheck kind (now (text .entry)) ⌝ }
 {
@@ -33,7 +34,7 @@ fn check_offered(kind: u32, text: &[u8]) -> Checked
     groups::check_table(text)
 }
 
-// For a store of n bytes.
+// What an upload to a store of n bytes answers: 11, 15 or 13, else the check of the text.
 fn answer(r: Record, n: usize, text: &[u8]) -> Checked
     ensures { λ c. ⌜ c ≡ uploadAnswer offeredCheck r n (now (text .entry)) ⌝ }
 {
