@@ -1,38 +1,62 @@
 -- One law for each way out of a walk over elements.
-use mathlib.Core.Path.{_≡_}
-use mathlib.Core.Bool.{true, false, not}
-use mathlib.Core.List.{List}
+use mathlib.Core.Path.{_≡_, refl, ap, _∙_}
+use mathlib.Core.Bool.{Bool, true, false, not}
+use mathlib.Core.List.{List, [], _∷_}
 use Prim.Native.Nat.{ℕ, _+_, _-_, _≤_, _<_}
 use native.Mathlib.Omega.{arith}
 use lib.ListN.{getD}
 use Rattle.text.specs.Test.{_and_, _or_, all, any, only}
 use Rattle.text.specs.String.{same}
+use Rattle.text.proofs.Tests.{same-sym, any-or}
+use Rattle.path.specs.Path.{Key}
 use Rattle.verdict.specs.Cover.{given, definite, holds, meets, covers}
-use Rattle.verdict.specs.Join.{clashes, agrees, agree, meetsBoth, coversBoth}
+use Rattle.verdict.specs.Join.{conflict, clashes, agrees, agree, meetsBoth, coversBoth}
 use Rattle.place.specs.Place.{strEnd, strIn, keysIn, elemEnd, elemIn, elemsIn}
 use Rattle.place.proofs.Cursor.{elems-cons, elems-nil}
-use Rattle.compare.specs.Compare.{met}
+use Rattle.compare.specs.Compare.{keyPasses, elemPasses, pathPasses}
+
+-- ---- that keys of xs and ys are in no conflict, by the members of either
+
+conflict-turned : (j k : Key) → conflict j k ≡ conflict k j
+unfolding conflict
+conflict-turned j k = rw (same-sym (j .name) (k .name), same-sym (j .value) (k .value))
+
+none-clash : (ys : List Key) → any (clashes []) ys ≡ false
+unfolding any clashes _or_
+none-clash [] = refl
+none-clash (y ∷ ys) = none-clash ys
+
+one-clashes : (x : Key) (ys : List Key) → any (conflict x) ys ≡ clashes ys x
+unfolding any clashes
+one-clashes x [] = refl
+one-clashes x (y ∷ ys) = rw (conflict-turned x y, one-clashes x ys)
+
+neither : (a b : Bool) → not (a or b) ≡ (not a and not b)
+unfolding _and_ _or_
+neither true b = refl
+neither false b = refl
+
+no-clash : (xs ys : List Key) → not (any (clashes xs) ys) ≡ all (λ (k : Key). not (clashes ys k)) xs
+unfolding any all clashes
+no-clash [] ys = ap not (none-clash ys)
+no-clash (x ∷ xs) ys =
+    ap not (any-or (conflict x) (clashes xs) ys)
+    ∙ neither (any (conflict x) ys) (any (clashes xs) ys)
+    ∙ rw (one-clashes x ys, no-clash xs ys)
 
 -- ---- two elements: names first, then keys
 
 module _ (f : List ℕ) (s : ℕ) (g : List ℕ) (p : ℕ) where
-  pub meets-name : same (strIn f s) (strIn g p) ≡ false → meets (elemIn f s) (elemIn g p) ≡ false
-  unfolding meets elemIn _and_
-  meets-name e = rw e
+  pub elem-name : (cover : Bool) → same (strIn f s) (strIn g p) ≡ false → elemPasses cover (elemIn f s) (elemIn g p) ≡ false
+  unfolding meets agrees elemIn _and_
+  elem-name true e = rw e
+  elem-name false e = rw e
 
-  pub meets-keys : same (strIn f s) (strIn g p) ≡ true → (a b : ℕ) → a ≡ strEnd f s → b ≡ strEnd g p
-      → meets (elemIn f s) (elemIn g p) ≡ all (met (keysIn 0 f 0) (keysIn (getD g b 0) g (b + 1))) (given (keysIn (getD f a 0) f (a + 1)))
-  unfolding meets definite elemIn keysIn only holds any _and_ _or_
-  meets-keys e a b i j = rw (i, j, e)
-
-  pub agrees-name : same (strIn f s) (strIn g p) ≡ false → agrees (elemIn f s) (elemIn g p) ≡ false
-  unfolding agrees elemIn _and_
-  agrees-name e = rw e
-
-  pub agrees-keys : same (strIn f s) (strIn g p) ≡ true → (a b : ℕ) → a ≡ strEnd f s → b ≡ strEnd g p
-      → agrees (elemIn f s) (elemIn g p) ≡ not (any (clashes (given (keysIn (getD f a 0) f (a + 1)))) (given (keysIn (getD g b 0) g (b + 1))))
-  unfolding agrees definite elemIn _and_
-  agrees-keys e a b i j = rw (i, j, e)
+  pub elem-keys : (cover : Bool) → same (strIn f s) (strIn g p) ≡ true → (a b : ℕ) → a ≡ strEnd f s → b ≡ strEnd g p
+      → elemPasses cover (elemIn f s) (elemIn g p) ≡ all (keyPasses cover (keysIn 0 f 0) (keysIn (getD g b 0) g (b + 1))) (given (keysIn (getD f a 0) f (a + 1)))
+  unfolding meets agrees definite elemIn keysIn only holds any _and_ _or_
+  elem-keys true e a b i j = rw (i, j, e)
+  elem-keys false e a b i j = rw (i, j, e) (no-clash _ _)
 
 module _ (f : List ℕ) (s r : ℕ) (g : List ℕ) (p : ℕ) where
   pub both-name : same (strIn f s) (strIn f r) ≡ false → meetsBoth (elemIn f s) (elemIn f r) (elemIn g p) ≡ false
@@ -41,48 +65,35 @@ module _ (f : List ℕ) (s r : ℕ) (g : List ℕ) (p : ℕ) where
 
   pub both-keys : same (strIn f s) (strIn f r) ≡ true → (a b c : ℕ) → a ≡ strEnd f s → b ≡ strEnd f r → c ≡ strEnd g p
       → meetsBoth (elemIn f s) (elemIn f r) (elemIn g p)
-      ≡ all (met (keysIn (getD f b 0) f (b + 1)) (keysIn (getD g c 0) g (c + 1))) (given (keysIn (getD f a 0) f (a + 1)))
+      ≡ all (keyPasses true (keysIn (getD f b 0) f (b + 1)) (keysIn (getD g c 0) g (c + 1))) (given (keysIn (getD f a 0) f (a + 1)))
   unfolding meetsBoth definite elemIn _and_
   both-keys e a b c i j k = rw (i, j, k, e)
 
 -- ---- two paths in step
 
 module _ (f : List ℕ) (s k : ℕ) (g : List ℕ) (p n : ℕ) where
-  pub covers-end : k ≤ 0 → covers (elemsIn k f s) (elemsIn n g p) ≡ true
-  unfolding covers
-  covers-end z = rw (elems-nil f k s z)
-
-  pub agree-end : k ≤ 0 → agree (elemsIn k f s) (elemsIn n g p) ≡ true
-  unfolding agree
-  agree-end z = rw (elems-nil f k s z)
+  pub step-end : (cover : Bool) → k ≤ 0 → pathPasses cover (elemsIn k f s) (elemsIn n g p) ≡ true
+  unfolding covers agree
+  step-end true z = rw (elems-nil f k s z)
+  step-end false z = rw (elems-nil f k s z)
 
   module _ (z : 0 < k) where
-    pub covers-out : n ≡ 0 → covers (elemsIn k f s) (elemsIn n g p) ≡ false
-    unfolding covers
-    covers-out o = rw (elems-cons f k s z, elems-nil g n p (omega arith))
-
-    pub agree-out : n ≡ 0 → agree (elemsIn k f s) (elemsIn n g p) ≡ true
-    unfolding agree
-    agree-out o = rw (elems-cons f k s z, elems-nil g n p (omega arith))
+    pub step-out : (cover : Bool) → n ≡ 0 → pathPasses cover (elemsIn k f s) (elemsIn n g p) ≡ not cover
+    unfolding covers agree
+    step-out true o = rw (elems-cons f k s z, elems-nil g n p (omega arith))
+    step-out false o = rw (elems-cons f k s z, elems-nil g n p (omega arith))
 
     module _ (y : n ≡ 0 → ⊥) where
-      pub covers-fail : meets (elemIn f s) (elemIn g p) ≡ false → covers (elemsIn k f s) (elemsIn n g p) ≡ false
-      unfolding covers _and_
-      covers-fail e = rw (elems-cons f k s z, elems-cons g n p (omega arith), e)
+      pub step-fail : (cover : Bool) → elemPasses cover (elemIn f s) (elemIn g p) ≡ false → pathPasses cover (elemsIn k f s) (elemsIn n g p) ≡ false
+      unfolding covers agree _and_
+      step-fail true e = rw (elems-cons f k s z, elems-cons g n p (omega arith), e)
+      step-fail false e = rw (elems-cons f k s z, elems-cons g n p (omega arith), e)
 
-      pub covers-turn : meets (elemIn f s) (elemIn g p) ≡ true → (a b : ℕ) → a ≡ elemEnd f s → b ≡ elemEnd g p
-          → covers (elemsIn k f s) (elemsIn n g p) ≡ covers (elemsIn (k - 1) f a) (elemsIn (n - 1) g b)
-      unfolding covers _and_
-      covers-turn e a b i j = rw (elems-cons f k s z, elems-cons g n p (omega arith), e, i, j)
-
-      pub agree-fail : agrees (elemIn f s) (elemIn g p) ≡ false → agree (elemsIn k f s) (elemsIn n g p) ≡ false
-      unfolding agree _and_
-      agree-fail e = rw (elems-cons f k s z, elems-cons g n p (omega arith), e)
-
-      pub agree-turn : agrees (elemIn f s) (elemIn g p) ≡ true → (a b : ℕ) → a ≡ elemEnd f s → b ≡ elemEnd g p
-          → agree (elemsIn k f s) (elemsIn n g p) ≡ agree (elemsIn (k - 1) f a) (elemsIn (n - 1) g b)
-      unfolding agree _and_
-      agree-turn e a b i j = rw (elems-cons f k s z, elems-cons g n p (omega arith), e, i, j)
+      pub step-turn : (cover : Bool) → elemPasses cover (elemIn f s) (elemIn g p) ≡ true → (a b : ℕ) → a ≡ elemEnd f s → b ≡ elemEnd g p
+          → pathPasses cover (elemsIn k f s) (elemsIn n g p) ≡ pathPasses cover (elemsIn (k - 1) f a) (elemsIn (n - 1) g b)
+      unfolding covers agree _and_
+      step-turn true e a b i j = rw (elems-cons f k s z, elems-cons g n p (omega arith), e, i, j)
+      step-turn false e a b i j = rw (elems-cons f k s z, elems-cons g n p (omega arith), e, i, j)
 
 -- ---- a path against two in step
 

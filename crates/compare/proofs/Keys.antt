@@ -1,6 +1,6 @@
 -- One law for each way out of a walk over keys.
 use mathlib.Core.Path.{_≡_, refl, sym, ap, _∙_}
-use mathlib.Core.Bool.{Bool, true, false, not}
+use mathlib.Core.Bool.{Bool, true, false, not, _||_}
 use mathlib.Core.List.{List, [], _∷_}
 use Prim.Native.Nat.{ℕ, _+_, _-_, _≤_, _<_}
 use native.Mathlib.Omega.{arith}
@@ -13,10 +13,10 @@ use Rattle.text.proofs.Tests.{clash, by, and-r, same→≡}
 use Rattle.text.proofs.Scans.{same-lengths}
 use Rattle.path.specs.Path.{Key}
 use Rattle.verdict.specs.Cover.{wild, given, sameKey, holds}
-use Rattle.verdict.specs.Join.{conflict}
+use Rattle.verdict.specs.Join.{conflict, clashes}
 use Rattle.place.specs.Place.{strEnd, strIn, keyEnd, keyIn, keysIn}
 use Rattle.place.proofs.Cursor.{length-str, keys-cons, keys-nil}
-use Rattle.compare.specs.Compare.{conflicting}
+use Rattle.compare.specs.Compare.{answers, keyPasses}
 
 -- ---- the value `*`
 
@@ -42,18 +42,18 @@ module _ (f : List ℕ) (p : ℕ) (h : strEnd f p ≤ length f) where
 
 -- ---- one of the keys
 
-module _ (g : List ℕ) (n q : ℕ) (k : Key) where
-  pub holds-hit : 0 < n → sameKey (keyIn g q) k ≡ true → holds (keysIn n g q) k ≡ true
-  unfolding holds any _or_
-  holds-hit z e = rw (keys-cons g n q z, e)
+module _ (t : Key → Bool) (g : List ℕ) (n q : ℕ) where
+  pub any-hit : 0 < n → t (keyIn g q) ≡ true → any t (keysIn n g q) ≡ true
+  unfolding any _or_
+  any-hit z e = rw (keys-cons g n q z, e)
 
-  pub holds-miss : 0 < n → sameKey (keyIn g q) k ≡ false → (b : ℕ) → b ≡ keyEnd g q → holds (keysIn n g q) k ≡ holds (keysIn (n - 1) g b) k
-  unfolding holds any _or_
-  holds-miss z e b i = rw (keys-cons g n q z, e, i)
+  pub any-miss : 0 < n → t (keyIn g q) ≡ false → (b : ℕ) → b ≡ keyEnd g q → any t (keysIn n g q) ≡ any t (keysIn (n - 1) g b)
+  unfolding any _or_
+  any-miss z e b i = rw (keys-cons g n q z, e, i)
 
-  pub holds-end : n ≤ 0 → holds (keysIn n g q) k ≡ false
-  unfolding holds any
-  holds-end z = rw (keys-nil g n q z)
+  pub any-end : n ≤ 0 → any t (keysIn n g q) ≡ false
+  unfolding any
+  any-end z = rw (keys-nil g n q z)
 
 -- a definite key is one of the keys, or of the definite ones
 not-wild : (j k : Key) → wild k ≡ false → wild j ≡ true → sameKey j k ≡ false
@@ -69,25 +69,11 @@ holds-given [] k u = refl
 holds-given (j ∷ ks) k u =
     by (wild j) (λ e. rw (e, not-wild j k u e) (holds-given ks k u)) (λ e. rw e (ap (λ (b : Bool). sameKey j k or b) (holds-given ks k u)))
 
--- ---- a definite one that passes
-
-any-given : (t : Key → Bool) (j : Key) (ks : List Key) → any t (given (j ∷ ks)) ≡ ((not (wild j) and t j) or any t (given ks))
-unfolding any only if_then_else_ _and_ _or_
-any-given t j ks = by (wild j) (λ e. rw e) (λ e. rw e)
-
-module _ (t : Key → Bool) (g : List ℕ) (n q : ℕ) where
-  pub any-hit : 0 < n → (not (wild (keyIn g q)) and t (keyIn g q)) ≡ true → any t (given (keysIn n g q)) ≡ true
-  unfolding _or_
-  any-hit z e = rw (keys-cons g n q z, any-given, e)
-
-  pub any-miss : 0 < n → (not (wild (keyIn g q)) and t (keyIn g q)) ≡ false → (b : ℕ) → b ≡ keyEnd g q
-      → any t (given (keysIn n g q)) ≡ any t (given (keysIn (n - 1) g b))
-  unfolding _or_
-  any-miss z e b i = rw (keys-cons g n q z, any-given, e, i)
-
-  pub any-end : n ≤ 0 → any t (given (keysIn n g q)) ≡ false
-  unfolding any only
-  any-end z = rw (keys-nil g n q z)
+-- a key that clashes with a definite one is in conflict with one that is definite
+clashes-given : (ks : List Key) (k : Key) → clashes (given ks) k ≡ any (λ (j : Key). answers false j k) ks
+unfolding clashes any only if_then_else_ _and_ _or_
+clashes-given [] k = refl
+clashes-given (j ∷ ks) k = by (wild j) (λ e. rw e (clashes-given ks k)) (λ e. rw e (ap (λ (b : Bool). conflict j k or b) (clashes-given ks k)))
 
 -- ---- each definite one
 
@@ -115,29 +101,39 @@ unfolding wild keyIn
 wild-in f s a b i e = rw (← i) (sym e)
 
 module _ (rs ps : List Key) (k : Key) (w : wild k ≡ false) where
-  pub met-first : holds rs k ≡ true → (wild k or (holds (given rs) k or holds (given ps) k)) ≡ true
+  pub pass-first : (cover : Bool) → holds rs k ≡ true → (wild k or keyPasses cover rs ps k) ≡ true
   unfolding _or_
-  met-first e = rw (w, holds-given rs k w ∙ e)
+  pass-first true e = rw (w, holds-given rs k w ∙ e)
+  pass-first false e = rw (w, holds-given rs k w ∙ e)
 
-  pub met-second : holds rs k ≡ false → (wild k or (holds (given rs) k or holds (given ps) k)) ≡ holds ps k
-  unfolding _or_
-  met-second e = rw (w, holds-given rs k w ∙ e) (holds-given ps k w)
+  module _ (cover : Bool) (e : holds rs k ≡ false) where
+    pub pass-cover : cover ≡ true → (wild k or keyPasses cover rs ps k) ≡ holds ps k
+    unfolding _or_
+    pass-cover y = rw (w, y, holds-given rs k w ∙ e) (holds-given ps k w)
 
--- a wildcard is in no conflict
-pub star-free : (k : Key) (t : Bool) → wild k ≡ true → (not (wild k) and t) ≡ false
-unfolding _and_
-star-free k t w = rw w
+    pub pass-agree : cover ≡ false → (wild k or keyPasses cover rs ps k) ≡ not (any (λ (j : Key). answers false j k) ps)
+    unfolding _or_
+    pass-agree y = rw (w, y, holds-given rs k w ∙ e) (ap not (clashes-given ps k))
 
-pub definite-test : (k : Key) (t : Bool) → wild k ≡ false → (not (wild k) and t) ≡ t
-unfolding _and_
-definite-test k t w = rw w
+-- ---- two keys: names first, then values
 
-module _ (f : List ℕ) (q : ℕ) (g : List ℕ) (p : ℕ) (w : wild (keyIn f q) ≡ false) where
-  pub conflict-name : same (strIn f q) (strIn g p) ≡ false → conflicting (keyIn f q) (keyIn g p) ≡ false
+module _ (g : List ℕ) (q : ℕ) (f : List ℕ) (p : ℕ) where
+  pub answers-name : (cover : Bool) → same (strIn g q) (strIn f p) ≡ false → answers cover (keyIn g q) (keyIn f p) ≡ false
   unfolding conflict keyIn _and_
-  conflict-name e = rw (w, e)
+  answers-name true e = rw e
+  answers-name false e = by (wild (keyIn g q)) (λ w. rw w) (λ w. rw (w, e))
 
-  pub conflict-value : same (strIn f q) (strIn g p) ≡ true → (b a : ℕ) → b ≡ strEnd f q → a ≡ strEnd g p
-      → conflicting (keyIn f q) (keyIn g p) ≡ not (same (strIn f b) (strIn g a))
-  unfolding conflict keyIn _and_
-  conflict-value e b a i j = rw (w, e, i, j)
+  module _ (e : same (strIn g q) (strIn f p) ≡ true) (b a : ℕ) (i : b ≡ strEnd g q) (j : a ≡ strEnd f p) where
+    pub answers-value : (cover : Bool) → same (strIn g b) (strIn f a) ≡ true → answers cover (keyIn g q) (keyIn f p) ≡ cover
+    unfolding conflict keyIn _and_
+    answers-value true v = rw (e, ← i, ← j, v)
+    answers-value false v = by (wild (keyIn g q)) (λ w. rw w) (λ w. rw (w, e, ← i, ← j, v))
+
+    pub answers-other : (cover : Bool) → same (strIn g b) (strIn f a) ≡ false → (s : Bool) → s ≡ same (strIn g b) (bytes "*")
+        → answers cover (keyIn g q) (keyIn f p) ≡ not (cover || s)
+    unfolding conflict keyIn _and_
+    answers-other true v s y = rw (e, ← i, ← j, v)
+    answers-other false v s y =
+        by s
+        (λ w. rw (wild-in g q b s i y ∙ w, w))
+        (λ w. rw (wild-in g q b s i y ∙ w, w, e, ← i, ← j, v))

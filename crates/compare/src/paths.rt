@@ -5,11 +5,13 @@ ghost use lib.ListN.{length};
 ghost use Rattle.verdict.specs.Cover.{covers};
 ghost use Rattle.verdict.specs.Join.{agree, coversBoth};
 ghost use Rattle.place.specs.Place.{elemsEnd, elemsIn};
+ghost use Rattle.compare.specs.Compare.{pathPasses};
 
-// Whether the path of n elements at p of g lies at or beneath that of k elements at s of f.
-pub fn covers_at(f: &[u8], s: usize, k: usize, g: &[u8], p: usize, n: usize) -> bool
+// The elements at s of f and at p of g in step, each pair by the test that `cover` says. Where the second path ends first, the first does not
+// cover it, and the two agree.
+fn in_step(cover: bool, f: &[u8], s: usize, k: usize, g: &[u8], p: usize, n: usize) -> bool
     requires { ⌜ (elemsEnd k (now f) s ≤ length (now f)) × (elemsEnd n (now g) p ≤ length (now g)) ⌝ }
-    ensures { λ b. ⌜ b ≡ covers (elemsIn k (now (f .entry)) s) (elemsIn n (now (g .entry)) p) ⌝ }
+    ensures { λ b. ⌜ b ≡ pathPasses cover (elemsIn k (now (f .entry)) s) (elemsIn n (now (g .entry)) p) ⌝ }
 {
     let mut a = s;
     let mut b = p;
@@ -17,9 +19,9 @@ pub fn covers_at(f: &[u8], s: usize, k: usize, g: &[u8], p: usize, n: usize) -> 
     let mut more = n;
     while 0 < left {
         if more == 0 {
-            return false;
+            return !cover;
         }
-        if !crate::element::meets_at(f, a, g, b) {
+        if !crate::element::elem_passes(cover, f, a, g, b) {
             return false;
         }
         a = place::elem_end(f, a);
@@ -30,7 +32,23 @@ pub fn covers_at(f: &[u8], s: usize, k: usize, g: &[u8], p: usize, n: usize) -> 
     true
 }
 
-// The same of the joined path of the m elements at r of f and the n at p of g. The joined path is not made.
+// Whether the path of n elements at p of g lies at or beneath that of k elements at s of f.
+pub fn covers_at(f: &[u8], s: usize, k: usize, g: &[u8], p: usize, n: usize) -> bool
+    requires { ⌜ (elemsEnd k (now f) s ≤ length (now f)) × (elemsEnd n (now g) p ≤ length (now g)) ⌝ }
+    ensures { λ b. ⌜ b ≡ covers (elemsIn k (now (f .entry)) s) (elemsIn n (now (g .entry)) p) ⌝ }
+{
+    in_step(true, f, s, k, g, p, n)
+}
+
+// Whether two paths agree as far as both go.
+pub fn agree_at(f: &[u8], r: usize, m: usize, g: &[u8], p: usize, n: usize) -> bool
+    requires { ⌜ (elemsEnd m (now f) r ≤ length (now f)) × (elemsEnd n (now g) p ≤ length (now g)) ⌝ }
+    ensures { λ b. ⌜ b ≡ agree (elemsIn m (now (f .entry)) r) (elemsIn n (now (g .entry)) p) ⌝ }
+{
+    in_step(false, f, r, m, g, p, n)
+}
+
+// Whether the joined path of the m elements at r of f and the n at p of g lies at or beneath that of the k at s of f. The joined path is not made.
 pub fn covers_both(
     f: &[u8],
     s: usize,
@@ -65,30 +83,6 @@ pub fn covers_both(
         c = place::elem_end(g, c);
         left -= 1;
         mine -= 1;
-        more -= 1;
-    }
-    true
-}
-
-// Whether two paths agree as far as both go.
-pub fn agree_at(f: &[u8], r: usize, m: usize, g: &[u8], p: usize, n: usize) -> bool
-    requires { ⌜ (elemsEnd m (now f) r ≤ length (now f)) × (elemsEnd n (now g) p ≤ length (now g)) ⌝ }
-    ensures { λ b. ⌜ b ≡ agree (elemsIn m (now (f .entry)) r) (elemsIn n (now (g .entry)) p) ⌝ }
-{
-    let mut a = r;
-    let mut b = p;
-    let mut left = m;
-    let mut more = n;
-    while 0 < left {
-        if more == 0 {
-            return true;
-        }
-        if !crate::element::agrees_at(f, a, g, b) {
-            return false;
-        }
-        a = place::elem_end(f, a);
-        b = place::elem_end(g, b);
-        left -= 1;
         more -= 1;
     }
     true

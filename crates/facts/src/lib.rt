@@ -147,8 +147,9 @@ pub fn name_of(text: &[u8], row: Row, out: &mut [u8]) -> usize
     let Loaded::Table { used, counts } = l else {
         return 0;
     };
+    let f = &buf[..used];
     match row {
-        Row::Group(g) => copy_number(&buf[..used], &groups, counts.groups, g.0 as usize, out),
-        Row::Rule(k) => copy_number(&buf[..used], &ids, counts.rules, k.0 as usize, out),
+        Row::Group(g) => copy_number(f, &groups, counts.groups, g.0 as usize, out),
+        Row::Rule(k) => copy_number(f, &ids, counts.rules, k.0 as usize, out),
     }
 }

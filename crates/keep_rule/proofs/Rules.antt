@@ -99,12 +99,6 @@ module _ (f : Str) (pre : (0 < length f) × (getD f 0 0 ≡ 4)) (r : RuleFrame) 
         again-is : q′ .again ≡ any (same (part f (s + 1) i)) (stringsIn old ids k 0)
         again-is = met .told ∙ sym (H .told (part f (s + 1) i))
 
-        pub id-spot-fits : 257 + hash % 2048 < length keys
-        id-spot-fits = omega arith
-
-        pub id-fits : q′ .at ≤ getD keys 256 0
-        id-fits = met .fits
-
         pub rule-graded : (b : Earlier) → b .kind ≡ last → b .groups ≡ stringsIn old starts count 0 → b .ids ≡ stringsIn old ids k 0 → m ≡ refusal b (framed (entryOf f))
         unfolding pastLimit strays repeats unlisted
         rule-graded b w e d =
@@ -139,18 +133,23 @@ module _ (f : Str) (pre : (0 < length f) × (getD f 0 0 ≡ 4)) (r : RuleFrame) 
           clear-is : (((u || v) || (ltb 32 (length (part f (i + 1) o)) || leb 256 k)) ≡ false) × ((eqb (getD f 3 0) 1 && eqb g count) ≡ false) × (q′ .again ≡ false)
           clear-is = merged-clear p ((u || v) || (ltb 32 (length (part f (i + 1) o)) || leb 256 k)) (not x || (not y || not z)) (q′ .again) (eqb (getD f 3 0) 1 && eqb g count) (sym mm ∙ fine)
 
-          pub rule-room : k < 256
+          rule-room : k < 256
           rule-room =
               let l = ltb 32 (length (part f (i + 1) o)) in
               let a : ((u || v) or (l || leb 256 k)) ≡ false = sym (or-is (u || v) (l || leb 256 k)) ∙ clear-is .0 in
               leb-false 256 k (or-false-r l _ (sym (or-is l (leb 256 k)) ∙ or-false-r (u || v) _ a))
 
-          pub id-sorted-room : getD keys 256 0 < 256
+          id-sorted-room : getD keys 256 0 < 256
           id-sorted-room = omega (arith, H .few, strings-length old ids k, rule-room)
 
-          pub rule-kept : (tops holders keys′ : List ℕ) → keys′ ≡ added keys 256 (257 + hash % 2048) (q′ .at) (spanOf (length old + (s + 1)) (length old + i))
-              → RuleKept (stringsIn old starts count 0) old f ids tops holders k (set ids k (length old + s)) (set tops k (length old + 1)) (set holders k g) keys′
-          rule-kept tops holders keys′ e =
+          -- there is room for the rule, and for its id
+          pub rule-ready : (q′ .at ≤ getD keys 256 0) × (getD keys 256 0 < 256) × (257 + hash % 2048 < length keys) × (k < 256)
+          rule-ready = (met .fits, id-sorted-room, omega arith, rule-room)
+
+          pub rule-kept : (tops holders ids′ tops′ holders′ keys′ : List ℕ) → (ids′ ≡ set ids k (length old + s)) × (tops′ ≡ set tops k (length old + 1)) × (holders′ ≡ set holders k g)
+              → keys′ ≡ added keys 256 (257 + hash % 2048) (q′ .at) (spanOf (length old + (s + 1)) (length old + i))
+              → RuleKept (stringsIn old starts count 0) old f ids tops holders k ids′ tops′ holders′ keys′
+          rule-kept tops holders ids′ tops′ holders′ keys′ stored e =
               let a = at in
               let w = at .long in
               let d : i ≤ length f = omega (arith, w .2, w .3) in
@@ -164,9 +163,9 @@ module _ (f : Str) (pre : (0 < length f) × (getD f 0 0 ≡ 4)) (r : RuleFrame) 
                 stands = a .stands;
                 room = rule-room;
                 held = λ e. rw (a .subject) (held-is (eqb (getD f 3 0) 1) (part f 5 s) (stringsIn old starts count 0) g count gg (sym (strings-length old starts count)) (clear-is .1) (sym (a .byGroup) ∙ e));
-                ids-set = refl;
-                starts-set = refl;
-                holders-set = refl;
+                ids-set = stored .0;
+                starts-set = stored .1;
+                holders-set = stored .2;
                 keys-long = ap length e ∙ added-long keys 256 (257 + hash % 2048) (q′ .at) _ (met .fits) (omega (arith, id-sorted-room)) ∙ long;
                 ids-held =
                     rw (e, id-spot (part f (s + 1) i) hash hh, a .id)

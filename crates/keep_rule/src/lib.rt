@@ -3,7 +3,7 @@
 ghost use mathlib.Core.Path.{_≡_};
 ghost use mathlib.Core.Bool.{false};
 ghost use Prim.Native.Nat.{_+_, _≤_, _<_};
-ghost use lib.ListN.{length, getD};
+ghost use lib.ListN.{length, getD, set};
 ghost use Rattle.text.specs.Test.{if_then_else_, twice};
 ghost use Rattle.text.specs.String.{same};
 ghost use Rattle.hash_set.specs.Set.{Holds};
@@ -32,6 +32,24 @@ fn holder_of(
         return keep::number_of(old, groups, count, hints, names, subject);
     }
     0
+}
+
+// Rule n: its id and its frame's content stand at these places, and g holds it.
+fn store(
+    ids: &mut [u16; 256],
+    starts: &mut [u16; 256],
+    holders: &mut [u8; 256],
+    n: usize,
+    id: usize,
+    start: usize,
+    g: usize,
+)
+    requires { ⌜ (n < 256) × (id < 65536) × (start < 65536) × (g < 256) ⌝ }
+    ensures { λ _. ⌜ (now (ids .exit) ≡ set (now (ids .entry)) n id) × (now (starts .exit) ≡ set (now (starts .entry)) n start) × (now (holders .exit) ≡ set (now (holders .entry)) n g) ⌝ }
+{
+    ids[n] = id as u16;
+    starts[n] = start as u16;
+    holders[n] = g as u8;
 }
 
 // The number of a frame of kind 4. Where that is 255, the rule is kept.
@@ -88,9 +106,7 @@ pub fn take_rule(
     if number != 255 {
         return number;
     }
-    ids[n] = (old.len() + s) as u16;
-    starts[n] = (old.len() + 1) as u16;
-    holders[n] = g as u8;
+    store(ids, starts, holders, n, old.len() + s, old.len() + 1, g);
     let begin = old.len() + from;
     let to = old.len() + i;
     hash_set::add(keys, 256, p, t.at, begin, to);

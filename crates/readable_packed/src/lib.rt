@@ -2,10 +2,9 @@
 ghost use mathlib.Core.Path.{_≡_};
 ghost use Prim.Native.Nat.{_+_, _≤_};
 ghost use lib.ListN.{length};
-ghost use Rattle.readable_parts.specs.Parts.{packed, partOf, standsAt, packedString, packedTime, packedPath, packedCode};
+ghost use Rattle.readable_parts.specs.Parts.{packed, partOf, standsAt, packedString, packedTime, packedCode};
 ghost use Rattle.readable_parts.specs.Steps.{Puts, longest};
 use line::Line;
-use path_text::Filled;
 use path_text::reader::Stored;
 
 // In brackets.
@@ -43,24 +42,6 @@ fn time(s: &[u8], at: usize, out: &mut [u8], to: usize) -> Stored
     Stored::To {
         next: s.len(),
         end: to + len,
-    }
-}
-
-// The rest of the line, path text.
-fn path(s: &[u8], at: usize, out: &mut [u8], to: usize) -> Stored
-    requires { ⌜ to + 13520 ≤ length (now out) ⌝ }
-    ensures { λ r. ⌜ Puts 13520 packedPath (now (s .entry)) at (now (out .entry)) to (now (out .exit)) r ⌝ }
-{
-    if s.len() <= at {
-        return Stored::Unread;
-    }
-    let w = path_text::reader::read_text(&s[at..], &mut out[to..]);
-    let Filled::Length(n) = w else {
-        return Stored::Unread;
-    };
-    Stored::To {
-        next: s.len(),
-        end: to + n,
     }
 }
 
@@ -110,7 +91,7 @@ pub fn part(c: u8, s: &[u8], at: usize, out: &mut [u8], to: usize) -> Stored
         return time(s, at, out, to);
     }
     if c == b'P' {
-        return path(s, at, out, to);
+        return readable_parts::ending::path(true, s, at, out, to);
     }
     if c == b'A' {
         return code(s, at, 0, b"deny", b"permit", out, to);

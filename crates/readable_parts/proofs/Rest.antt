@@ -1,5 +1,6 @@
 -- A path with which a frame or a line ends: it is made in the part of the buffer where it is to stand.
 use mathlib.Core.Path.{_≡_, refl, sym, ap, _∙_}
+use mathlib.Core.Bool.{Bool, true, false}
 use mathlib.Core.List.{List, [], _++_, append-nil}
 use mathlib.Core.Option.{Option, none, some}
 use Prim.Native.Nat.{ℕ, _+_, _-_, _≤_, _<_}
@@ -14,11 +15,12 @@ use Rattle.text.specs.Frame.{unread}
 use Rattle.text.specs.Fill.{put}
 use Rattle.text.proofs.Tests.{by}
 use Rattle.path_text.specs.Calls.{answer, lent}
+use Rattle.path_text.proofs.Longest.{bytes-bound, text-bound}
 use Rattle.path_text.specs.declared.Filled.{Filled}
 use Rattle.path_text.specs.declared.Filled.the-variants.{Length, Refused}
 use Rattle.path_text.specs.declared.reader.Stored.the-variants.{To}
 use Rattle.readable_parts.specs.Parts.{rest, ofRest}
-use Rattle.readable_parts.specs.Steps.{Puts, puts}
+use Rattle.readable_parts.specs.Steps.{Puts, puts, pathFor}
 
 -- what a call on path text answers
 module _ (out : List ℕ) (o : Option Str) (w : Filled) (i : w ≡ answer out o) where
@@ -94,3 +96,7 @@ module _ (g : Str → Option Str) (s : Str) (at : ℕ) (i : at < length s) where
           let k : take to d ++ (p ++ drop (length d - to) (drop to d)) ≡ put d to (a .0) =
           ap (λ (z : List ℕ). take to d ++ (z ++ drop (length d - to) (drop to d))) (j ∙ a .4) ∙ part-put d to (a .0) (omega arith) in
           puts {to = to} {end = to + n} (rest-is (some (a .0)) (a .1)) (record { ends = omega (arith, a .2); same = k }) (b (from s at) (a .0) (a .1)) (omega arith)
+
+pub path-bound : (pack : Bool) (t w : Str) → pathFor pack t ≡ some w → length w ≤ 13520
+path-bound true t w e = omega (arith, bytes-bound t w e)
+path-bound false t w e = text-bound t w e

@@ -1,13 +1,16 @@
 -- The answers of the programs that convert part by part, said of what is read there.
 use Prim.Native.Nat.{ℕ, _≤_}
 use mathlib.Core.Path.{_≡_}
+use mathlib.Core.Bool.{Bool, true, false}
 use mathlib.Core.List.{List}
+use mathlib.Core.Option.{Option}
 use lib.Dec.{eqb}
 use lib.ListN.{length}
 use Rattle.text.specs.Test.{if_then_else_}
 use Rattle.text.specs.String.{Str}
 use Rattle.text.specs.Frame.{got, unread, Reader}
 use Rattle.text.specs.Fill.{Wrote}
+use Rattle.path_text.specs.Calls.{bytesFor, textFor}
 use Rattle.path_text.specs.declared.reader.Stored.{Stored}
 use Rattle.path_text.specs.declared.reader.Stored.the-variants as stored
 
@@ -28,3 +31,8 @@ pub data Puts (most : ℕ) (r : Reader Str) (s : Str) (at : ℕ) : List ℕ → 
   puts : {w : Str} {t : ℕ} {d : List ℕ} {to : ℕ} {d′ : List ℕ} {end : ℕ} → r s at ≡ got w t → Wrote d to w d′ end → length w ≤ most → t ≤ length s
       → Puts most r s at d to d′ (stored.To t end)
   stops : {d : List ℕ} {to : ℕ} {d′ : List ℕ} → r s at ≡ unread → Puts most r s at d to d′ stored.Unread
+
+-- what is made of a path: the bytes of its text, or the text of its bytes
+abbrev pub pathFor : Bool → Str → Option Str
+pathFor true = bytesFor
+pathFor false = textFor

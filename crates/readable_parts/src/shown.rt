@@ -1,9 +1,8 @@
 // The parts of a frame, as text: each function stores the text of the part at `at` of f into out from `to` on.
 ghost use Prim.Native.Nat.{_+_, _≤_};
 ghost use lib.ListN.{length};
-ghost use Rattle.readable_parts.specs.Parts.{shown, partOf, shownString, shownTime, shownPath, shownCode};
+ghost use Rattle.readable_parts.specs.Parts.{shown, partOf, shownString, shownTime, shownCode};
 ghost use Rattle.readable_parts.specs.Steps.{Puts, longest};
-use path_text::Filled;
 use path_text::reader::Stored;
 use text::frame::End;
 
@@ -45,24 +44,6 @@ fn time(f: &[u8], at: usize, out: &mut [u8], to: usize) -> Stored
     }
 }
 
-// The rest of the frame, as path text.
-fn path(f: &[u8], at: usize, out: &mut [u8], to: usize) -> Stored
-    requires { ⌜ to + 13520 ≤ length (now out) ⌝ }
-    ensures { λ r. ⌜ Puts 13520 shownPath (now (f .entry)) at (now (out .entry)) to (now (out .exit)) r ⌝ }
-{
-    if f.len() <= at {
-        return Stored::Unread;
-    }
-    let w = path_write::write_text(&f[at..], &mut out[to..]);
-    let Filled::Length(n) = w else {
-        return Stored::Unread;
-    };
-    Stored::To {
-        next: f.len(),
-        end: to + n,
-    }
-}
-
 // The code byte n as the word a, the next one as b.
 fn code(f: &[u8], at: usize, n: u8, a: &[u8], b: &[u8], out: &mut [u8], to: usize) -> Stored
     requires { ⌜ (to + 6 ≤ length (now out)) × (length (now a) ≤ 6) × (length (now b) ≤ 6) × (n ≤ 1) ⌝ }
@@ -101,7 +82,7 @@ pub fn part(c: u8, f: &[u8], at: usize, out: &mut [u8], to: usize) -> Stored
         return time(f, at, out, to);
     }
     if c == b'P' {
-        return path(f, at, out, to);
+        return crate::ending::path(false, f, at, out, to);
     }
     if c == b'A' {
         return code(f, at, 0, b"deny", b"permit", out, to);

@@ -55,23 +55,40 @@ pub fn fill(
     }
 }
 
-// Whether rule j's filter has no digit that rule i's lacks.
+// The filter of rule i.
+fn load(filters: &[u64], i: usize) -> Filter
+    requires { ⌜ 4 * i + 4 ≤ length (now filters) ⌝ }
+    ensures { λ r. ⌜ r ≡ filterOf (now (filters .entry)) i ⌝ }
+{
+    let q = 4 * i;
+    Filter {
+        a: filters[q],
+        b: filters[q + 1],
+        c: filters[q + 2],
+        d: filters[q + 3],
+    }
+}
+
+// Whether x has no digit that y lacks.
+fn has_within(x: Filter, y: Filter) -> bool
+    ensures { λ r. ⌜ (r ≡ false → join x y ≡ y → ⊥) ⌝ }
+{
+    if x.a | y.a != y.a {
+        return false;
+    }
+    if x.b | y.b != y.b {
+        return false;
+    }
+    if x.c | y.c != y.c {
+        return false;
+    }
+    x.d | y.d == y.d
+}
+
+// The same of the filters of rules j and i.
 pub fn is_within(filters: &[u64], j: usize, i: usize) -> bool
     requires { ⌜ (4 * j + 4 ≤ length (now filters)) × (4 * i + 4 ≤ length (now filters)) ⌝ }
     ensures { λ r. ⌜ (r ≡ false → join (filterOf (now (filters .entry)) j) (filterOf (now (filters .entry)) i) ≡ filterOf (now (filters .entry)) i → ⊥) ⌝ }
 {
-    let a = filters[4 * i];
-    if filters[4 * j] | a != a {
-        return false;
-    }
-    let b = filters[4 * i + 1];
-    if filters[4 * j + 1] | b != b {
-        return false;
-    }
-    let c = filters[4 * i + 2];
-    if filters[4 * j + 2] | c != c {
-        return false;
-    }
-    let d = filters[4 * i + 3];
-    filters[4 * j + 3] | d == d
+    has_within(load(filters, j), load(filters, i))
 }

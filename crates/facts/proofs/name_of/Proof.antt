@@ -1,4 +1,3 @@
--- `name_of` stores the name of the row.
 use borrow.Author.Needs.{needs}
 use native.Mathlib.Omega.{arith}
 use mathlib.Core.Path.{sym}
@@ -27,23 +26,23 @@ returns c =
     let at-load = c .before .before .before .load in
     rw (← outcome-refused _ _ _ _ _ _ _ _ _ (at-load .ensures) _ _ (at-enum-told .given .1)) (wrote-none _)
 
+array-share-prefix-buf : tie.Need-array-share-prefix-buf
+array-share-prefix-buf c =
+    let at-l = c .before .l in
+    let at-load = c .before .before .before .before .load in
+    let k = (outcome-kept _ _ _ _ _ _ _ _ _ (at-load .ensures) _ _ (at-l .given .1)) .within in omega (arith, k .0, k .1)
+
+slice-aggregate-f : tie.Need-slice-aggregate-f
+slice-aggregate-f c =
+    let at-l = c .before .before .l in
+    let at-load = c .before .before .before .before .before .load in
+    front-is (outcome-kept _ _ _ _ _ _ _ _ _ (at-load .ensures) _ _ (at-l .given .1))
+
 enum-known-row : tie.Need-enum-known-row
 enum-known-row c = search needs
 
-array-share-prefix-buf : tie.Need-array-share-prefix-buf
-array-share-prefix-buf c =
-    let at-l = c .before .before .before .before .l in
-    let at-load = c .before .before .before .before .before .before .before .load in
-    let k = (outcome-kept _ _ _ _ _ _ _ _ _ (at-load .ensures) _ _ (at-l .given .1)) .within in omega (arith, k .0, k .1)
-
 slice-aggregate-copy-number : tie.Need-slice-aggregate-copy-number
 slice-aggregate-copy-number c =
-    let at-l = c .before .before .before .before .before .l in
-    let at-load = c .before .before .before .before .before .before .before .before .load in
-    front-is (outcome-kept _ _ _ _ _ _ _ _ _ (at-load .ensures) _ _ (at-l .given .1))
-
-slice-aggregate-copy-number-2 : tie.Need-slice-aggregate-copy-number-2
-slice-aggregate-copy-number-2 c =
     let at-l = c .before .before .before .before .before .before .l in
     let at-load = c .before .before .before .before .before .before .before .before .before .load in
     sym ((outcome-kept _ _ _ _ _ _ _ _ _ (at-load .ensures) _ _ (at-l .given .1)) .holds .long .0)
@@ -60,20 +59,8 @@ copy-number-requires c κs =
 enum-known-row-2 : tie.Need-enum-known-row-2
 enum-known-row-2 c = search needs
 
-array-share-prefix-buf-2 : tie.Need-array-share-prefix-buf-2
-array-share-prefix-buf-2 c =
-    let at-l = c .before .before .before .before .l in
-    let at-load = c .before .before .before .before .before .before .before .load in
-    let k = (outcome-kept _ _ _ _ _ _ _ _ _ (at-load .ensures) _ _ (at-l .given .1)) .within in omega (arith, k .0, k .1)
-
-slice-aggregate-copy-number-3 : tie.Need-slice-aggregate-copy-number-3
-slice-aggregate-copy-number-3 c =
-    let at-l = c .before .before .before .before .before .l in
-    let at-load = c .before .before .before .before .before .before .before .before .load in
-    front-is (outcome-kept _ _ _ _ _ _ _ _ _ (at-load .ensures) _ _ (at-l .given .1))
-
-slice-aggregate-copy-number-4 : tie.Need-slice-aggregate-copy-number-4
-slice-aggregate-copy-number-4 c =
+slice-aggregate-copy-number-2 : tie.Need-slice-aggregate-copy-number-2
+slice-aggregate-copy-number-2 c =
     let at-l = c .before .before .before .before .before .before .l in
     let at-load = c .before .before .before .before .before .before .before .before .before .load in
     sym ((outcome-kept _ _ _ _ _ _ _ _ _ (at-load .ensures) _ _ (at-l .given .1)) .holds .long .3)
@@ -93,7 +80,7 @@ same-length c = search needs
 returns-2 : tie.Need-returns-2
 returns-2 c =
     let at-copy-number = c .before .before .copy-number in
-    let at-row = c .before .before .before .before .before .before .before .before .row in
+    let at-row = c .before .before .before .before .before .before .before .row in
     let at-l = c .before .before .before .before .before .before .before .before .before .before .before .l in
     let at-load = c .before .before .before .before .before .before .before .before .before .before .before .before .before .before .load in
     rw (at-row .given .1, ← group-name (outcome-kept _ _ _ _ _ _ _ _ _ (at-load .ensures) _ _ (at-l .given .1)) _) (at-copy-number .ensures)
@@ -104,7 +91,7 @@ same-length-2 c = search needs
 returns-3 : tie.Need-returns-3
 returns-3 c =
     let at-copy-number2 = c .before .before .copy-number2 in
-    let at-row2 = c .before .before .before .before .before .before .before .before .row2 in
+    let at-row2 = c .before .before .before .before .before .before .before .row2 in
     let at-l = c .before .before .before .before .before .before .before .before .before .before .before .l in
     let at-load = c .before .before .before .before .before .before .before .before .before .before .before .before .before .before .load in
     rw (at-row2 .given .1, ← rule-id (outcome-kept _ _ _ _ _ _ _ _ _ (at-load .ensures) _ _ (at-l .given .1)) _) (at-copy-number2 .ensures)
@@ -118,16 +105,14 @@ name-of-spec =
     enum-known-l
     enum-told
     returns
-    enum-known-row
     array-share-prefix-buf
+    slice-aggregate-f
+    enum-known-row
     slice-aggregate-copy-number
-    slice-aggregate-copy-number-2
     cast-copy-number
     copy-number-requires
     enum-known-row-2
-    array-share-prefix-buf-2
-    slice-aggregate-copy-number-3
-    slice-aggregate-copy-number-4
+    slice-aggregate-copy-number-2
     cast-copy-number-2
     copy-number-requires-2
     same-length

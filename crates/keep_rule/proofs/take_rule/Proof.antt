@@ -1,8 +1,7 @@
--- `take_rule` equals its definition.
 use borrow.Author.Needs.{needs}
 use native.Mathlib.Omega.{arith}
 use mathlib.Core.Path.{sym, _∙_}
-use Rattle.keep_rule.proofs.Rules.{holder-small, rule-short, rule-long, rule-four, rule-graded, rule-room, id-sorted-room, id-spot-fits, id-fits, rule-kept}
+use Rattle.keep_rule.proofs.Rules.{holder-small, rule-short, rule-long, rule-four, rule-graded, rule-ready, rule-kept}
 use Rattle.keep_rule.proofs.take_rule.Statement.{statement}
 use Rattle.keep_rule.proofs.take_rule.Tie as tie
 
@@ -171,187 +170,92 @@ returns-3 c =
     let at-start = c .before .before .before .before .before .before .before .before .before .before .before .before .before .before .before .before .before .before .before .before .before .before .before .before .before .before .before in
     (λ b w g d. rule-graded _ (at-start .pre .0) _ (at-read-rule .ensures) _ _ _ _ (at-r .given .1) _ _ (at-is-out-of-order .ensures) (at-if1 .left) (at-start .args .old .now) (at-start .args .groups .now) _ (at-start .args .ids .now) (at-start .args .keys .now) _ (at-start .pre .1 .0 .0) (at-start .pre .1 .1 .2) (at-start .pre .1 .1 .1) _ _ _ _ _ _ _ _ _ (at-is-unsized .ensures) (at-is-unsized2 .ensures) (at-all-print .ensures) (at-all-print2 .ensures) (at-all-print3 .ensures) (at-holder-of .ensures) (at-hash .ensures) (at-find .ensures) (at-number .ensures) b w g d, λ x. absurd (at-if2 .taken x))
 
-add-ids : tie.Need-add-ids
-add-ids c =
-    let at-r = c .before .before .before .before .before .before .before .before .before .before .before .before .before .before .before .before .before .before .before .before .before .before .r in
-    let at-read-rule = c .before .before .before .before .before .before .before .before .before .before .before .before .before .before .before .before .before .before .before .before .before .before .before .before .read-rule in
-    let at-start = c .before .before .before .before .before .before .before .before .before .before .before .before .before .before .before .before .before .before .before .before .before .before .before .before .before .before .before in
+add-store : tie.Need-add-store
+add-store c =
+    let at-r = c .before .before .before .before .before .before .before .before .before .before .before .before .before .before .before .before .before .before .before .before .before .before .before .before .before .r in
+    let at-read-rule = c .before .before .before .before .before .before .before .before .before .before .before .before .before .before .before .before .before .before .before .before .before .before .before .before .before .before .before .read-rule in
+    let at-start = c .before .before .before .before .before .before .before .before .before .before .before .before .before .before .before .before .before .before .before .before .before .before .before .before .before .before .before .before .before .before in
     let h = rule-long _ (at-start .pre .0) _ (at-read-rule .ensures) _ _ _ _ (at-r .given .1) in omega (arith, h .0, h .1, h .2, h .3, at-start .pre .1 .0 .0)
 
-cast-ids : tie.Need-cast-ids
-cast-ids c =
-    let at-r = c .before .before .before .before .before .before .before .before .before .before .before .before .before .before .before .before .before .before .before .before .before .before .r in
-    let at-read-rule = c .before .before .before .before .before .before .before .before .before .before .before .before .before .before .before .before .before .before .before .before .before .before .before .before .read-rule in
-    let at-start = c .before .before .before .before .before .before .before .before .before .before .before .before .before .before .before .before .before .before .before .before .before .before .before .before .before .before .before in
+add-store-2 : tie.Need-add-store-2
+add-store-2 c =
+    let at-r = c .before .before .before .before .before .before .before .before .before .before .before .before .before .before .before .before .before .before .before .before .before .before .before .before .before .r in
+    let at-read-rule = c .before .before .before .before .before .before .before .before .before .before .before .before .before .before .before .before .before .before .before .before .before .before .before .before .before .before .before .read-rule in
+    let at-start = c .before .before .before .before .before .before .before .before .before .before .before .before .before .before .before .before .before .before .before .before .before .before .before .before .before .before .before .before .before .before in
     let h = rule-long _ (at-start .pre .0) _ (at-read-rule .ensures) _ _ _ _ (at-r .given .1) in omega (arith, h .0, h .1, h .2, h .3, at-start .pre .1 .0 .0)
 
-mul-ids : tie.Need-mul-ids
-mul-ids c =
-    let at-if2 = c .if2 in
-    let at-number = c .before .number in
-    let at-all-print3 = c .before .before .all-print3 in
-    let at-all-print2 = c .before .before .before .all-print2 in
-    let at-all-print = c .before .before .before .before .all-print in
-    let at-is-unsized2 = c .before .before .before .before .before .is-unsized2 in
-    let at-is-unsized = c .before .before .before .before .before .before .is-unsized in
-    let at-find = c .before .before .before .before .before .before .before .find in
-    let at-hash = c .before .before .before .before .before .before .before .before .before .before .hash in
-    let at-holder-of = c .before .before .before .before .before .before .before .before .before .before .before .holder-of in
-    let at-if1 = c .before .before .before .before .before .before .before .before .before .before .before .before .before .before .before .before .before .before .before .if1 in
-    let at-is-out-of-order = c .before .before .before .before .before .before .before .before .before .before .before .before .before .before .before .before .before .before .before .before .is-out-of-order in
-    let at-r = c .before .before .before .before .before .before .before .before .before .before .before .before .before .before .before .before .before .before .before .before .before .before .r in
-    let at-read-rule = c .before .before .before .before .before .before .before .before .before .before .before .before .before .before .before .before .before .before .before .before .before .before .before .before .read-rule in
-    let at-start = c .before .before .before .before .before .before .before .before .before .before .before .before .before .before .before .before .before .before .before .before .before .before .before .before .before .before .before in
-    let h = rule-room _ (at-start .pre .0) _ (at-read-rule .ensures) _ _ _ _ (at-r .given .1) _ _ (at-is-out-of-order .ensures) (at-if1 .left) (at-start .args .old .now) (at-start .args .groups .now) _ (at-start .args .ids .now) (at-start .args .keys .now) _ (at-start .pre .1 .0 .0) (at-start .pre .1 .1 .2) (at-start .pre .1 .1 .1) _ _ _ _ _ _ _ _ _ (at-is-unsized .ensures) (at-is-unsized2 .ensures) (at-all-print .ensures) (at-all-print2 .ensures) (at-all-print3 .ensures) (at-holder-of .ensures) (at-hash .ensures) (at-find .ensures) (at-number .ensures) (at-if2 .left) in omega arith
-
-element-write-ids : tie.Need-element-write-ids
-element-write-ids c =
-    let at-if2 = c .if2 in
-    let at-number = c .before .number in
-    let at-all-print3 = c .before .before .all-print3 in
-    let at-all-print2 = c .before .before .before .all-print2 in
-    let at-all-print = c .before .before .before .before .all-print in
-    let at-is-unsized2 = c .before .before .before .before .before .is-unsized2 in
-    let at-is-unsized = c .before .before .before .before .before .before .is-unsized in
-    let at-find = c .before .before .before .before .before .before .before .find in
-    let at-hash = c .before .before .before .before .before .before .before .before .before .before .hash in
-    let at-holder-of = c .before .before .before .before .before .before .before .before .before .before .before .holder-of in
-    let at-if1 = c .before .before .before .before .before .before .before .before .before .before .before .before .before .before .before .before .before .before .before .if1 in
-    let at-is-out-of-order = c .before .before .before .before .before .before .before .before .before .before .before .before .before .before .before .before .before .before .before .before .is-out-of-order in
-    let at-r = c .before .before .before .before .before .before .before .before .before .before .before .before .before .before .before .before .before .before .before .before .before .before .r in
-    let at-read-rule = c .before .before .before .before .before .before .before .before .before .before .before .before .before .before .before .before .before .before .before .before .before .before .before .before .read-rule in
-    let at-start = c .before .before .before .before .before .before .before .before .before .before .before .before .before .before .before .before .before .before .before .before .before .before .before .before .before .before .before in
-    rule-room _ (at-start .pre .0) _ (at-read-rule .ensures) _ _ _ _ (at-r .given .1) _ _ (at-is-out-of-order .ensures) (at-if1 .left) (at-start .args .old .now) (at-start .args .groups .now) _ (at-start .args .ids .now) (at-start .args .keys .now) _ (at-start .pre .1 .0 .0) (at-start .pre .1 .1 .2) (at-start .pre .1 .1 .1) _ _ _ _ _ _ _ _ _ (at-is-unsized .ensures) (at-is-unsized2 .ensures) (at-all-print .ensures) (at-all-print2 .ensures) (at-all-print3 .ensures) (at-holder-of .ensures) (at-hash .ensures) (at-find .ensures) (at-number .ensures) (at-if2 .left)
-
-add-starts : tie.Need-add-starts
-add-starts c =
-    let at-r = c .before .before .before .before .before .before .before .before .before .before .before .before .before .before .before .before .before .before .before .before .before .before .r in
-    let at-read-rule = c .before .before .before .before .before .before .before .before .before .before .before .before .before .before .before .before .before .before .before .before .before .before .before .before .read-rule in
-    let at-start = c .before .before .before .before .before .before .before .before .before .before .before .before .before .before .before .before .before .before .before .before .before .before .before .before .before .before .before in
-    let h = rule-long _ (at-start .pre .0) _ (at-read-rule .ensures) _ _ _ _ (at-r .given .1) in omega (arith, h .0, h .1, h .2, h .3, at-start .pre .1 .0 .0)
-
-cast-starts : tie.Need-cast-starts
-cast-starts c =
-    let at-r = c .before .before .before .before .before .before .before .before .before .before .before .before .before .before .before .before .before .before .before .before .before .before .r in
-    let at-read-rule = c .before .before .before .before .before .before .before .before .before .before .before .before .before .before .before .before .before .before .before .before .before .before .before .before .read-rule in
-    let at-start = c .before .before .before .before .before .before .before .before .before .before .before .before .before .before .before .before .before .before .before .before .before .before .before .before .before .before .before in
-    let h = rule-long _ (at-start .pre .0) _ (at-read-rule .ensures) _ _ _ _ (at-r .given .1) in omega (arith, h .0, h .1, h .2, h .3, at-start .pre .1 .0 .0)
-
-mul-starts : tie.Need-mul-starts
-mul-starts c =
-    let at-if2 = c .if2 in
-    let at-number = c .before .number in
-    let at-all-print3 = c .before .before .all-print3 in
-    let at-all-print2 = c .before .before .before .all-print2 in
-    let at-all-print = c .before .before .before .before .all-print in
-    let at-is-unsized2 = c .before .before .before .before .before .is-unsized2 in
-    let at-is-unsized = c .before .before .before .before .before .before .is-unsized in
-    let at-find = c .before .before .before .before .before .before .before .find in
-    let at-hash = c .before .before .before .before .before .before .before .before .before .before .hash in
-    let at-holder-of = c .before .before .before .before .before .before .before .before .before .before .before .holder-of in
-    let at-if1 = c .before .before .before .before .before .before .before .before .before .before .before .before .before .before .before .before .before .before .before .if1 in
-    let at-is-out-of-order = c .before .before .before .before .before .before .before .before .before .before .before .before .before .before .before .before .before .before .before .before .is-out-of-order in
-    let at-r = c .before .before .before .before .before .before .before .before .before .before .before .before .before .before .before .before .before .before .before .before .before .before .r in
-    let at-read-rule = c .before .before .before .before .before .before .before .before .before .before .before .before .before .before .before .before .before .before .before .before .before .before .before .before .read-rule in
-    let at-start = c .before .before .before .before .before .before .before .before .before .before .before .before .before .before .before .before .before .before .before .before .before .before .before .before .before .before .before in
-    let h = rule-room _ (at-start .pre .0) _ (at-read-rule .ensures) _ _ _ _ (at-r .given .1) _ _ (at-is-out-of-order .ensures) (at-if1 .left) (at-start .args .old .now) (at-start .args .groups .now) _ (at-start .args .ids .now) (at-start .args .keys .now) _ (at-start .pre .1 .0 .0) (at-start .pre .1 .1 .2) (at-start .pre .1 .1 .1) _ _ _ _ _ _ _ _ _ (at-is-unsized .ensures) (at-is-unsized2 .ensures) (at-all-print .ensures) (at-all-print2 .ensures) (at-all-print3 .ensures) (at-holder-of .ensures) (at-hash .ensures) (at-find .ensures) (at-number .ensures) (at-if2 .left) in omega arith
-
-element-write-starts : tie.Need-element-write-starts
-element-write-starts c =
-    let at-if2 = c .if2 in
-    let at-number = c .before .number in
-    let at-all-print3 = c .before .before .all-print3 in
-    let at-all-print2 = c .before .before .before .all-print2 in
-    let at-all-print = c .before .before .before .before .all-print in
-    let at-is-unsized2 = c .before .before .before .before .before .is-unsized2 in
-    let at-is-unsized = c .before .before .before .before .before .before .is-unsized in
-    let at-find = c .before .before .before .before .before .before .before .find in
-    let at-hash = c .before .before .before .before .before .before .before .before .before .before .hash in
-    let at-holder-of = c .before .before .before .before .before .before .before .before .before .before .before .holder-of in
-    let at-if1 = c .before .before .before .before .before .before .before .before .before .before .before .before .before .before .before .before .before .before .before .if1 in
-    let at-is-out-of-order = c .before .before .before .before .before .before .before .before .before .before .before .before .before .before .before .before .before .before .before .before .is-out-of-order in
-    let at-r = c .before .before .before .before .before .before .before .before .before .before .before .before .before .before .before .before .before .before .before .before .before .before .r in
-    let at-read-rule = c .before .before .before .before .before .before .before .before .before .before .before .before .before .before .before .before .before .before .before .before .before .before .before .before .read-rule in
-    let at-start = c .before .before .before .before .before .before .before .before .before .before .before .before .before .before .before .before .before .before .before .before .before .before .before .before .before .before .before in
-    rule-room _ (at-start .pre .0) _ (at-read-rule .ensures) _ _ _ _ (at-r .given .1) _ _ (at-is-out-of-order .ensures) (at-if1 .left) (at-start .args .old .now) (at-start .args .groups .now) _ (at-start .args .ids .now) (at-start .args .keys .now) _ (at-start .pre .1 .0 .0) (at-start .pre .1 .1 .2) (at-start .pre .1 .1 .1) _ _ _ _ _ _ _ _ _ (at-is-unsized .ensures) (at-is-unsized2 .ensures) (at-all-print .ensures) (at-all-print2 .ensures) (at-all-print3 .ensures) (at-holder-of .ensures) (at-hash .ensures) (at-find .ensures) (at-number .ensures) (at-if2 .left)
-
-cast-holders : tie.Need-cast-holders
-cast-holders c =
-    let at-holder-of = c .before .before .before .before .before .before .before .before .before .before .before .holder-of in
-    let at-start = c .before .before .before .before .before .before .before .before .before .before .before .before .before .before .before .before .before .before .before .before .before .before .before .before .before .before .before in
-    let h = holder-small _ _ _ _ _ _ (at-holder-of .ensures) in omega (arith, h, at-start .pre .1 .0 .2)
-
-element-write-holders : tie.Need-element-write-holders
-element-write-holders c =
-    let at-if2 = c .if2 in
-    let at-number = c .before .number in
-    let at-all-print3 = c .before .before .all-print3 in
-    let at-all-print2 = c .before .before .before .all-print2 in
-    let at-all-print = c .before .before .before .before .all-print in
-    let at-is-unsized2 = c .before .before .before .before .before .is-unsized2 in
-    let at-is-unsized = c .before .before .before .before .before .before .is-unsized in
-    let at-find = c .before .before .before .before .before .before .before .find in
-    let at-hash = c .before .before .before .before .before .before .before .before .before .before .hash in
-    let at-holder-of = c .before .before .before .before .before .before .before .before .before .before .before .holder-of in
-    let at-if1 = c .before .before .before .before .before .before .before .before .before .before .before .before .before .before .before .before .before .before .before .if1 in
-    let at-is-out-of-order = c .before .before .before .before .before .before .before .before .before .before .before .before .before .before .before .before .before .before .before .before .is-out-of-order in
-    let at-r = c .before .before .before .before .before .before .before .before .before .before .before .before .before .before .before .before .before .before .before .before .before .before .r in
-    let at-read-rule = c .before .before .before .before .before .before .before .before .before .before .before .before .before .before .before .before .before .before .before .before .before .before .before .before .read-rule in
-    let at-start = c .before .before .before .before .before .before .before .before .before .before .before .before .before .before .before .before .before .before .before .before .before .before .before .before .before .before .before in
-    rule-room _ (at-start .pre .0) _ (at-read-rule .ensures) _ _ _ _ (at-r .given .1) _ _ (at-is-out-of-order .ensures) (at-if1 .left) (at-start .args .old .now) (at-start .args .groups .now) _ (at-start .args .ids .now) (at-start .args .keys .now) _ (at-start .pre .1 .0 .0) (at-start .pre .1 .1 .2) (at-start .pre .1 .1 .1) _ _ _ _ _ _ _ _ _ (at-is-unsized .ensures) (at-is-unsized2 .ensures) (at-all-print .ensures) (at-all-print2 .ensures) (at-all-print3 .ensures) (at-holder-of .ensures) (at-hash .ensures) (at-find .ensures) (at-number .ensures) (at-if2 .left)
+store-requires : tie.Need-store-requires
+store-requires c κs =
+    let at-if2 = c .before .before .before .if2 in
+    let at-number = c .before .before .before .before .number in
+    let at-all-print3 = c .before .before .before .before .before .all-print3 in
+    let at-all-print2 = c .before .before .before .before .before .before .all-print2 in
+    let at-all-print = c .before .before .before .before .before .before .before .all-print in
+    let at-is-unsized2 = c .before .before .before .before .before .before .before .before .is-unsized2 in
+    let at-is-unsized = c .before .before .before .before .before .before .before .before .before .is-unsized in
+    let at-find = c .before .before .before .before .before .before .before .before .before .before .find in
+    let at-hash = c .before .before .before .before .before .before .before .before .before .before .before .before .before .hash in
+    let at-holder-of = c .before .before .before .before .before .before .before .before .before .before .before .before .before .before .holder-of in
+    let at-if1 = c .before .before .before .before .before .before .before .before .before .before .before .before .before .before .before .before .before .before .before .before .before .before .if1 in
+    let at-is-out-of-order = c .before .before .before .before .before .before .before .before .before .before .before .before .before .before .before .before .before .before .before .before .before .before .before .is-out-of-order in
+    let at-r = c .before .before .before .before .before .before .before .before .before .before .before .before .before .before .before .before .before .before .before .before .before .before .before .before .before .r in
+    let at-read-rule = c .before .before .before .before .before .before .before .before .before .before .before .before .before .before .before .before .before .before .before .before .before .before .before .before .before .before .before .read-rule in
+    let at-start = c .before .before .before .before .before .before .before .before .before .before .before .before .before .before .before .before .before .before .before .before .before .before .before .before .before .before .before .before .before .before in
+    let h = rule-long _ (at-start .pre .0) _ (at-read-rule .ensures) _ _ _ _ (at-r .given .1) in ((rule-ready _ (at-start .pre .0) _ (at-read-rule .ensures) _ _ _ _ (at-r .given .1) _ _ (at-is-out-of-order .ensures) (at-if1 .left) (at-start .args .old .now) (at-start .args .groups .now) _ (at-start .args .ids .now) (at-start .args .keys .now) _ (at-start .pre .1 .0 .0) (at-start .pre .1 .1 .2) (at-start .pre .1 .1 .1) _ _ _ _ _ _ _ _ _ (at-is-unsized .ensures) (at-is-unsized2 .ensures) (at-all-print .ensures) (at-all-print2 .ensures) (at-all-print3 .ensures) (at-holder-of .ensures) (at-hash .ensures) (at-find .ensures) (at-number .ensures) (at-if2 .left)) .3, omega (arith, h .0, h .1, h .2, h .3, at-start .pre .1 .0 .0), omega (arith, h .0, h .1, h .2, h .3, at-start .pre .1 .0 .0), omega (arith, holder-small _ _ _ _ _ _ (at-holder-of .ensures), at-start .pre .1 .0 .2))
 
 add-begin : tie.Need-add-begin
 add-begin c =
-    let at-r = c .before .before .before .before .before .before .before .before .before .before .before .before .before .before .before .before .before .before .before .before .before .before .r in
-    let at-read-rule = c .before .before .before .before .before .before .before .before .before .before .before .before .before .before .before .before .before .before .before .before .before .before .before .before .read-rule in
-    let at-start = c .before .before .before .before .before .before .before .before .before .before .before .before .before .before .before .before .before .before .before .before .before .before .before .before .before .before .before in
+    let at-r = c .before .before .before .before .before .before .before .before .before .before .before .before .before .before .before .before .before .before .before .before .before .before .before .before .before .before .r in
+    let at-read-rule = c .before .before .before .before .before .before .before .before .before .before .before .before .before .before .before .before .before .before .before .before .before .before .before .before .before .before .before .before .read-rule in
+    let at-start = c .before .before .before .before .before .before .before .before .before .before .before .before .before .before .before .before .before .before .before .before .before .before .before .before .before .before .before .before .before .before .before in
     let h = rule-long _ (at-start .pre .0) _ (at-read-rule .ensures) _ _ _ _ (at-r .given .1) in omega (arith, h .0, h .1, h .2, h .3, at-start .pre .1 .0 .0)
 
 add-to : tie.Need-add-to
 add-to c =
-    let at-r = c .before .before .before .before .before .before .before .before .before .before .before .before .before .before .before .before .before .before .before .before .before .before .r in
-    let at-read-rule = c .before .before .before .before .before .before .before .before .before .before .before .before .before .before .before .before .before .before .before .before .before .before .before .before .read-rule in
-    let at-start = c .before .before .before .before .before .before .before .before .before .before .before .before .before .before .before .before .before .before .before .before .before .before .before .before .before .before .before in
+    let at-r = c .before .before .before .before .before .before .before .before .before .before .before .before .before .before .before .before .before .before .before .before .before .before .before .before .before .before .r in
+    let at-read-rule = c .before .before .before .before .before .before .before .before .before .before .before .before .before .before .before .before .before .before .before .before .before .before .before .before .before .before .before .before .read-rule in
+    let at-start = c .before .before .before .before .before .before .before .before .before .before .before .before .before .before .before .before .before .before .before .before .before .before .before .before .before .before .before .before .before .before .before in
     let h = rule-long _ (at-start .pre .0) _ (at-read-rule .ensures) _ _ _ _ (at-r .given .1) in omega (arith, h .0, h .1, h .2, h .3, at-start .pre .1 .0 .0)
 
 add-requires : tie.Need-add-requires
 add-requires c κs =
-    let at-if2 = c .before .if2 in
-    let at-number = c .before .before .number in
-    let at-all-print3 = c .before .before .before .all-print3 in
-    let at-all-print2 = c .before .before .before .before .all-print2 in
-    let at-all-print = c .before .before .before .before .before .all-print in
-    let at-is-unsized2 = c .before .before .before .before .before .before .is-unsized2 in
-    let at-is-unsized = c .before .before .before .before .before .before .before .is-unsized in
-    let at-find = c .before .before .before .before .before .before .before .before .find in
-    let at-hash = c .before .before .before .before .before .before .before .before .before .before .before .hash in
-    let at-holder-of = c .before .before .before .before .before .before .before .before .before .before .before .before .holder-of in
-    let at-if1 = c .before .before .before .before .before .before .before .before .before .before .before .before .before .before .before .before .before .before .before .before .if1 in
-    let at-is-out-of-order = c .before .before .before .before .before .before .before .before .before .before .before .before .before .before .before .before .before .before .before .before .before .is-out-of-order in
-    let at-r = c .before .before .before .before .before .before .before .before .before .before .before .before .before .before .before .before .before .before .before .before .before .before .before .r in
-    let at-read-rule = c .before .before .before .before .before .before .before .before .before .before .before .before .before .before .before .before .before .before .before .before .before .before .before .before .before .read-rule in
-    let at-start = c .before .before .before .before .before .before .before .before .before .before .before .before .before .before .before .before .before .before .before .before .before .before .before .before .before .before .before .before in
-    let h = rule-long _ (at-start .pre .0) _ (at-read-rule .ensures) _ _ _ _ (at-r .given .1) in (id-fits _ (at-start .pre .0) _ (at-read-rule .ensures) _ _ _ _ (at-r .given .1) _ _ (at-is-out-of-order .ensures) (at-if1 .left) (at-start .args .old .now) (at-start .args .groups .now) _ (at-start .args .ids .now) (at-start .args .keys .now) _ (at-start .pre .1 .0 .0) (at-start .pre .1 .1 .2) (at-start .pre .1 .1 .1) _ _ _ _ _ _ _ _ _ (at-is-unsized .ensures) (at-is-unsized2 .ensures) (at-all-print .ensures) (at-all-print2 .ensures) (at-all-print3 .ensures) (at-holder-of .ensures) (at-hash .ensures) (at-find .ensures) (at-number .ensures), id-sorted-room _ (at-start .pre .0) _ (at-read-rule .ensures) _ _ _ _ (at-r .given .1) _ _ (at-is-out-of-order .ensures) (at-if1 .left) (at-start .args .old .now) (at-start .args .groups .now) _ (at-start .args .ids .now) (at-start .args .keys .now) _ (at-start .pre .1 .0 .0) (at-start .pre .1 .1 .2) (at-start .pre .1 .1 .1) _ _ _ _ _ _ _ _ _ (at-is-unsized .ensures) (at-is-unsized2 .ensures) (at-all-print .ensures) (at-all-print2 .ensures) (at-all-print3 .ensures) (at-holder-of .ensures) (at-hash .ensures) (at-find .ensures) (at-number .ensures) (at-if2 .left), omega arith, omega arith, id-spot-fits _ (at-start .pre .0) _ (at-read-rule .ensures) _ _ _ _ (at-r .given .1) _ _ (at-is-out-of-order .ensures) (at-if1 .left) (at-start .args .old .now) (at-start .args .groups .now) _ (at-start .args .ids .now) (at-start .args .keys .now) _ (at-start .pre .1 .0 .0) (at-start .pre .1 .1 .2) (at-start .pre .1 .1 .1) _ _ _ _ _ _ _ _ _ (at-is-unsized .ensures) (at-is-unsized2 .ensures) (at-all-print .ensures) (at-all-print2 .ensures) (at-all-print3 .ensures) (at-holder-of .ensures) (at-hash .ensures) (at-find .ensures) (at-number .ensures), omega (arith, h .0, h .1, h .2, h .3, at-start .pre .1 .0 .0), omega (arith, h .0, h .1, h .2, h .3, at-start .pre .1 .0 .0))
+    let at-if2 = c .before .before .before .before .before .if2 in
+    let at-number = c .before .before .before .before .before .before .number in
+    let at-all-print3 = c .before .before .before .before .before .before .before .all-print3 in
+    let at-all-print2 = c .before .before .before .before .before .before .before .before .all-print2 in
+    let at-all-print = c .before .before .before .before .before .before .before .before .before .all-print in
+    let at-is-unsized2 = c .before .before .before .before .before .before .before .before .before .before .is-unsized2 in
+    let at-is-unsized = c .before .before .before .before .before .before .before .before .before .before .before .is-unsized in
+    let at-find = c .before .before .before .before .before .before .before .before .before .before .before .before .find in
+    let at-hash = c .before .before .before .before .before .before .before .before .before .before .before .before .before .before .before .hash in
+    let at-holder-of = c .before .before .before .before .before .before .before .before .before .before .before .before .before .before .before .before .holder-of in
+    let at-if1 = c .before .before .before .before .before .before .before .before .before .before .before .before .before .before .before .before .before .before .before .before .before .before .before .before .if1 in
+    let at-is-out-of-order = c .before .before .before .before .before .before .before .before .before .before .before .before .before .before .before .before .before .before .before .before .before .before .before .before .before .is-out-of-order in
+    let at-r = c .before .before .before .before .before .before .before .before .before .before .before .before .before .before .before .before .before .before .before .before .before .before .before .before .before .before .before .r in
+    let at-read-rule = c .before .before .before .before .before .before .before .before .before .before .before .before .before .before .before .before .before .before .before .before .before .before .before .before .before .before .before .before .before .read-rule in
+    let at-start = c .before .before .before .before .before .before .before .before .before .before .before .before .before .before .before .before .before .before .before .before .before .before .before .before .before .before .before .before .before .before .before .before in
+    let h = rule-long _ (at-start .pre .0) _ (at-read-rule .ensures) _ _ _ _ (at-r .given .1) in let k = rule-ready _ (at-start .pre .0) _ (at-read-rule .ensures) _ _ _ _ (at-r .given .1) _ _ (at-is-out-of-order .ensures) (at-if1 .left) (at-start .args .old .now) (at-start .args .groups .now) _ (at-start .args .ids .now) (at-start .args .keys .now) _ (at-start .pre .1 .0 .0) (at-start .pre .1 .1 .2) (at-start .pre .1 .1 .1) _ _ _ _ _ _ _ _ _ (at-is-unsized .ensures) (at-is-unsized2 .ensures) (at-all-print .ensures) (at-all-print2 .ensures) (at-all-print3 .ensures) (at-holder-of .ensures) (at-hash .ensures) (at-find .ensures) (at-number .ensures) (at-if2 .left) in (k .0, k .1, omega arith, omega arith, k .2, omega (arith, h .0, h .1, h .2, h .3, at-start .pre .1 .0 .0), omega (arith, h .0, h .1, h .2, h .3, at-start .pre .1 .0 .0))
 
 returns-4 : tie.Need-returns-4
 returns-4 c =
     let at-add = c .add in
-    let at-if2 = c .before .before .if2 in
-    let at-number = c .before .before .before .number in
-    let at-all-print3 = c .before .before .before .before .all-print3 in
-    let at-all-print2 = c .before .before .before .before .before .all-print2 in
-    let at-all-print = c .before .before .before .before .before .before .all-print in
-    let at-is-unsized2 = c .before .before .before .before .before .before .before .is-unsized2 in
-    let at-is-unsized = c .before .before .before .before .before .before .before .before .is-unsized in
-    let at-find = c .before .before .before .before .before .before .before .before .before .find in
-    let at-hash = c .before .before .before .before .before .before .before .before .before .before .before .before .hash in
-    let at-holder-of = c .before .before .before .before .before .before .before .before .before .before .before .before .before .holder-of in
-    let at-if1 = c .before .before .before .before .before .before .before .before .before .before .before .before .before .before .before .before .before .before .before .before .before .if1 in
-    let at-is-out-of-order = c .before .before .before .before .before .before .before .before .before .before .before .before .before .before .before .before .before .before .before .before .before .before .is-out-of-order in
-    let at-r = c .before .before .before .before .before .before .before .before .before .before .before .before .before .before .before .before .before .before .before .before .before .before .before .before .r in
-    let at-read-rule = c .before .before .before .before .before .before .before .before .before .before .before .before .before .before .before .before .before .before .before .before .before .before .before .before .before .before .read-rule in
-    let at-start = c .before .before .before .before .before .before .before .before .before .before .before .before .before .before .before .before .before .before .before .before .before .before .before .before .before .before .before .before .before in
-    (λ b w g d. sym (at-if2 .left) ∙ rule-graded _ (at-start .pre .0) _ (at-read-rule .ensures) _ _ _ _ (at-r .given .1) _ _ (at-is-out-of-order .ensures) (at-if1 .left) (at-start .args .old .now) (at-start .args .groups .now) _ (at-start .args .ids .now) (at-start .args .keys .now) _ (at-start .pre .1 .0 .0) (at-start .pre .1 .1 .2) (at-start .pre .1 .1 .1) _ _ _ _ _ _ _ _ _ (at-is-unsized .ensures) (at-is-unsized2 .ensures) (at-all-print .ensures) (at-all-print2 .ensures) (at-all-print3 .ensures) (at-holder-of .ensures) (at-hash .ensures) (at-find .ensures) (at-number .ensures) b w g d, λ x. rule-kept _ (at-start .pre .0) _ (at-read-rule .ensures) _ _ _ _ (at-r .given .1) _ _ (at-is-out-of-order .ensures) (at-if1 .left) (at-start .args .old .now) (at-start .args .groups .now) _ (at-start .args .ids .now) (at-start .args .keys .now) _ (at-start .pre .1 .0 .0) (at-start .pre .1 .1 .2) (at-start .pre .1 .1 .1) _ _ _ _ _ _ _ _ _ (at-is-unsized .ensures) (at-is-unsized2 .ensures) (at-all-print .ensures) (at-all-print2 .ensures) (at-all-print3 .ensures) (at-holder-of .ensures) (at-hash .ensures) (at-find .ensures) (at-number .ensures) (at-if2 .left) _ _ _ (at-add .ensures))
+    let at-store = c .before .before .store in
+    let at-if2 = c .before .before .before .before .before .before .if2 in
+    let at-number = c .before .before .before .before .before .before .before .number in
+    let at-all-print3 = c .before .before .before .before .before .before .before .before .all-print3 in
+    let at-all-print2 = c .before .before .before .before .before .before .before .before .before .all-print2 in
+    let at-all-print = c .before .before .before .before .before .before .before .before .before .before .all-print in
+    let at-is-unsized2 = c .before .before .before .before .before .before .before .before .before .before .before .is-unsized2 in
+    let at-is-unsized = c .before .before .before .before .before .before .before .before .before .before .before .before .is-unsized in
+    let at-find = c .before .before .before .before .before .before .before .before .before .before .before .before .before .find in
+    let at-hash = c .before .before .before .before .before .before .before .before .before .before .before .before .before .before .before .before .hash in
+    let at-holder-of = c .before .before .before .before .before .before .before .before .before .before .before .before .before .before .before .before .before .holder-of in
+    let at-if1 = c .before .before .before .before .before .before .before .before .before .before .before .before .before .before .before .before .before .before .before .before .before .before .before .before .before .if1 in
+    let at-is-out-of-order = c .before .before .before .before .before .before .before .before .before .before .before .before .before .before .before .before .before .before .before .before .before .before .before .before .before .before .is-out-of-order in
+    let at-r = c .before .before .before .before .before .before .before .before .before .before .before .before .before .before .before .before .before .before .before .before .before .before .before .before .before .before .before .before .r in
+    let at-read-rule = c .before .before .before .before .before .before .before .before .before .before .before .before .before .before .before .before .before .before .before .before .before .before .before .before .before .before .before .before .before .before .read-rule in
+    let at-start = c .before .before .before .before .before .before .before .before .before .before .before .before .before .before .before .before .before .before .before .before .before .before .before .before .before .before .before .before .before .before .before .before .before in
+    (λ b w g d. sym (at-if2 .left) ∙ rule-graded _ (at-start .pre .0) _ (at-read-rule .ensures) _ _ _ _ (at-r .given .1) _ _ (at-is-out-of-order .ensures) (at-if1 .left) (at-start .args .old .now) (at-start .args .groups .now) _ (at-start .args .ids .now) (at-start .args .keys .now) _ (at-start .pre .1 .0 .0) (at-start .pre .1 .1 .2) (at-start .pre .1 .1 .1) _ _ _ _ _ _ _ _ _ (at-is-unsized .ensures) (at-is-unsized2 .ensures) (at-all-print .ensures) (at-all-print2 .ensures) (at-all-print3 .ensures) (at-holder-of .ensures) (at-hash .ensures) (at-find .ensures) (at-number .ensures) b w g d, λ x. rule-kept _ (at-start .pre .0) _ (at-read-rule .ensures) _ _ _ _ (at-r .given .1) _ _ (at-is-out-of-order .ensures) (at-if1 .left) (at-start .args .old .now) (at-start .args .groups .now) _ (at-start .args .ids .now) (at-start .args .keys .now) _ (at-start .pre .1 .0 .0) (at-start .pre .1 .1 .2) (at-start .pre .1 .1 .1) _ _ _ _ _ _ _ _ _ (at-is-unsized .ensures) (at-is-unsized2 .ensures) (at-all-print .ensures) (at-all-print2 .ensures) (at-all-print3 .ensures) (at-holder-of .ensures) (at-hash .ensures) (at-find .ensures) (at-number .ensures) (at-if2 .left) _ _ _ _ _ _ (at-store .ensures) (at-add .ensures))
 
 pub take-rule-spec : {M : Type 1} → statement M
 take-rule-spec =
@@ -386,16 +290,9 @@ take-rule-spec =
     all-print-requires-3
     number-requires
     returns-3
-    add-ids
-    cast-ids
-    mul-ids
-    element-write-ids
-    add-starts
-    cast-starts
-    mul-starts
-    element-write-starts
-    cast-holders
-    element-write-holders
+    add-store
+    add-store-2
+    store-requires
     add-begin
     add-to
     add-requires

@@ -66,23 +66,23 @@ cast-n c =
     let at-str-end3 = c .before .before .before .str-end3 in
     omega (arith, at-shared-slice-known5 .given (at-str-end3 .result))
 
-add-keys-met : tie.Need-add-keys-met
-add-keys-met c =
+add-keys-pass : tie.Need-add-keys-pass
+add-keys-pass c =
     let at-start = c .before .before .before .before .before .before .before .before .before .before in
     let e = elem-room (at-start .args .f .now) (at-start .args .s) (at-start .pre .0) in omega arith
 
-add-keys-met-2 : tie.Need-add-keys-met-2
-add-keys-met-2 c =
+add-keys-pass-2 : tie.Need-add-keys-pass-2
+add-keys-pass-2 c =
     let at-start = c .before .before .before .before .before .before .before .before .before .before in
     let e = elem-room (at-start .args .f .now) (at-start .args .r) (at-start .pre .1) in omega arith
 
-add-keys-met-3 : tie.Need-add-keys-met-3
-add-keys-met-3 c =
+add-keys-pass-3 : tie.Need-add-keys-pass-3
+add-keys-pass-3 c =
     let at-start = c .before .before .before .before .before .before .before .before .before .before in
     let e = elem-room (at-start .args .g .now) (at-start .args .p) (at-start .pre .2) in omega arith
 
-keys-met-requires : tie.Need-keys-met-requires
-keys-met-requires c κs =
+keys-pass-requires : tie.Need-keys-pass-requires
+keys-pass-requires c κs =
     let at-str-end3 = c .before .before .before .str-end3 in
     let at-str-end2 = c .before .before .before .before .str-end2 in
     let at-str-end = c .before .before .before .before .before .str-end in
@@ -91,13 +91,13 @@ keys-met-requires c κs =
 
 returns-2 : tie.Need-returns-2
 returns-2 c =
-    let at-keys-met = c .keys-met in
+    let at-keys-pass = c .keys-pass in
     let at-str-end3 = c .before .before .before .before .str-end3 in
     let at-str-end2 = c .before .before .before .before .before .str-end2 in
     let at-str-end = c .before .before .before .before .before .before .str-end in
     let at-if1 = c .before .before .before .before .before .before .before .if1 in
     let at-same-at = c .before .before .before .before .before .before .before .before .same-at in
-    at-keys-met .ensures ∙ sym (both-keys _ _ _ _ _ (sym (at-same-at .ensures) ∙ not-false _ (at-if1 .left)) _ _ _ (at-str-end .ensures) (at-str-end2 .ensures) (at-str-end3 .ensures))
+    at-keys-pass .ensures ∙ sym (both-keys _ _ _ _ _ (sym (at-same-at .ensures) ∙ not-false _ (at-if1 .left)) _ _ _ (at-str-end .ensures) (at-str-end2 .ensures) (at-str-end3 .ensures))
 
 pub meets-both-spec : {M : Type 1} → statement M
 meets-both-spec =
@@ -114,8 +114,8 @@ meets-both-spec =
     cast-m
     shared-slice-read-n
     cast-n
-    add-keys-met
-    add-keys-met-2
-    add-keys-met-3
-    keys-met-requires
+    add-keys-pass
+    add-keys-pass-2
+    add-keys-pass-3
+    keys-pass-requires
     returns-2)

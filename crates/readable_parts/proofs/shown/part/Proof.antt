@@ -1,7 +1,7 @@
 -- `part` does what the letter says.
 use borrow.Author.Needs.{needs}
 use native.Mathlib.Omega.{arith}
-use Rattle.readable_parts.specs.Parts.{shown}
+use Rattle.readable_parts.specs.Parts.{shown, shownPath}
 use Rattle.readable_parts.proofs.Showing.{is-string, is-time, is-path, is-action, is-mode, is-subject, is-plain, put-as, plain-puts}
 use Rattle.readable_parts.proofs.shown.part.Statement.{statement}
 use Rattle.readable_parts.proofs.shown.part.Tie as tie
@@ -48,7 +48,7 @@ same-length-3 : tie.Need-same-length-3
 same-length-3 c = search needs
 
 returns-3 : tie.Need-returns-3
-unfolding shown
+unfolding shown shownPath
 returns-3 c =
     let at-path = c .before .before .path in
     let at-if3 = c .before .before .before .before .if3 in

@@ -3,39 +3,39 @@ use mathlib.Core.Path.{_≡_, refl, sym, _∙_}
 use Prim.Native.Nat.{_≤_}
 use lib.ListN.{length}
 use Rattle.text.specs.Test.{any}
-use Rattle.verdict.specs.Cover.{given}
-use Rattle.verdict.specs.Join.{clashes}
-use Rattle.place.specs.Place.{keysEnd, keysIn}
+use Rattle.path.specs.Path.{Key}
+use Rattle.place.specs.Place.{keyIn, keysEnd, keysIn}
 use Rattle.place.proofs.Cursor.{keys-room, keys-again}
+use Rattle.compare.specs.Compare.{answers}
 use Rattle.compare.proofs.Keys.{any-hit, any-miss, any-end}
-use Rattle.compare.proofs.key.keys_clash.Statement.{statement}
-use Rattle.compare.proofs.key.keys_clash.Tie as tie
+use Rattle.compare.proofs.key.any_answers.Statement.{statement}
+use Rattle.compare.proofs.key.any_answers.Tie as tie
 
 abbrev Inv-loop : tie.InvT-loop
-Inv-loop f r m g p n q₀ left₀ q left = (keysEnd left g q ≤ length g) × (any (clashes (given (keysIn m f r))) (given (keysIn n g p)) ≡ any (clashes (given (keysIn m f r))) (given (keysIn left g q)))
+Inv-loop cover g at n f p q₀ left₀ q left = (keysEnd left g q ≤ length g) × (any (λ (j : Key). answers cover j (keyIn f p)) (keysIn n g at) ≡ any (λ (j : Key). answers cover j (keyIn f p)) (keysIn left g q))
 
 abbrev μ-loop : tie.MeasureT-loop
-μ-loop f r m g p n q₀ left₀ q left = left
+μ-loop cover g at n f p q₀ left₀ q left = left
 
 loop-holds : tie.Need-loop-holds Inv-loop μ-loop
 loop-holds c =
     let at-start = c .before .before in
-    (at-start .pre .1, refl)
+    (at-start .pre .0, refl)
 
-key-opposed-requires : tie.Need-key-opposed-requires Inv-loop μ-loop
-key-opposed-requires c κs =
+answers-requires : tie.Need-answers-requires Inv-loop μ-loop
+answers-requires c κs =
     let at-loop-test = c .loop-test in
     let at-loop = c .before .loop in
     let at-start = c .before .before .before .before in
-    (at-start .pre .0, keys-room _ _ _ (at-loop-test .taken) (at-loop .inv .0) .1)
+    (keys-room _ _ _ (at-loop-test .taken) (at-loop .inv .0) .1, at-start .pre .1)
 
 returns : tie.Need-returns Inv-loop μ-loop
 returns c =
     let at-if1 = c .if1 in
-    let at-key-opposed = c .before .key-opposed in
+    let at-answers = c .before .answers in
     let at-loop-test = c .before .before .loop-test in
     let at-loop = c .before .before .before .loop in
-    sym (at-loop .inv .1 ∙ any-hit _ _ _ _ (at-loop-test .taken) (sym (at-key-opposed .ensures) ∙ at-if1 .taken))
+    sym (at-loop .inv .1 ∙ any-hit _ _ _ _ (at-loop-test .taken) (sym (at-answers .ensures) ∙ at-if1 .taken))
 
 key-end-requires : tie.Need-key-end-requires Inv-loop μ-loop
 key-end-requires c κs =
@@ -53,26 +53,25 @@ loop-again : tie.Need-loop-again Inv-loop μ-loop
 loop-again c =
     let at-key-end = c .key-end in
     let at-if1 = c .before .if1 in
-    let at-key-opposed = c .before .before .key-opposed in
+    let at-answers = c .before .before .answers in
     let at-loop-test = c .before .before .before .loop-test in
     let at-loop = c .before .before .before .before .loop in
-    (keys-again _ _ _ _ (at-loop-test .taken) (at-loop .inv .0) (at-key-end .ensures), at-loop .inv .1 ∙ any-miss _ _ _ _ (at-loop-test .taken) (sym (at-key-opposed .ensures) ∙ at-if1 .left) _ (at-key-end .ensures))
+    (keys-again _ _ _ _ (at-loop-test .taken) (at-loop .inv .0) (at-key-end .ensures), at-loop .inv .1 ∙ any-miss _ _ _ _ (at-loop-test .taken) (sym (at-answers .ensures) ∙ at-if1 .left) _ (at-key-end .ensures))
 
 returns-2 : tie.Need-returns-2 Inv-loop μ-loop
 returns-2 c =
     let at-loop-test = c .loop-test in
     let at-loop = c .before .loop in
-    let at-start = c .before .before .before .before in
-    sym (at-loop .inv .1 ∙ any-end _ (at-start .args .g .now) (at-loop .left) (at-loop .q) (at-loop-test .left))
+    sym (at-loop .inv .1 ∙ any-end _ _ _ (at-loop .q) (at-loop-test .left))
 
-pub keys-clash-spec : {M : Type 1} → statement M
-keys-clash-spec =
+pub any-answers-spec : {M : Type 1} → statement M
+any-answers-spec =
     tie.close
     (tie.spec
     Inv-loop
     μ-loop
     loop-holds
-    key-opposed-requires
+    answers-requires
     returns
     key-end-requires
     sub-left

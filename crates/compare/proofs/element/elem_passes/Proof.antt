@@ -3,9 +3,9 @@ use mathlib.Core.Path.{sym, _∙_}
 use Prim.Native.Nat.{zero-le}
 use borrow.Author.Tests.{not-true, not-false}
 use Rattle.place.proofs.Cursor.{keys-stop, elem-room}
-use Rattle.compare.proofs.Elems.{meets-name, meets-keys}
-use Rattle.compare.proofs.element.meets_at.Statement.{statement}
-use Rattle.compare.proofs.element.meets_at.Tie as tie
+use Rattle.compare.proofs.Elems.{elem-name, elem-keys}
+use Rattle.compare.proofs.element.elem_passes.Statement.{statement}
+use Rattle.compare.proofs.element.elem_passes.Tie as tie
 
 same-at-requires : tie.Need-same-at-requires
 same-at-requires c κs =
@@ -16,7 +16,8 @@ returns : tie.Need-returns
 returns c =
     let at-if1 = c .if1 in
     let at-same-at = c .before .same-at in
-    sym (meets-name _ _ _ _ (sym (at-same-at .ensures) ∙ not-true _ (at-if1 .taken)))
+    let at-start = c .before .before .before .before in
+    sym (elem-name _ _ _ _ (at-start .args .cover) (sym (at-same-at .ensures) ∙ not-true _ (at-if1 .taken)))
 
 str-end-requires : tie.Need-str-end-requires
 str-end-requires c κs =
@@ -50,18 +51,18 @@ cast-n c =
     let at-str-end2 = c .before .before .str-end2 in
     omega (arith, at-shared-slice-known4 .given (at-str-end2 .result))
 
-add-keys-met : tie.Need-add-keys-met
-add-keys-met c =
+add-keys-pass : tie.Need-add-keys-pass
+add-keys-pass c =
     let at-start = c .before .before .before .before .before .before .before .before in
     let e = elem-room (at-start .args .f .now) (at-start .args .s) (at-start .pre .0) in omega arith
 
-add-keys-met-2 : tie.Need-add-keys-met-2
-add-keys-met-2 c =
+add-keys-pass-2 : tie.Need-add-keys-pass-2
+add-keys-pass-2 c =
     let at-start = c .before .before .before .before .before .before .before .before in
     let e = elem-room (at-start .args .g .now) (at-start .args .p) (at-start .pre .1) in omega arith
 
-keys-met-requires : tie.Need-keys-met-requires
-keys-met-requires c κs =
+keys-pass-requires : tie.Need-keys-pass-requires
+keys-pass-requires c κs =
     let at-str-end2 = c .before .before .str-end2 in
     let at-str-end = c .before .before .before .str-end in
     let at-start = c .before .before .before .before .before .before .before .before in
@@ -69,15 +70,16 @@ keys-met-requires c κs =
 
 returns-2 : tie.Need-returns-2
 returns-2 c =
-    let at-keys-met = c .keys-met in
+    let at-keys-pass = c .keys-pass in
     let at-str-end2 = c .before .before .before .str-end2 in
     let at-str-end = c .before .before .before .before .str-end in
     let at-if1 = c .before .before .before .before .before .if1 in
     let at-same-at = c .before .before .before .before .before .before .same-at in
-    at-keys-met .ensures ∙ sym (meets-keys _ _ _ _ (sym (at-same-at .ensures) ∙ not-false _ (at-if1 .left)) _ _ (at-str-end .ensures) (at-str-end2 .ensures))
+    let at-start = c .before .before .before .before .before .before .before .before .before in
+    at-keys-pass .ensures ∙ sym (elem-keys _ _ _ _ (at-start .args .cover) (sym (at-same-at .ensures) ∙ not-false _ (at-if1 .left)) _ _ (at-str-end .ensures) (at-str-end2 .ensures))
 
-pub meets-at-spec : {M : Type 1} → statement M
-meets-at-spec =
+pub elem-passes-spec : {M : Type 1} → statement M
+elem-passes-spec =
     tie.close
     (tie.spec
     same-at-requires
@@ -88,7 +90,7 @@ meets-at-spec =
     cast-k
     shared-slice-read-n
     cast-n
-    add-keys-met
-    add-keys-met-2
-    keys-met-requires
+    add-keys-pass
+    add-keys-pass-2
+    keys-pass-requires
     returns-2)
