@@ -65,6 +65,19 @@ misused path write zz
 misused rpc $policy ''
 misused rotate no-such-step "$work/record" "$work/store"
 misused rotate new "$work/record" "$work/store" neither
+for command in verdict tree explain; do
+    misused $command $table ann neither '' /
+done
+misused rpc - '' / -
+answer help
+answer --help
+answer -h
+
+# Where the answer cannot be written.
+if [ -w /dev/full ]; then
+    burgee table $table >/dev/full 2>"$work/complaint"
+    [ $? -eq 2 ] && [ -s "$work/complaint" ] || fail "table: an answer that cannot be written"
+fi
 
 for command in table show pack policy; do
     complaint $command "$work/none"
@@ -103,6 +116,8 @@ for step in "start" "upload $policy" "rpc ann /"; do
     refused rotate "${words[0]}" "$work/record" "$work/store" "${words[@]:1}"
     same "rotate $step"
 done
+answer rotate show "$work/record" "$work/store"
+same rotate show
 complaint rotate new "$work/record" "$work/store" table
 same rotate new
 complaint rotate upload "$work/record" "$work/store" "$work/none"

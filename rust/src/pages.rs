@@ -1,4 +1,4 @@
-//! Memory between two pages that can be neither read nor written.
+//! Memory between two pages that can be neither read nor written, and memory longer than there is.
 
 use std::cell::RefCell;
 use std::ffi::{c_int, c_void};
@@ -13,6 +13,7 @@ extern "C" {
 }
 
 const NO_ACCESS: c_int = 0;
+const READ: c_int = 1;
 const READ_AND_WRITE: c_int = 1 | 2;
 const PRIVATE_AND_ANONYMOUS: c_int = 0x02 | 0x20;
 const PAGE: usize = 4096;
@@ -86,6 +87,22 @@ impl Drop for Mapping {
         // SAFETY: exactly what was mapped; nothing refers to it any more.
         unsafe { munmap(self.base, self.len + 2 * PAGE) };
     }
+}
+
+/// How much of long memory can be stored to.
+const WRITABLE: usize = 65_536;
+
+/// These bytes, and zeros up to this length, behind which no memory stands. It is never given back.
+pub fn long(bytes: &[u8], len: usize) -> &'static mut [u8] {
+    // SAFETY: new memory, which can be read, and stored to at its start.
+    let long = unsafe {
+        let start = mmap(null_mut(), len.max(WRITABLE), READ, PRIVATE_AND_ANONYMOUS, -1, 0);
+        assert_ne!(start as isize, -1, "no memory");
+        assert_eq!(mprotect(start, WRITABLE, READ_AND_WRITE), 0, "memory that can't be opened");
+        slice::from_raw_parts_mut(start.cast::<u8>(), len)
+    };
+    long[..bytes.len()].copy_from_slice(bytes);
+    long
 }
 
 #[cfg(test)]

@@ -1,42 +1,16 @@
 //! Slices of more than 4 GB: a call that kept only 32 bits of a length would take the good
 //! bytes at their start for all of them. No memory stands behind the rest, which reads as 0.
 
-use std::ffi::{c_int, c_void};
-use std::ptr::null_mut;
-use std::slice;
-
 use burgee_rust::boundary::{path, policy, rotation, rpc, table, verdict};
-use burgee_rust::limits::SLOT;
+use burgee_rust::pages;
 use burgee_rust::request::PathRequest;
 use burgee_rust::rotation::Record;
 use burgee_rust::rpc::RpcRequest;
 use burgee_rust::vectors::{EXAMPLES_E_TO_K, POLICY_OF_NOBODY};
 use burgee_rust::word;
 
-extern "C" {
-    fn mmap(address: *mut c_void, len: usize, protection: c_int, flags: c_int, file: c_int, offset: i64)
-        -> *mut c_void;
-    fn mprotect(address: *mut c_void, len: usize, protection: c_int) -> c_int;
-}
-
-const READ: c_int = 1;
-const READ_AND_WRITE: c_int = 1 | 2;
-const PRIVATE_AND_ANONYMOUS: c_int = 0x02 | 0x20;
-const OVER: usize = 1 << 32;
-
-/// These bytes, and 4 GB of zeros after them; only the first 64 KB can be stored to.
 fn long(bytes: &[u8]) -> &'static mut [u8] {
-    let writable = 2 * SLOT;
-    let len = OVER + bytes.len();
-    // SAFETY: new memory, which is never given back. No call stores past what is writable.
-    let long = unsafe {
-        let start = mmap(null_mut(), OVER + writable, READ, PRIVATE_AND_ANONYMOUS, -1, 0);
-        assert_ne!(start as isize, -1, "no memory");
-        assert_eq!(mprotect(start, writable, READ_AND_WRITE), 0, "memory that can't be opened");
-        slice::from_raw_parts_mut(start.cast::<u8>(), len)
-    };
-    long[..bytes.len()].copy_from_slice(bytes);
-    long
+    pages::long(bytes, (1 << 32) + bytes.len())
 }
 
 #[test]
