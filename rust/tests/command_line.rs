@@ -3,7 +3,7 @@
 
 use std::fs;
 use std::os::unix::ffi::OsStrExt;
-use std::process;
+use std::path::Path;
 
 use burgee_rust::command_line::{assert_policy_refused, assert_refused, burgee, path_lines, rpc_lines, tree_lines};
 use burgee_rust::generate::any::{
@@ -138,7 +138,7 @@ fn groups_are_told() {
 #[test]
 fn policies_are_checked_and_asked() {
     let (mut random, mut tally) = (Random::new(0x95), Tally::default());
-    let file = std::env::temp_dir().join(format!("burgee-policy-{}", process::id()));
+    let file = Path::new(env!("CARGO_TARGET_TMPDIR")).join("policy");
     for _ in 0..ROUNDS {
         let policy = any(&mut random, &POLICY);
         let told = burgee(&[b"policy", b"-"], &policy);
@@ -163,7 +163,6 @@ fn policies_are_checked_and_asked() {
             Err(refusal) => assert_policy_refused(&told, refusal.number, &policy),
         });
     }
-    fs::remove_file(&file).expect("the file");
     tally.assert_at_least(&[(0, ROUNDS / 8), (31, 5), (40, 5), (41, 5)]);
 }
 

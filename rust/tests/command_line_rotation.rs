@@ -3,7 +3,6 @@
 use std::fs;
 use std::os::unix::ffi::OsStrExt;
 use std::path::{Path, PathBuf};
-use std::{env, process};
 
 use burgee_rust::command_line::{burgee, path_lines, record_lines, rpc_lines, tree_lines};
 use burgee_rust::generate::policy::Rpc;
@@ -135,9 +134,10 @@ fn is_sayable(call: &Call) -> bool {
 #[test]
 fn rotations_are_tried() {
     let (mut random, mut tally) = (Random::new(0x97), Tally::default());
-    let folder = env::temp_dir().join(format!("burgee-rotation-{}", process::id()));
+    let folder = Path::new(env!("CARGO_TARGET_TMPDIR")).join("rotation");
     for round in 0..10 {
         let kind = 1 + round % 2;
+        let _ = fs::remove_dir_all(&folder);
         fs::create_dir(&folder).expect("a folder");
         let mut trial = Trial::new(&folder, kind);
         for _ in 0..30 {
@@ -147,7 +147,6 @@ fn rotations_are_tried() {
                 trial.assert_files();
             }
         }
-        fs::remove_dir_all(&folder).expect("the folder");
     }
     tally.assert_at_least(&[(0, 100), (12, 3), (13, 10), (14, 1), (16, 3)]);
 }
