@@ -9,6 +9,7 @@ pub mod brute;
 pub mod brute_rotation;
 pub mod brute_rpc;
 pub mod charset;
+pub mod command_line;
 pub mod compare;
 pub mod fault;
 pub mod frame;

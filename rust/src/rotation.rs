@@ -115,6 +115,11 @@ impl State {
     }
 }
 
+/// The text in force; none for factory, and none where record or store are at fault.
+pub fn in_force<'s>(record: &Record, store: &'s [u8]) -> Option<&'s [u8]> {
+    record.read(store).ok()?.in_force(store)
+}
+
 /// "Start (rotation on, no candidate)".
 pub fn start(record: &mut Record, store: &[u8]) -> Result<(), Refusal> {
     let state = record.read(store)?;
