@@ -2,9 +2,6 @@
 # The command line's tour: each command as it is typed, and what it answers. Where the command line is not built yet, it is built first.
 cd "$(dirname "$0")/.." || exit 1
 export PATH="$PWD/bin:$PATH"
-if [ ! -x target/bin/burgee_cli ]; then
-    echo "The command line is built first. Each crate that it uses is proved before, which takes some minutes." >&2
-fi
 burgee help > /dev/null || exit 1
 rm -f target/tour.*
 

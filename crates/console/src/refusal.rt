@@ -21,7 +21,7 @@ fn meaning(number: u8) {
         16 the record is of the other kind\n\
         20 user or mode not as a table allows: a user's name has 1 to 64 bytes that print\n\
         21 origin not as a table allows: it has at most 32 bytes that print\n\
-        22 not a path: its text is / or /NAME[KEY=VALUE].., and it keeps the limits of a rule's\n\
+        22 not a path, as text (/ or /NAME[KEY=VALUE]..) or as bytes, within the limits of a rule's\n\
         23 the result does not fit the buffer\n\
         30 the policy is over 16,384 bytes\n\
         31 not one JSON value, in printable bytes, nested to depth 16 at most\n\
