@@ -2,7 +2,7 @@
 use mathlib.Core.Path.{_≡_, refl, sym, ap, _∙_}
 use mathlib.Core.Bool.{Bool, true, false, _||_, not}
 use mathlib.Core.List.{List, [], _∷_, _++_, append-nil}
-use mathlib.Core.Option.{Option, none, some}
+use mathlib.Core.Option.{Option, none, some, bind}
 use Prim.Native.Nat.{ℕ, _+_, _-_, _/_, _%_, _≤_, _<_}
 use native.Mathlib.Omega.{arith}
 use borrow.Author.Tests.{eq-eqb, eqb-true, lt-ltb, ltb-true, ltb-false, le-leb, leb-true, not-true, not-false}
@@ -36,7 +36,6 @@ use Rattle.readable_parts.specs.Parts.{partOf, rest, ofRest, quoted, hexDigit, 
 use Rattle.readable_lines.specs.Form.{parts, formBy, printed, shownFrame}
 use Rattle.readable_lines.specs.Lines.{lined, shownLine}
 use Rattle.readable.specs.Texts.{onward, ending}
-use Rattle.readable_lines.specs.Lines as readable
 use Rattle.readable.specs.declared.Ended.the-variants as ended
 use Rattle.readable_parts.proofs.Showing.{is-plain}
 use Rattle.readable_lines.proofs.Converting.{kind-version, kind-group, kind-member, kind-rule}
@@ -396,7 +395,7 @@ frame-told b none h = let z : _≡_ {A = ℕ} 2 255 = h in absurd (omega arith)
 frame-told b (some f) h = (f, refl, h)
 
 shown-line : (l f s : Str) → frame l ≡ some f → shownFrame f ≡ some s → shownLine l ≡ some (s ++ (10 ∷ []))
-unfolding shownLine readable.andThen lined
+unfolding shownLine bind lined
 shown-line l f s e i = rw (e, i)
 
 pub line-shows : (b : Earlier) (l : Str) → refusal b (lineOf l) ≡ 255 → (r : Str) × (shownLine l ≡ some r)

@@ -1,7 +1,7 @@
 -- Lines of the rules' table (E to K), shown.
 use mathlib.Core.Path.{_≡_, refl}
 use mathlib.Core.List.{[], _∷_, _++_}
-use mathlib.Core.Option.{some}
+use mathlib.Core.Option.{some, bind}
 use Rattle.text.specs.Test.{_and_, _or_, if_then_else_, all, any, twice}
 use Rattle.text.specs.String.{bytes, same, joined}
 use Rattle.text.specs.Frame.{_>>=_, ret, byte, run, string, times}
@@ -14,16 +14,16 @@ use Rattle.line.specs.Lines.{pair, pairs, nonempty, frame}
 use Rattle.table.specs.Frame.{whole}
 use Rattle.readable_parts.specs.Parts.{partOf, rest, ofRest, quoted, hexPair, hexText, shownString, shownTime, shownPath, shownCode, shownPlain, shown}
 use Rattle.readable_lines.specs.Form.{parts, formBy, printed, shownFrame}
-use Rattle.readable_lines.specs.Lines.{andThen, lined, shownLine}
+use Rattle.readable_lines.specs.Lines.{lined, shownLine}
 
 version-line : shownLine (bytes "010276310000000000000001" ++ (10 ∷ [])) ≡ some (bytes "version [v1] time 0000000000000001" ++ (10 ∷ []))
-unfolding shownLine andThen lined frame nonempty pairs pair shownFrame printed whole formBy parts partOf shown shownString shownTime shownPlain quoted escaped hexText hexPair joined string byte run _>>=_ ret if_then_else_ all _and_
+unfolding shownLine bind lined frame nonempty pairs pair shownFrame printed whole formBy parts partOf shown shownString shownTime shownPlain quoted escaped hexText hexPair joined string byte run _>>=_ ret if_then_else_ all _and_
 version-line = refl
 
 member-line : shownLine (bytes "0301670175" ++ (10 ∷ [])) ≡ some (bytes "member [g] [u]" ++ (10 ∷ []))
-unfolding shownLine andThen lined frame nonempty pairs pair shownFrame printed whole formBy parts partOf shown shownString shownPlain quoted escaped joined string byte run _>>=_ ret if_then_else_ all _and_
+unfolding shownLine bind lined frame nonempty pairs pair shownFrame printed whole formBy parts partOf shown shownString shownPlain quoted escaped joined string byte run _>>=_ ret if_then_else_ all _and_
 member-line = refl
 
 rule-line : shownLine (bytes "04010101016701720001016101016b012a" ++ (10 ∷ [])) ≡ some (bytes "rule permit read group [g] id [r] origin [] /a[k=*]" ++ (10 ∷ []))
-unfolding shownLine andThen lined frame nonempty pairs pair shownFrame printed whole formBy parts partOf shown shownString shownCode shownPath ofRest shownPlain rest quoted escaped joined string byte run times _>>=_ ret if_then_else_ all any twice _and_ _or_ textFor spells.readBytes spells.whole path element key goodPath overLimit elemOver keyOver unsized strayByte elemStray keyStray outsideName outsideValue misplaced elemMisplaced keyMisplaced halfWild keyTwice same pathText elemText keyText
+unfolding shownLine bind lined frame nonempty pairs pair shownFrame printed whole formBy parts partOf shown shownString shownCode shownPath ofRest shownPlain rest quoted escaped joined string byte run times _>>=_ ret if_then_else_ all any twice _and_ _or_ textFor spells.readBytes spells.whole path element key goodPath overLimit elemOver keyOver unsized strayByte elemStray keyStray outsideName outsideValue misplaced elemMisplaced keyMisplaced halfWild keyTwice same pathText elemText keyText
 rule-line = refl

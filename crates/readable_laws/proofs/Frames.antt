@@ -2,7 +2,7 @@
 use mathlib.Core.Path.{_≡_, refl, sym, ap, _∙_}
 use mathlib.Core.Bool.{true, false}
 use mathlib.Core.List.{[], _∷_, _++_, append-nil}
-use mathlib.Core.Option.{Option, none, some}
+use mathlib.Core.Option.{Option, none, some, Option·map}
 use Prim.Native.Nat.{ℕ, _-_, _≤_}
 use native.Mathlib.Omega.{arith}
 use borrow.Author.Tests.{eq-eqb, eqb-true, eqb-false}
@@ -17,7 +17,7 @@ use Rattle.text.proofs.Tests.{by, clash}
 use Rattle.text.proofs.Codec.{never-got, then-got, got-move, Took}
 use Rattle.table.specs.Frame.{whole}
 use Rattle.readable_parts.specs.Parts.{Parts, partOf, shownTime, shownPlain, shown, packed}
-use Rattle.readable_lines.specs.Form.{parts, formBy, printed, shownFrame, kindBy, headed, packedFrame}
+use Rattle.readable_lines.specs.Form.{parts, formBy, printed, shownFrame, kindBy, packedFrame}
 use Rattle.readable_parts.proofs.Showing.{is-string, is-time, is-path, is-action, is-mode, is-subject, is-plain}
 use Rattle.readable_lines.proofs.Converting.{kind-version, kind-group, kind-member, kind-rule, kind-none}
 use Rattle.readable_laws.proofs.Inverse.{Back, BackLast, isLast, proper, parts-back, parts-inside}
@@ -139,8 +139,7 @@ printed-some (some v) w e =
     (λ u. let i : some v ≡ some w = rw u at e in let j : v ≡ w = cc in (i, rw j at u))
     (λ u. let i : none ≡ some w = rw u at e in let z : _≡_ {A = ℕ} 0 1 = cc in absurd (omega arith))
 
-headed-some : (k : ℕ) (o : Option Str) (f : Str) → headed k o ≡ some f → (b : Str) × (o ≡ some b) × (f ≡ k ∷ b)
-unfolding headed
+headed-some : (k : ℕ) (o : Option Str) (f : Str) → Option·map (λ (g : Str). k ∷ g) o ≡ some f → (b : Str) × (o ≡ some b) × (f ≡ k ∷ b)
 headed-some k none f e = let z : _≡_ {A = ℕ} 0 1 = cc in absurd (omega arith)
 headed-some k (some b) f e = let i : f ≡ k ∷ b = cc in (b, refl, i)
 
@@ -189,7 +188,7 @@ letter k f at w t e =
 -- ---- the line of a frame packs to that frame
 
 pub show-pack : (f s : Str) → Small f → shownFrame f ≡ some s → packedFrame s ≡ some f
-unfolding packedFrame shownFrame whole headed if_then_else_
+unfolding packedFrame shownFrame whole if_then_else_
 show-pack [] s m e =
     let p = printed-some (whole [] (formBy shown 0 [] 1)) s e in
     never-got (kind-none shown 0 [] 1 (λ z. omega arith) (λ z. omega arith) (λ z. omega arith) (λ z. omega arith)) (whole-some [] (formBy shown 0 [] 1) s (p .0))

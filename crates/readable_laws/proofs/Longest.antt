@@ -3,7 +3,7 @@
 use mathlib.Core.Path.{_≡_, refl, sym, ap, _∙_}
 use mathlib.Core.Bool.{true, false}
 use mathlib.Core.List.{List, [], _∷_}
-use mathlib.Core.Option.{Option, none, some}
+use mathlib.Core.Option.{Option, none, some, bind}
 use Prim.Native.Nat.{ℕ, _+_, _*_, _-_, _≤_, _<_}
 use native.Mathlib.Omega.{arith}
 use borrow.Author.Tests.{eqb-true, ltb-true, ltb-false, le-leb, leb-false}
@@ -26,7 +26,7 @@ use Rattle.table.specs.declared.Checked.the-variants.{Accepted, Refused}
 use Rattle.table.proofs.Numbers.{refusal-clear}
 use Rattle.readable_parts.specs.Parts.{partOf, rest, ofRest, quoted, hexText, shownString, shownTime, shownPath, shownCode, shownPlain, shown}
 use Rattle.readable_lines.specs.Form.{parts, formBy, shownFrame}
-use Rattle.readable_lines.specs.Lines.{andThen, shownLine}
+use Rattle.readable_lines.specs.Lines.{shownLine}
 use Rattle.readable.specs.Texts.{onward, ending}
 use Rattle.readable.specs.declared.Ended.the-variants as ended
 use Rattle.readable_parts.proofs.Digits.{hex-length}
@@ -172,7 +172,7 @@ line-longer : (l f r : Str) (e : Entry) → frame l ≡ some f → entryOf f ≡
 unfolding shownLine shownFrame
 line-longer l f r e i j k =
     let t = frame-text l f i in
-    let a = lined-some (andThen (frame l) shownFrame) r k in
+    let a = lined-some (bind (frame l) shownFrame) r k in
     let b = then-some (frame l) shownFrame (a .0) (a .1) in
     let q : b .0 ≡ f = (let z : some (b .0) ≡ some f = sym (b .1) ∙ i in cc) in
     let c : shownFrame f ≡ some (a .0) = ap shownFrame (sym q) ∙ b .2 in

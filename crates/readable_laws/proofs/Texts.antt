@@ -2,7 +2,7 @@
 use mathlib.Core.Path.{_≡_, refl, sym, ap, _∙_}
 use mathlib.Core.Bool.{true, false}
 use mathlib.Core.List.{List, [], _∷_, _++_, append-assoc}
-use mathlib.Core.Option.{Option, none, some}
+use mathlib.Core.Option.{Option, none, some, bind, Option·map}
 use Prim.Native.Nat.{ℕ, suc, _+_, _-_, _/_, _%_, _≤_, _<_}
 use native.Mathlib.Omega.{arith}
 use borrow.Author.Tests.{ne-eqb, eqb-true, ltb-true, ltb-false, leb-true, le-leb}
@@ -19,7 +19,7 @@ use Rattle.table.specs.Text.{unless, judge, check}
 use Rattle.table.specs.declared.Checked.the-variants.{Accepted, Refused}
 use Rattle.readable_parts.specs.Parts.{hexDigit, hexPair, hexText}
 use Rattle.readable_lines.specs.Form.{shownFrame, packedFrame}
-use Rattle.readable_lines.specs.Lines.{andThen, lined, unlined, shownLine, hexed, packedLine}
+use Rattle.readable_lines.specs.Lines.{lined, unlined, shownLine, packedLine}
 use Rattle.readable.specs.Texts.{onward, ending, storing, stored, packedEnd, packedTable}
 use Rattle.readable.specs.declared.Ended.the-variants as ended
 use Rattle.readable_lines.proofs.Lining.{unlined-line}
@@ -34,13 +34,12 @@ unfolding lined
 lined-some none r e = let z : _≡_ {A = ℕ} 0 1 = cc in absurd (omega arith)
 lined-some (some s) r e = let i : r ≡ s ++ (10 ∷ []) = cc in (s, refl, i)
 
-pub then-some : (o : Option Str) (k : Str → Option Str) (r : Str) → andThen o k ≡ some r → (a : Str) × (o ≡ some a) × (k a ≡ some r)
-unfolding andThen
+pub then-some : (o : Option Str) (k : Str → Option Str) (r : Str) → bind o k ≡ some r → (a : Str) × (o ≡ some a) × (k a ≡ some r)
+unfolding bind
 then-some none k r e = let z : _≡_ {A = ℕ} 0 1 = cc in absurd (omega arith)
 then-some (some a) k r e = (a, refl, e)
 
-hexed-some : (o : Option Str) (r : Str) → hexed o ≡ some r → (f : Str) × (o ≡ some f) × (r ≡ hexText f)
-unfolding hexed
+hexed-some : (o : Option Str) (r : Str) → Option·map hexText o ≡ some r → (f : Str) × (o ≡ some f) × (r ≡ hexText f)
 hexed-some none r e = let z : _≡_ {A = ℕ} 0 1 = cc in absurd (omega arith)
 hexed-some (some f) r e = let i : r ≡ hexText f = cc in (f, refl, i)
 
@@ -49,14 +48,14 @@ hexed-some (some f) r e = let i : r ≡ hexText f = cc in (f, refl, i)
 pub line-show-pack : (l r : Str) → shownLine l ≡ some r → packedLine r ≡ some l
 unfolding shownLine packedLine
 line-show-pack l r e =
-    let a = lined-some (andThen (frame l) shownFrame) r e in
+    let a = lined-some (bind (frame l) shownFrame) r e in
     let b = then-some (frame l) shownFrame (a .0) (a .1) in
     let t = frame-text l (b .0) (b .1) in
     let p = show-pack (b .0) (a .0) (t .1) (b .2) in
     rw (a .2) (back (a .0) (b .0) p ∙ ap some (sym (t .0)))
   where
-    back : (s f : Str) → packedFrame s ≡ some f → lined (hexed (andThen (unlined (s ++ (10 ∷ []))) packedFrame)) ≡ some (hexText f ++ (10 ∷ []))
-    back s f p = unfold lined hexed andThen in rw (unlined-line s, p)
+    back : (s f : Str) → packedFrame s ≡ some f → lined (Option·map hexText (bind (unlined (s ++ (10 ∷ []))) packedFrame)) ≡ some (hexText f ++ (10 ∷ []))
+    back s f p = unfold lined bind in rw (unlined-line s, p)
 
 -- ---- a whole table, shown and packed again
 
@@ -73,7 +72,7 @@ print-line (x ∷ s) more h = rw (no-LF x (and-l _ _ h), print-line s more (and-
 shown-first : (l r more : Str) → shownLine l ≡ some r → lines (r ++ more) ≡ r ∷ lines more
 unfolding shownLine shownFrame
 shown-first l r more e =
-    let a = lined-some (andThen (frame l) shownFrame) r e in
+    let a = lined-some (bind (frame l) shownFrame) r e in
     let b = then-some (frame l) shownFrame (a .0) (a .1) in
     let p = printed-some _ (a .0) (b .2) in
     rw (a .2, append-assoc (a .0) (10 ∷ []) more) (print-line (a .0) more (p .1))
@@ -191,13 +190,13 @@ unlined-some (x ∷ r) s e =
 packed-told : (r l : Str) → packedLine r ≡ some l → (s : Str) × (f : Str) × (r ≡ s ++ (10 ∷ [])) × (packedFrame s ≡ some f) × (l ≡ hexText f ++ (10 ∷ []))
 unfolding packedLine
 packed-told r l e =
-    let a = lined-some (hexed (andThen (unlined r) packedFrame)) l e in
-    let b = hexed-some (andThen (unlined r) packedFrame) (a .0) (a .1) in
+    let a = lined-some (Option·map hexText (bind (unlined r) packedFrame)) l e in
+    let b = hexed-some (bind (unlined r) packedFrame) (a .0) (a .1) in
     let c = then-some (unlined r) packedFrame (b .0) (b .1) in
     (c .0, b .0, unlined-some r (c .0) (c .1), c .2, a .2 ∙ ap (λ (z : Str). z ++ (10 ∷ [])) (b .2))
 
 pub line-pack-show : (r l g : Str) → packedLine r ≡ some l → frame l ≡ some g → shownLine l ≡ some r
-unfolding shownLine andThen
+unfolding shownLine bind
 line-pack-show r l g e h =
     let a = packed-told r l e in
     let t = frame-text l g h in

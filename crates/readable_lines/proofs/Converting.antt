@@ -19,7 +19,7 @@ use Rattle.path_text.specs.declared.reader.Stored.{Stored}
 use Rattle.path_text.specs.declared.reader.Stored.the-variants.{To, Unread}
 use Rattle.table.specs.Frame.{unknown, whole}
 use Rattle.readable_parts.specs.Parts.{Parts, partOf}
-use Rattle.readable_lines.specs.Form.{parts, formBy, printed, shownFrame, kindBy, headed, packedFrame}
+use Rattle.readable_lines.specs.Form.{parts, formBy, printed, shownFrame, kindBy, packedFrame}
 use Rattle.readable_parts.specs.Steps.{longest, Puts, puts}
 use Rattle.readable_lines.specs.Steps.{partsBy, roomFor, Fills, fills}
 use Rattle.readable_parts.proofs.Stored.{put-to, put-not, front}
@@ -192,21 +192,21 @@ module _ (s : Str) where
   line-empty h = go s h
     where
       go : (g : Str) → length g ≤ 0 → packedFrame g ≡ none
-      go [] h = unfold packedFrame all kindBy formBy if_then_else_ unknown whole headed in refl
+      go [] h = unfold packedFrame all kindBy formBy if_then_else_ unknown whole in refl
       go (x ∷ g) h = absurd (omega arith)
 
   module _ (a : all isPrint s ≡ true) (k : ℕ) (i : k ≡ kindBy (getD s 0 0)) (d d′ : List ℕ) (r : Stored) (e : Puts 14000 (formBy (partsBy true) k) s 0 d 1 d′ r) where
     pub line-unread : r ≡ Unread → packedFrame s ≡ none
-    unfolding packedFrame whole headed partsBy if_then_else_
+    unfolding packedFrame whole partsBy if_then_else_
     line-unread g = rw (a, ← i, put-not e g)
 
     module _ (next end : ℕ) (g : r ≡ To next end) where
       pub line-longer : (next ≡ length s → ⊥) → packedFrame s ≡ none
-      unfolding packedFrame whole headed partsBy if_then_else_
+      unfolding packedFrame whole partsBy if_then_else_
       line-longer n = rw (a, ← i, put-to e g .1, ne-eqb _ _ n)
 
       pub line-is : next ≡ length s → packedFrame s ≡ some (k ∷ put-to e g .0)
-      unfolding packedFrame whole headed partsBy if_then_else_
+      unfolding packedFrame whole partsBy if_then_else_
       line-is n = rw (a, ← i, put-to e g .1, eq-eqb _ _ n)
 
       pub line-fills : 16384 ≤ length d → next ≡ length s → Fills (packedFrame s) d (set d′ 0 k) (To next end)

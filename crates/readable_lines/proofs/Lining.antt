@@ -2,7 +2,7 @@
 use mathlib.Core.Path.{_≡_, refl, sym, ap, _∙_}
 use mathlib.Core.Bool.{false}
 use mathlib.Core.List.{List, [], _∷_, _++_}
-use mathlib.Core.Option.{Option, none, some}
+use mathlib.Core.Option.{Option, none, some, bind, Option·map}
 use Prim.Native.Nat.{ℕ, zero, suc, _+_, _*_, _-_, _≤_, _<_}
 use native.Mathlib.Omega.{arith}
 use borrow.Author.Tests.{eqb-true}
@@ -24,7 +24,7 @@ use Rattle.path_text.specs.declared.reader.Stored.{Stored}
 use Rattle.path_text.specs.declared.reader.Stored.the-variants.{To, Unread}
 use Rattle.readable_parts.specs.Parts.{hexText}
 use Rattle.readable_lines.specs.Form.{shownFrame, packedFrame}
-use Rattle.readable_lines.specs.Lines.{andThen, lined, unlined, shownLine, hexed, packedLine}
+use Rattle.readable_lines.specs.Lines.{lined, unlined, shownLine, packedLine}
 use Rattle.readable_lines.specs.Steps.{Fills, Lays, lays, fails}
 use Rattle.readable_parts.proofs.Stored.{front}
 use Rattle.readable_lines.proofs.Stored.{filled-to, filled-not}
@@ -70,7 +70,7 @@ unlined-none s z h = rw (unended s h (length s - 1) (omega arith))
 
 module _ (text : Str) (from : ℕ) (i : from < length text) (r : Line) (e : r ≡ firstLine from (lines (drop from text))) where
   pub show-bad : r ≡ Bad → {d d′ : List ℕ} → Lays shownLine text from d d′ Unread
-  unfolding shownLine lined andThen
+  unfolding shownLine lined bind
   show-bad g = let u = line-unhex text from r e i g in fails (u .first) (rw (u .is))
 
   module _ (len next : ℕ) (g : r ≡ Frame len next) (z b : List ℕ) (x : b ≡ put z 0 (digits (drop from text))) where
@@ -84,7 +84,7 @@ module _ (text : Str) (from : ℕ) (i : from < length text) (r : Line) (e : r �
     frame-room = omega (arith, told .goes, told .ends)
 
     is-shown : (o : Option Str) → shownFrame (take len b) ≡ o → shownLine (told .line) ≡ lined o
-    unfolding shownLine andThen
+    unfolding shownLine bind
     is-shown o s = let t = ap shownFrame (sym frame-here) ∙ s in rw (told .is, t)
 
     module _ (d d′ : List ℕ) (q : Stored) (f : Fills (shownFrame (take len b)) d d′ q) where
@@ -118,7 +118,7 @@ module _ (text : Str) (from : ℕ) (i : from < length text) (r : Line) (e : r �
 
 module _ (text : Str) (from : ℕ) (i : from < length text) (stop : ℕ) (e : stop ≡ from + upTo 10 10 (drop from text)) where
   pub pack-open : length text ≤ stop → {d d′ : List ℕ} → Lays packedLine text from d d′ Unread
-  unfolding packedLine lined hexed andThen
+  unfolding packedLine lined bind
   pack-open h =
       let s = drop from text in
       let z : 0 < length s = omega (arith, length-drop from text) in
@@ -135,13 +135,13 @@ module _ (text : Str) (from : ℕ) (i : from < length text) (stop : ℕ) (e : st
         let m : from + suc (upTo 10 10 (drop from text)) ≡ stop + 1 = omega arith in
         ended-line (drop from text) (omega (arith, length-drop from text)) ∙ rw (k, drop-drop (suc (upTo 10 10 (drop from text))) from text, m)
 
-    is-packed : (o : Option Str) → packedFrame body ≡ o → packedLine (body ++ (10 ∷ [])) ≡ lined (hexed o)
-    unfolding packedLine andThen
+    is-packed : (o : Option Str) → packedFrame body ≡ o → packedLine (body ++ (10 ∷ [])) ≡ lined (Option·map hexText o)
+    unfolding packedLine bind
     is-packed o s = rw (unlined-line body, s)
 
     module _ (z b : List ℕ) (q : Stored) (f : Fills (packedFrame body) z b q) where
       pub pack-unread : q ≡ Unread → {d d′ : List ℕ} → Lays packedLine text from d d′ Unread
-      unfolding lined hexed
+      unfolding lined
       pack-unread h = fails pack-first (is-packed none (filled-not f h))
 
       module _ (n end : ℕ) (h : q ≡ To n end) (d : List ℕ) (w : 32769 ≤ length d) where
@@ -166,7 +166,7 @@ module _ (text : Str) (from : ℕ) (i : from < length text) (stop : ℕ) (e : st
               (omega (arith, length-append (hexText (take end b)) (10 ∷ []), hex-length (take end b), length-take end b, pack-end))
 
           pub pack-lays : Lays packedLine text from d (set d′ close 10) (To (stop + 1) (close + 1))
-          unfolding lined hexed
+          unfolding lined
           pack-lays =
               let u = filled-to f h in
               let g : take end b ≡ u .0 = front z (u .0) b end (u .2) in

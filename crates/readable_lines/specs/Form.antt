@@ -1,7 +1,7 @@
 -- The readable form of a frame, and the frame of a readable line: one description of each kind of line, read in both directions.
 use Prim.Native.Nat.{ℕ}
 use mathlib.Core.List.{[], _∷_, _++_}
-use mathlib.Core.Option.{Option, none, some}
+use mathlib.Core.Option.{Option, none, some, Option·map}
 use lib.Dec.{eqb}
 use lib.ListN.{getD}
 use Rattle.text.specs.Test.{if_then_else_, all}
@@ -45,12 +45,7 @@ shownFrame f = printed (whole f (formBy shown (getD f 0 0) f 1))
 unfoldable pub kindBy : ℕ → ℕ
 kindBy b = if eqb b 118 then 1 else if eqb b 103 then 2 else if eqb b 109 then 3 else if eqb b 114 then 4 else 0
 
--- after the kind byte
-unfoldable pub headed : ℕ → Option Str → Option Str
-headed k none = none
-headed k (some f) = some (k ∷ f)
-
--- the frame of a readable line, given without its LF
+-- the frame of a readable line, given without its LF: the kind byte, and the parts
 unfoldable pub packedFrame : Str → Option Str
 packedFrame s =
-    if all isPrint s then headed (kindBy (getD s 0 0)) (whole s (formBy packed (kindBy (getD s 0 0)) s 0)) else none
+    if all isPrint s then Option·map (λ (f : Str). kindBy (getD s 0 0) ∷ f) (whole s (formBy packed (kindBy (getD s 0 0)) s 0)) else none

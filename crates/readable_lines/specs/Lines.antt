@@ -2,7 +2,7 @@
 use Prim.Native.Nat.{_-_}
 use mathlib.Core.Bool.{Bool}
 use mathlib.Core.List.{[], _∷_, _++_}
-use mathlib.Core.Option.{Option, none, some}
+use mathlib.Core.Option.{Option, none, some, bind, Option·map}
 use lib.Dec.{eqb}
 use lib.ListN.{length, take, getD}
 use Rattle.text.specs.Test.{if_then_else_}
@@ -10,11 +10,6 @@ use Rattle.text.specs.String.{Str}
 use Rattle.line.specs.Lines.{frame}
 use Rattle.readable_parts.specs.Parts.{hexText}
 use Rattle.readable_lines.specs.Form.{shownFrame, packedFrame}
-
--- what k makes of it, if there is something
-unfoldable pub andThen : Option Str → (Str → Option Str) → Option Str
-andThen none k = none
-andThen (some a) k = k a
 
 -- with its LF
 unfoldable pub lined : Option Str → Option Str
@@ -27,16 +22,11 @@ unlined l = if eqb (getD l (length l - 1) 0) 10 then some (take (length l - 1) l
 
 -- a line of the table to its readable line
 unfoldable pub shownLine : Str → Option Str
-shownLine l = lined (andThen (frame l) shownFrame)
-
--- as hex digits
-unfoldable pub hexed : Option Str → Option Str
-hexed none = none
-hexed (some f) = some (hexText f)
+shownLine l = lined (bind (frame l) shownFrame)
 
 -- a readable line to its line of the table
 unfoldable pub packedLine : Str → Option Str
-packedLine l = lined (hexed (andThen (unlined l) packedFrame))
+packedLine l = lined (Option·map hexText (bind (unlined l) packedFrame))
 
 -- either of the two
 unfoldable pub lineBy : Bool → (Str → Option Str)
