@@ -9,6 +9,7 @@
  *   show KIND                     what the record says
  *   path USER read|write PATH     may the user read or write there?
  *   tree USER read|write PATH     and all that lies beneath?
+ *   subscribe USER PATH           is the subscription accepted, and must its updates be asked for?
  *   rpc IDENTITY PATH             may the client call this?
  *
  * Each is answered in one line. A line that begins with `#` is a remark. A daemon of a
@@ -103,6 +104,26 @@ static uint32_t mode_named(const char *name)
     return is(name, "read") ? BURGEE_READ : is(name, "write") ? BURGEE_WRITE : 0;
 }
 
+/* Whether a request is served. A refused one is not: nothing was decided about it. */
+static bool is_permitted(uint64_t answer)
+{
+    return burgee_answer_refusal(answer) == 0 && burgee_answer_action(answer) == BURGEE_PERMIT;
+}
+
+/* A subscription is accepted on the path's own verdict; then the tree is ALL or MIXED. */
+static void subscribe(const char *user, const char *path)
+{
+    uint64_t own = burgee_record_probe_path(HOST(&table_host), SLICE(user), BURGEE_READ, SLICE(""), SLICE(path));
+    uint64_t tree = burgee_record_probe_tree(HOST(&table_host), SLICE(user), BURGEE_READ, SLICE(""), SLICE(path));
+    if (!is_permitted(own)) {
+        printf("not accepted");
+    } else if (burgee_answer_tree(tree) == BURGEE_TREE_ALL) {
+        printf("accepted, and every update may go out");
+    } else {
+        printf("accepted, and each update is asked for by its own path");
+    }
+}
+
 static void serve_question(int words, char word[4][256])
 {
     if (words == 4 && is(word[0], "path")) {
@@ -111,6 +132,8 @@ static void serve_question(int words, char word[4][256])
     } else if (words == 4 && is(word[0], "tree")) {
         print_tree(burgee_record_probe_tree(HOST(&table_host), SLICE(word[1]), mode_named(word[2]), SLICE(""),
                                             SLICE(word[3])));
+    } else if (words == 3 && is(word[0], "subscribe")) {
+        subscribe(word[1], word[2]);
     } else if (words == 3 && is(word[0], "rpc")) {
         print_action(burgee_record_probe_rpc(HOST(&policy_host), SLICE(word[1]), SLICE(word[2]), SLICE("")));
     } else {

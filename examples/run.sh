@@ -27,6 +27,9 @@ if gcc -std=c99 -pedantic -Wall -Wextra -Werror -fsyntax-only -x c include/burge
 else
     failed=1
 fi
+if command -v g++ > /dev/null && ! g++ -std=c++11 -pedantic -Wall -Wextra -Werror -fsyntax-only -x c++ include/burgee.h; then
+    failed=1
+fi
 for source in examples/*.c; do
     name=$(basename "$source" .c)
     expected=examples/$name.expected

@@ -1,36 +1,50 @@
 #!/usr/bin/env bash
-# The command line's tour: each command as it is typed, and what it answers. The first call builds the program.
+# The command line's tour: each command as it is typed, and what it answers. Where the command line is not built yet, it is built first.
 cd "$(dirname "$0")/.." || exit 1
 export PATH="$PWD/bin:$PATH"
+if [ ! -x target/bin/burgee_cli ]; then
+    echo "The command line is built first. Each crate that it uses is proved before, which takes some minutes." >&2
+fi
+burgee help > /dev/null || exit 1
+rm -f target/tour.*
 
-try() {
-    printf '\n$'
-    printf ' %s' "${@@Q}" | sed "s/'\([a-zA-Z:./-]*[a-zA-Z.]\)'/\1/g"
-    printf '\n'
-    "$@"
+say() {
+    printf '\n%s\n' "$1"
 }
 
-echo "A rule table: who may read or write which path."
-try burgee table examples/files/yard.table
-try burgee show examples/files/yard.table
+try() {
+    printf '\n$ %s\n' "$1"
+    eval "$1"
+}
 
-echo
-echo "Who is in which group, and may he do that?"
-try burgee groups examples/files/yard.table stevie
-try burgee verdict examples/files/yard.table stevie read '' /system/aaa
+echo "A rule table: who may read or write which path. Machines get it as lines of hex, people read it as text."
+try "burgee table examples/files/yard.table"
+try "burgee show examples/files/yard.table"
 
-echo
-echo "Why? The rules that match, the best first."
-try burgee explain examples/files/yard.table stevie read '' /system/aaa
+say "A table with a fault is refused whole, and the line is told. Here a group is missing."
+try "grep -v ^0209 examples/files/yard.table | burgee table -"
 
-echo
-echo "And beneath a path?"
-try burgee tree examples/files/yard.table stevie read '' /system
+say "Who is in which group, and may Stevie read this?"
+try "burgee groups examples/files/yard.table stevie"
+try "burgee verdict examples/files/yard.table stevie read '' /system/aaa"
 
-echo
-echo "A policy: which calls a client may make."
-try burgee policy examples/files/yard.json
-try burgee rpc examples/files/yard.json spiffe://yard/dryer /gnoi.system.System/Reboot
+say "Why not? The rules that match, the best first."
+try "burgee explain examples/files/yard.table stevie read '' /system/aaa"
 
-echo
-echo "More: burgee help"
+say "And everything beneath a path?"
+try "burgee tree examples/files/yard.table stevie read '' /system"
+try "burgee tree examples/files/yard.table ann read '' /interfaces/interface"
+
+say "A policy: which calls a client may make."
+try "burgee policy examples/files/yard.json"
+try "burgee rpc examples/files/yard.json spiffe://yard/dryer /gnoi.system.System/Reboot"
+
+say "A rotation: a new table is tried while the old one is kept. Here there was none, so closing it denies everything again."
+try "burgee rotate new target/tour.record target/tour.store table"
+try "burgee rotate start target/tour.record target/tour.store | grep rotation"
+try "burgee rotate upload target/tour.record target/tour.store examples/files/yard.table | grep candidate"
+try "burgee rotate verdict target/tour.record target/tour.store ann read '' /interfaces/interface/state"
+try "burgee rotate close target/tour.record target/tour.store | grep candidate"
+try "burgee rotate verdict target/tour.record target/tour.store ann read '' /interfaces/interface/state"
+
+say "More: burgee help, docs/SAFETY-OFFICER.md"

@@ -36,7 +36,8 @@ extern "C" {
 #define BURGEE_REFUSED_ON 12u            /* start while a rotation is on                  */
 #define BURGEE_REFUSED_OFF 13u           /* upload, finalize or close while off           */
 #define BURGEE_REFUSED_NO_CANDIDATE 14u  /* finalize without a candidate                  */
-#define BURGEE_REFUSED_RECORD 15u        /* a record that no call leaves behind           */
+#define BURGEE_REFUSED_RECORD 15u        /* kind, slot or length of no record, or a       */
+                                         /* candidate while no rotation is on             */
 #define BURGEE_REFUSED_KIND 16u          /* a probe that the record's kind doesn't have   */
 #define BURGEE_REFUSED_USER_OR_MODE 20u  /* a user or a mode that no table has            */
 #define BURGEE_REFUSED_ORIGIN 21u        /* an origin that no table has                   */

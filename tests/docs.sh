@@ -1,7 +1,8 @@
 #!/usr/bin/env bash
 # Runs every command that a document or a page of help shows, at the top of the repository, and compares what it writes with what is shown.
 # A shown command is a line `$ COMMAND` in a fenced block of docs/*.md or README.md, or in a page of help; what follows, up to the next such
-# line or the end of the block (or of the page), is what it writes.
+# line or the end of the block (or of the page), is what it writes. A block of C has to stand in one of the examples, which are compiled and
+# run elsewhere. The tour is run too, and compared with examples/tour.expected.
 set -uo pipefail
 cd "$(dirname "$0")/.."
 export PATH="$PWD/bin:$PATH"
@@ -34,12 +35,43 @@ try() {
     fi
 }
 
+# Each block of C of a document, one to a file.
+split_c() {
+    awk -v out="$1" '
+        /^```c$/ { n++; file = sprintf("%s.%03d", out, n); next }
+        /^```/ { file = "" }
+        file != "" { print > file }
+    '
+}
+
+stands_in_an_example() {
+    local example
+    for example in examples/*.c; do
+        [[ $(cat "$example") == *"$(cat "$1")"* ]] && return 0
+    done
+    return 1
+}
+
 for document in README.md docs/*.md; do
-    split "$work/$(basename "$document")" 1 < "$document"
-    for shown in "$work/$(basename "$document")".*; do
+    name=$(basename "$document")
+    split "$work/$name" 1 < "$document"
+    for shown in "$work/$name".*; do
         [ -e "$shown" ] && try "$shown" "$document"
     done
+    split_c "$work/c-$name" < "$document"
+    for block in "$work/c-$name".*; do
+        if [ -e "$block" ] && ! stands_in_an_example "$block"; then
+            failed=1
+            echo "$document shows C that stands in no example:"
+            cat "$block"
+        fi
+    done
 done
+
+if ! bash examples/tour.sh | diff examples/tour.expected -; then
+    failed=1
+    echo "the tour shows something else than examples/tour.expected"
+fi
 
 for command in $(burgee help | awk '/^burgee [a-z]/ && $2 != "help" { print $2 }' | sort -u); do
     burgee help "$command" | split "$work/help-$command" 0

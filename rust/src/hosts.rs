@@ -65,12 +65,14 @@ impl Hosts {
     }
 }
 
-fn bytes_of(record: &Record) -> &[u8] {
+/// A record as the bytes that lie in memory.
+pub fn bytes_of(record: &Record) -> &[u8] {
     // SAFETY: a record is five numbers of 32 bits, with nothing between them.
     unsafe { std::slice::from_raw_parts((record as *const Record).cast(), size_of::<Record>()) }
 }
 
-fn record_in(lent: &mut Lent) -> &mut Record {
+/// The record that such bytes make.
+pub fn record_in(lent: &mut Lent) -> &mut Record {
     let bytes = lent.slice_mut();
     assert_eq!(bytes.len(), size_of::<Record>());
     let record = bytes.as_mut_ptr().cast::<Record>();

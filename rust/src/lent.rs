@@ -46,18 +46,27 @@ impl Lent {
     }
 
     pub fn holding(bytes: &[u8], edge: Edge) -> Lent {
-        let len = bytes.len();
-        let mut pages = Pages::new(len + KNOWN);
-        let (lent, outside) = match edge {
+        let mut lent = Lent::with_room(bytes.len(), edge);
+        lent.hold(bytes);
+        lent
+    }
+
+    /// No bytes, in memory for up to `longest` of them.
+    pub fn with_room(longest: usize, edge: Edge) -> Lent {
+        let mut lent = Lent { pages: Pages::new(longest + KNOWN), lent: 0..0, known: 0..0, edge };
+        lent.hold(&[]);
+        lent
+    }
+
+    /// These bytes instead, at the same edge of the same memory.
+    pub fn hold(&mut self, bytes: &[u8]) {
+        let (len, end) = (bytes.len(), self.pages.bytes().len());
+        (self.lent, self.known) = match self.edge {
             Edge::Start => (0..len, len..len + KNOWN),
-            Edge::End => {
-                let end = pages.bytes().len();
-                (end - len..end, end - len - KNOWN..end - len)
-            }
+            Edge::End => (end - len..end, end - len - KNOWN..end - len),
         };
-        pages.bytes_mut()[lent.clone()].copy_from_slice(bytes);
-        pages.bytes_mut()[outside.clone()].copy_from_slice(&known(edge)[..KNOWN]);
-        Lent { pages, lent, known: outside, edge }
+        self.pages.bytes_mut()[self.lent.clone()].copy_from_slice(bytes);
+        self.pages.bytes_mut()[self.known.clone()].copy_from_slice(&known(self.edge)[..KNOWN]);
     }
 
     pub fn slice(&self) -> &[u8] {
@@ -106,6 +115,17 @@ mod tests {
             assert_eq!(end.slice().as_ptr_range().end, end.pages.bytes().as_ptr_range().end);
             start.assert_holds(&bytes);
             end.assert_holds(&bytes);
+        }
+    }
+
+    #[test]
+    fn other_bytes_lie_at_the_same_edge() {
+        let mut lent = Lent::with_room(9_000, Edge::End);
+        for len in [9_000, 0, 3] {
+            let bytes = vec![7; len];
+            lent.hold(&bytes);
+            assert_eq!(lent.slice().as_ptr_range().end, lent.pages.bytes().as_ptr_range().end);
+            lent.assert_holds(&bytes);
         }
     }
 

@@ -28,6 +28,11 @@ impl Tally {
         }
     }
 
+    /// The numbers that were given, 0 for what was accepted among them.
+    pub fn numbers(&self) -> Vec<u8> {
+        (0..64).filter(|number| self.of(*number) > 0).collect()
+    }
+
     fn counts(&self) -> Vec<(usize, usize)> {
         self.0.iter().copied().enumerate().filter(|(_, count)| *count > 0).collect()
     }

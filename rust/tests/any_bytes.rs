@@ -7,8 +7,10 @@
 //! ```
 
 use std::env;
+use std::ops::RangeInclusive;
 use std::time::{Duration, Instant};
 
+use burgee_rust::boundary::declared_calls;
 use burgee_rust::compare;
 use burgee_rust::generate::any::{
     any, any_mode, any_room, HEADERS, IDENTITY, ORIGIN, PATH_BYTES, PATH_TEXT, POLICY, RPC_PATH, TABLE, USER,
@@ -18,35 +20,87 @@ use burgee_rust::generate::rotation::{some_record, spoil_record, Ask, Call};
 use burgee_rust::hosts::Hosts;
 use burgee_rust::lent::EDGES;
 use burgee_rust::limits::SLOT;
+use burgee_rust::path::{path_bytes, path_text};
 use burgee_rust::random::Random;
 use burgee_rust::request::PathRequest;
-use burgee_rust::word;
+use burgee_rust::tally::Tally;
+
+/// The kinds of record, for a step, for a probe of a policy and for one of a table.
+const EITHER: &[u32] = &[1, 2];
+const MOSTLY_POLICY: &[u32] = &[1, 1, 1, 1, 1, 2];
+const MOSTLY_TABLE: &[u32] = &[2, 2, 2, 2, 2, 1];
 
 /// How often each call is made in the short run.
-const ROUNDS: usize = 4_000;
+const ROUNDS: usize = 6_000;
 
 struct Target {
     name: &'static str,
     call: fn(&mut Random) -> u64,
+    /// The numbers with which it refuses.
+    refusals: &'static [RangeInclusive<u8>],
 }
 
 const TARGETS: [Target; 15] = [
-    Target { name: "path_read", call: |random| compare::path_read(&any(random, &PATH_TEXT), any_room(random)).0 },
-    Target { name: "path_write", call: |random| compare::path_write(&any(random, &PATH_BYTES), any_room(random)).0 },
-    Target { name: "table_check", call: |random| compare::table_check(&any(random, &TABLE)) },
-    Target { name: "group_count", call: |random| compare::group_count(&any(random, &TABLE), &any(random, &USER)) },
-    Target { name: "path_verdict", call: |random| verdict(random, compare::path_verdict) },
-    Target { name: "tree_verdict", call: |random| verdict(random, compare::tree_verdict) },
-    Target { name: "policy_check", call: |random| compare::policy_check(&any(random, &POLICY)) },
-    Target { name: "rpc_verdict", call: rpc_verdict },
-    Target { name: "start", call: |random| on_a_host(random, |_| Call::Start) },
-    Target { name: "upload", call: |random| on_a_host(random, any_upload) },
-    Target { name: "finalize", call: |random| on_a_host(random, |_| Call::Finalize) },
-    Target { name: "close", call: |random| on_a_host(random, |_| Call::Close) },
-    Target { name: "probe_path", call: |random| on_a_host(random, |random| Call::ProbePath(any_ask(random))) },
-    Target { name: "probe_tree", call: |random| on_a_host(random, |random| Call::ProbeTree(any_ask(random))) },
-    Target { name: "probe_rpc", call: |random| on_a_host(random, |random| Call::ProbeRpc(any_rpc(random))) },
+    Target { name: "path_read", call: path_read, refusals: &[22..=23] },
+    Target { name: "path_write", call: path_write, refusals: &[22..=23] },
+    Target { name: "table_check", call: |random| compare::table_check(&any(random, &TABLE)), refusals: &[1..=9] },
+    Target {
+        name: "group_count",
+        call: |random| compare::group_count(&any(random, &TABLE), &any(random, &USER)),
+        refusals: &[1..=9, 20..=20],
+    },
+    Target { name: "path_verdict", call: |random| verdict(random, compare::path_verdict), refusals: &[1..=9, 20..=22] },
+    Target { name: "tree_verdict", call: |random| verdict(random, compare::tree_verdict), refusals: &[1..=9, 20..=22] },
+    Target { name: "policy_check", call: |random| compare::policy_check(&any(random, &POLICY)), refusals: &[30..=38] },
+    Target { name: "rpc_verdict", call: rpc_verdict, refusals: &[30..=38, 40..=41] },
+    Target {
+        name: "start",
+        call: |random| on_a_host(random, EITHER, |_, _| Call::Start),
+        refusals: &[11..=12, 15..=15],
+    },
+    Target {
+        name: "upload",
+        call: |random| on_a_host(random, EITHER, any_upload),
+        refusals: &[1..=9, 11..=11, 13..=13, 15..=15, 30..=38],
+    },
+    Target {
+        name: "finalize",
+        call: |random| on_a_host(random, EITHER, |_, _| Call::Finalize),
+        refusals: &[11..=11, 13..=15],
+    },
+    Target {
+        name: "close",
+        call: |random| on_a_host(random, EITHER, |_, _| Call::Close),
+        refusals: &[11..=11, 13..=13, 15..=15],
+    },
+    Target {
+        name: "probe_path",
+        call: |random| on_a_host(random, MOSTLY_TABLE, |random, _| Call::ProbePath(any_ask(random))),
+        refusals: &[2..=9, 11..=11, 15..=16, 20..=22],
+    },
+    Target {
+        name: "probe_tree",
+        call: |random| on_a_host(random, MOSTLY_TABLE, |random, _| Call::ProbeTree(any_ask(random))),
+        refusals: &[2..=9, 11..=11, 15..=16, 20..=22],
+    },
+    Target {
+        name: "probe_rpc",
+        call: |random| on_a_host(random, MOSTLY_POLICY, |random, _| Call::ProbeRpc(any_rpc(random))),
+        refusals: &[11..=11, 15..=16, 30..=38, 40..=41],
+    },
 ];
+
+fn path_read(random: &mut Random) -> u64 {
+    let text = any(random, &PATH_TEXT);
+    let room = any_room(random, path_bytes(&text).map_or(text.len(), |bytes| bytes.len()));
+    compare::path_read(&text, room).0
+}
+
+fn path_write(random: &mut Random) -> u64 {
+    let bytes = any(random, &PATH_BYTES);
+    let room = any_room(random, path_text(&bytes).map_or(bytes.len(), |text| text.len()));
+    compare::path_write(&bytes, room).0
+}
 
 fn any_ask(random: &mut Random) -> Ask {
     Ask {
@@ -70,20 +124,23 @@ fn rpc_verdict(random: &mut Random) -> u64 {
 }
 
 /// Any record and store, one of them at fault now and then.
-fn on_a_host(random: &mut Random, call: fn(&mut Random) -> Call) -> u64 {
+fn on_a_host(random: &mut Random, kinds: &[u32], call: fn(&mut Random, u32) -> Call) -> u64 {
     let mut store = vec![random.byte(); 2 * SLOT];
-    let kind = random.between(1, 2) as u32;
+    let kind = *random.pick(kinds);
     let mut record = some_record(random, kind, &mut store);
-    if random.one_in(6) {
+    if random.one_in(8) {
         spoil_record(random, &mut record);
     }
-    store.resize(*random.pick(&[2 * SLOT, 2 * SLOT, 2 * SLOT, 2 * SLOT, 2 * SLOT + 1, 2 * SLOT - 1, 0]), 0xEE);
-    Hosts::new(record, store, *random.pick(&EDGES)).call(&call(random))
+    if random.one_in(8) {
+        store.resize(*random.pick(&[2 * SLOT + 1, 2 * SLOT - 1, SLOT, 0]), 0xEE);
+    }
+    Hosts::new(record, store, *random.pick(&EDGES)).call(&call(random, kind))
 }
 
-fn any_upload(random: &mut Random) -> Call {
-    let kind = if random.one_in(2) { POLICY } else { TABLE };
-    Call::Upload(any(random, &kind))
+/// A text for a record of this kind, now and then of the other.
+fn any_upload(random: &mut Random, kind: u32) -> Call {
+    let is_policy = (kind == 1) != random.one_in(8);
+    Call::Upload(any(random, if is_policy { &POLICY } else { &TABLE }))
 }
 
 fn setting(name: &str) -> Option<u64> {
@@ -91,22 +148,29 @@ fn setting(name: &str) -> Option<u64> {
 }
 
 #[test]
+fn every_declared_call_is_a_target() {
+    assert_eq!(TARGETS.map(|target| target.name)[..], declared_calls());
+}
+
+/// Each call accepts, and refuses with each of its numbers, and with no other.
+#[test]
 fn any_bytes_to_every_call() {
     let mut random = Random::new(setting("BURGEE_FUZZ_SEED").unwrap_or(0x61));
-    let (rounds, until) = match setting("BURGEE_FUZZ_SECONDS") {
-        Some(seconds) => (usize::MAX, Instant::now() + Duration::from_secs(seconds)),
-        None => (ROUNDS, Instant::now() + Duration::from_secs(3_600)),
-    };
+    let (start, time) = (Instant::now(), setting("BURGEE_FUZZ_SECONDS").map(Duration::from_secs));
     let mut made = 0;
-    let mut refused = [0usize; TARGETS.len()];
-    while made < rounds && Instant::now() < until {
-        for (target, refused) in TARGETS.iter().zip(&mut refused) {
-            *refused += usize::from(word::refusal_number((target.call)(&mut random)) != 0);
+    let mut tallies: [Tally; TARGETS.len()] = Default::default();
+    while time.map_or(made < ROUNDS, |time| start.elapsed() < time) {
+        for (target, tally) in TARGETS.iter().zip(&mut tallies) {
+            tally.count((target.call)(&mut random));
         }
         made += 1;
     }
-    for (target, refused) in TARGETS.iter().zip(refused) {
-        println!("{}: {made} calls, {refused} refused", target.name);
-        assert!((made / 16..made / 16 * 15).contains(&refused), "{}: {refused} refused", target.name);
+    for (target, tally) in TARGETS.iter().zip(tallies) {
+        println!("{}: {made} calls, {} accepted", target.name, tally.of(0));
+        if made >= ROUNDS {
+            let numbers: Vec<u8> = [0].into_iter().chain(target.refusals.iter().cloned().flatten()).collect();
+            assert_eq!(tally.numbers(), numbers, "the numbers of {}", target.name);
+            assert!(tally.of(0) >= made / 8, "{} accepts too rarely", target.name);
+        }
     }
 }

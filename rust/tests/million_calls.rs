@@ -1,15 +1,18 @@
-//! A million mixed calls on one set of lent buffers, which change a little from round to
-//! round; each answer and each buffer is compared with the Rust implementation's.
+//! A million mixed calls on one set of lent buffers at each edge of memory, which change a
+//! little from round to round; each answer and each buffer is compared with the Rust
+//! implementation's.
 
 use std::fmt;
 
-use burgee_rust::boundary::{path, policy, rotation as proved, rpc, table, verdict};
+use burgee_rust::boundary::{declared_calls, path, policy, rotation as proved, rpc, table, verdict};
 use burgee_rust::generate::any::{
     any, any_mode, any_room, Kind, HEADERS, IDENTITY, ORIGIN, PATH_BYTES, PATH_TEXT, POLICY, RPC_PATH, TABLE, USER,
 };
 use burgee_rust::generate::rotation::spoil_record;
+use burgee_rust::hosts::{bytes_of, record_in};
+use burgee_rust::lent::{Edge, Lent, EDGES};
 use burgee_rust::limits;
-use burgee_rust::path::{read_path_text, write_path_text};
+use burgee_rust::path::{path_bytes, path_text, read_path_text, write_path_text};
 use burgee_rust::policy::check_policy;
 use burgee_rust::random::Random;
 use burgee_rust::request::PathRequest;
@@ -24,37 +27,47 @@ const KINDS_OF_CALL: usize = 15;
 
 /// What is lent for reading: a buffer for each.
 const INPUTS: [Kind; 9] = [TABLE, USER, ORIGIN, PATH_TEXT, PATH_BYTES, POLICY, IDENTITY, RPC_PATH, HEADERS];
+/// Where the path text and the path bytes stand among them.
+const TEXT: usize = 3;
+const BYTES: usize = 4;
 
-/// A buffer, and what it may hold.
+/// A buffer, what it may hold, and what it holds.
 struct Input {
     choice: Vec<Vec<u8>>,
-    lent: Vec<u8>,
+    held: Vec<u8>,
+    lent: Lent,
 }
 
 impl Input {
-    fn new(random: &mut Random, kind: &Kind) -> Input {
+    fn new(random: &mut Random, kind: &Kind, edge: Edge) -> Input {
         let choice: Vec<Vec<u8>> = (0..256).map(|_| any(random, kind)).collect();
         let longest = choice.iter().map(Vec::len).max().unwrap_or(0);
-        Input { choice, lent: Vec::with_capacity(longest) }
+        Input { choice, held: Vec::new(), lent: Lent::with_room(longest, edge) }
     }
 
     /// Another text, now and then with another byte somewhere.
     fn change(&mut self, random: &mut Random) {
-        self.lent.clear();
-        self.lent.extend(random.pick(&self.choice));
-        if random.one_in(8) && !self.lent.is_empty() {
-            let at = random.below(self.lent.len());
-            self.lent[at] = random.byte();
+        self.held.clone_from(random.pick(&self.choice));
+        if random.one_in(8) && !self.held.is_empty() {
+            let at = random.below(self.held.len());
+            self.held[at] = random.byte();
         }
+        self.lent.hold(&self.held);
     }
 }
 
-/// What the calls of one side change.
-#[derive(Clone, PartialEq, Eq)]
-struct Changed {
+/// What the Rust calls change.
+struct Ours {
     output: Vec<u8>,
     record: Record,
     store: Vec<u8>,
+}
+
+/// What the proved calls change.
+struct Theirs {
+    output: Lent,
+    record: Lent,
+    store: Lent,
 }
 
 struct Buffers {
@@ -62,19 +75,24 @@ struct Buffers {
     mode: u32,
     /// How much of the output is lent.
     room: usize,
-    theirs: Changed,
-    ours: Changed,
+    ours: Ours,
+    theirs: Theirs,
 }
 
 impl Buffers {
-    fn new(random: &mut Random) -> Buffers {
-        let changed = Changed {
+    fn new(random: &mut Random, edge: Edge) -> Buffers {
+        let ours = Ours {
             output: vec![0; limits::PATH_TEXT + 500],
             record: Record::factory(2),
             store: vec![0; 2 * limits::SLOT],
         };
-        let inputs = INPUTS.each_ref().map(|kind| Input::new(random, kind));
-        Buffers { inputs, mode: 1, room: 0, theirs: changed.clone(), ours: changed }
+        let theirs = Theirs {
+            output: Lent::with_room(ours.output.len(), edge),
+            record: Lent::holding(bytes_of(&ours.record), edge),
+            store: Lent::holding(&ours.store, edge),
+        };
+        let inputs = INPUTS.each_ref().map(|kind| Input::new(random, kind, edge));
+        Buffers { inputs, mode: 1, room: 0, ours, theirs }
     }
 
     fn change(&mut self, random: &mut Random) {
@@ -84,30 +102,41 @@ impl Buffers {
             }
         }
         self.mode = any_mode(random);
-        self.room = any_room(random);
+        self.change_room(random);
         if random.one_in(16) {
             let mut record = Record::factory(random.between(1, 2) as u32);
             if random.one_in(8) {
                 spoil_record(random, &mut record);
             }
-            (self.theirs.record, self.ours.record) = (record, record);
+            self.ours.record = record;
+            self.theirs.record.hold(bytes_of(&record));
         }
         if random.one_in(4) {
             // Where the texts of the slots begin.
             let (at, byte) = (random.below(2) * limits::SLOT + random.below(200), random.byte());
-            (self.theirs.store[at], self.ours.store[at]) = (byte, byte);
+            self.ours.store[at] = byte;
+            self.theirs.store.slice_mut()[at] = byte;
         }
+    }
+
+    /// Room for what is read or for what is written, or not.
+    fn change_room(&mut self, random: &mut Random) {
+        let (text, bytes) = (&self.inputs[TEXT].held, &self.inputs[BYTES].held);
+        let result = if random.one_in(2) { path_bytes(text) } else { path_text(bytes) };
+        self.room = any_room(random, result.map_or(text.len(), |result| result.len()));
+        self.room = self.room.min(self.ours.output.len());
+        self.theirs.output.hold(&self.ours.output[..self.room]);
     }
 
     /// One call, of both; gives the proved answer and the Rust one.
     fn call(&mut self, number: usize) -> (u64, u64) {
         let [table, user, origin, text, bytes, policy, identity, rpc_path, headers] =
-            self.inputs.each_ref().map(|input| &input.lent[..]);
+            self.inputs.each_ref().map(|input| input.lent.slice());
         let request = PathRequest { user, mode: self.mode, origin, path: text };
         let rpc = RpcRequest { identity, path: rpc_path, headers };
         let (theirs, ours) = (&mut self.theirs, &mut self.ours);
-        let outputs = (&mut theirs.output[..self.room], &mut ours.output[..self.room]);
-        let (record, store) = (&mut theirs.record, &mut theirs.store);
+        let outputs = (theirs.output.slice_mut(), &mut ours.output[..self.room]);
+        let (record, store) = (record_in(&mut theirs.record), theirs.store.slice_mut());
         let (our_record, our_store) = (&mut ours.record, &mut ours.store);
         let upload = if our_record.kind == 1 { policy } else { table };
         match number {
@@ -139,13 +168,23 @@ impl Buffers {
             ),
         }
     }
+
+    /// Every buffer is as it was, or as the Rust calls changed theirs.
+    fn assert_equal(&self) {
+        for input in &self.inputs {
+            input.lent.assert_holds(&input.held);
+        }
+        self.theirs.output.assert_holds(&self.ours.output[..self.room]);
+        self.theirs.record.assert_holds(bytes_of(&self.ours.record));
+        self.theirs.store.assert_holds(&self.ours.store);
+    }
 }
 
 /// What is lent, for a comparison that fails.
 impl fmt::Display for Buffers {
     fn fmt(&self, f: &mut fmt::Formatter) -> fmt::Result {
         for input in &self.inputs {
-            writeln!(f, "{}", input.lent.escape_ascii())?;
+            writeln!(f, "{}", input.held.escape_ascii())?;
         }
         write!(f, "mode {}, room {}, {:?} afterwards", self.mode, self.room, self.ours.record)
     }
@@ -153,17 +192,19 @@ impl fmt::Display for Buffers {
 
 #[test]
 fn a_million_mixed_calls_on_one_set_of_buffers() {
+    assert_eq!(declared_calls().len(), KINDS_OF_CALL);
     let mut random = Random::new(0x71);
-    let mut buffers = Buffers::new(&mut random);
+    let mut buffers = EDGES.map(|edge| Buffers::new(&mut random, edge));
     let (mut made, mut refused) = ([0usize; KINDS_OF_CALL], [0usize; KINDS_OF_CALL]);
     for round in 0..CALLS {
+        let buffers = &mut buffers[round * EDGES.len() / CALLS];
         if round % KINDS_OF_CALL == 0 {
             buffers.change(&mut random);
         }
         let number = random.below(KINDS_OF_CALL);
         let (theirs, ours) = buffers.call(number);
         assert_eq!(theirs, ours, "answer {theirs:#x}, not {ours:#x}, to call {number} in round {round}: {buffers}");
-        assert!(buffers.theirs == buffers.ours, "bytes stored by call {number} in round {round}: {buffers}");
+        buffers.assert_equal();
         made[number] += 1;
         refused[number] += usize::from(word::refusal_number(theirs) != 0);
     }

@@ -1,23 +1,45 @@
-// Verdicts on tables as lines, one fact a line.
+// Verdicts on a table as lines, one fact a line.
+use facts::Row;
+use table::RuleNumber;
 use verdict_text::PathAnswer;
 use verdict_text::TreeAnswer;
 
-// The action and the deciding rule's number, or the refusal.
-pub fn path(a: PathAnswer) {
+// Prints the name of a row, which has at most 64 bytes.
+pub fn name(text: &[u8], row: Row) {
+    let mut out = [0u8; 64];
+    let n = facts::name_of(text, row, &mut out);
+    show::line(&out[..console::input::within(n, &out)]);
+}
+
+// An answer, and the number and id of the rule that it is by.
+fn by_rule(text: &[u8], answer: &[u8], rule: RuleNumber) {
+    console::say::decided(answer, rule.0 as u64);
+    show::word(b"id ");
+    name(text, Row::Rule(rule));
+}
+
+// The action and the deciding rule, or the refusal; `none` is said where no rule decides.
+pub fn path(text: &[u8], a: PathAnswer, none: &[u8]) {
     match a {
-        PathAnswer::Permit(rule) => console::say::decided(b"permit", rule.0 as u64),
-        PathAnswer::Deny(rule) => console::say::decided(b"deny", rule.0 as u64),
-        PathAnswer::Default => show::line(b"deny\ndefault"),
-        PathAnswer::Refused { number, line } => console::refusal::at(number, line),
+        PathAnswer::Permit(rule) => by_rule(text, b"permit", rule),
+        PathAnswer::Deny(rule) => by_rule(text, b"deny", rule),
+        PathAnswer::Default => {
+            show::line(b"deny");
+            show::word(none);
+        }
+        PathAnswer::Refused { number, line } => console::refusal::of_text(text, number, line),
     }
 }
 
-// The tree answer, and the number of the rule that MIXED names; or the refusal.
-pub fn tree(a: TreeAnswer) {
+// The tree answer, and the rule that MIXED names; or the refusal. `none` is said after NONE.
+pub fn tree(text: &[u8], a: TreeAnswer, none: &[u8]) {
     match a {
         TreeAnswer::All => show::line(b"ALL"),
-        TreeAnswer::None => show::line(b"NONE"),
-        TreeAnswer::Mixed(rule) => console::say::decided(b"MIXED", rule.0 as u64),
-        TreeAnswer::Refused { number, line } => console::refusal::at(number, line),
+        TreeAnswer::None => {
+            show::line(b"NONE");
+            show::word(none);
+        }
+        TreeAnswer::Mixed(rule) => by_rule(text, b"MIXED", rule),
+        TreeAnswer::Refused { number, line } => console::refusal::of_text(text, number, line),
     }
 }

@@ -36,7 +36,7 @@ digits-are h = rw (digit 26 h, digit 20 h, digit 14 h, digit 8 h)
 
 module _ (s : Seed) (d : ℕ) (asked : List Key) (f : List ℕ) where
   pub key-is : (q v : ℕ) → v ≡ strEnd f q → wild (keyIn f q) ≡ false → holds asked (keyIn f q) ≡ false
-      → digits (mix s (mix s d (strIn f q) + 256) (strIn f v)) ≡ keyDigits s d asked (keyIn f q)
+      → digits (mix s (mix s d (strIn f q)) (strIn f v)) ≡ keyDigits s d asked (keyIn f q)
   unfolding keyDigits keyIn if_then_else_ _or_
   key-is q v i e n = rw (e, n, i)
 

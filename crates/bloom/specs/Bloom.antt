@@ -32,7 +32,7 @@ digits h = record {
 
 -- a key, unless it is a wildcard or among the asked ones
 unfoldable pub keyDigits : Seed → ℕ → List Key → Key → Filter
-keyDigits s d asked k = if wild k or holds asked k then none else digits (mix s (mix s d (k .name) + 256) (k .value))
+keyDigits s d asked k = if wild k or holds asked k then none else digits (mix s (mix s d (k .name)) (k .value))
 
 unfoldable pub keysDigits : Seed → ℕ → List Key → List Key → Filter
 keysDigits s d asked [] = none

@@ -41,7 +41,7 @@ pub fn join(x: Filter, y: Filter) -> Filter
 
 // The hash of the string at a position.
 pub fn hash_at(s: Seed, h: usize, f: &[u8], at: usize) -> usize
-    requires { ⌜ Small s × (h < 4294967552) × (strEnd (now f) at ≤ length (now f)) ⌝ }
+    requires { ⌜ Small s × (h < 4294967296) × (strEnd (now f) at ≤ length (now f)) ⌝ }
     ensures { λ r. ⌜ r ≡ mix s h (strIn (now (f .entry)) at) ⌝ }
 {
     let a = at + 1;
@@ -73,7 +73,7 @@ pub fn key_digits(s: Seed, d: usize, f: &[u8], at: usize, g: &[u8], p: usize, k:
         return empty();
     }
     let h = hash_at(s, d, f, at);
-    digits(hash_at(s, h + 256, f, v))
+    digits(hash_at(s, h, f, v))
 }
 
 // The n keys at `at` of f.

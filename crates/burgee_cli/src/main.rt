@@ -27,6 +27,10 @@ fn read_text(command: usize) {
 
 // burgee rpc FILE IDENTITY PATH [HEADERS-FILE]
 fn rpc(words: usize) {
+    if (words == 6) & input::is_standard(2) & input::is_standard(5) {
+        console::say::usage(b"standard input can be read once only", b"", b"rpc");
+        return;
+    }
     let mut text = io::large_buffer();
     let got = input::file(2, &mut text);
     let n = got.count;
@@ -63,11 +67,13 @@ fn judge(command: usize, text: &mut [u8], user: &[u8], mode: u32, origin: &[u8],
 }
 
 // burgee verdict|tree|explain FILE USER read|write ORIGIN PATH
-fn verdict(command: usize) {
+fn verdict(command: usize, page: &[u8]) {
+    let mode = input::mode(4, page);
+    if mode == 0 {
+        return;
+    }
     let mut user = io::buffer();
     let u = input::word(3, &mut user);
-    let mut mode = io::buffer();
-    let m = input::word(4, &mut mode);
     let mut origin = io::buffer();
     let o = input::word(5, &mut origin);
     let mut path = io::large_buffer();
@@ -80,7 +86,7 @@ fn verdict(command: usize) {
             command,
             &mut text[..n],
             &user[..u],
-            input::mode(&mode[..m]),
+            mode,
             &origin[..o],
             &path[..p],
         );
@@ -90,30 +96,23 @@ fn verdict(command: usize) {
 // burgee path read TEXT
 // burgee path write BYTES
 fn path() {
-    let mut word = io::buffer();
-    let w = input::word(2, &mut word);
-    let mode = input::mode(&word[..w]);
+    let mode = input::mode(2, b"path");
     // What stands after the argument is LF, which ends a line of digits.
     let mut given = [10u8; 65536];
     let n = input::word(3, &mut given);
     if mode == 1 {
         paths::read(&given[..n]);
-        return;
     }
     if mode == 2 {
         paths::write(&given);
-        return;
     }
-    console::say::usage(b"after path comes read or write");
 }
 
 // burgee rotate STEP RECORD STORE ..
 fn rotate(words: usize) {
     let mut step = io::buffer();
     let s = input::word(2, &mut step);
-    if !rotation_commands::steps::run(&step[..s], words) {
-        console::say::misuse(b"rotate");
-    }
+    rotation_commands::steps::run(&step[..s], words);
 }
 
 // burgee help [COMMAND]
@@ -121,7 +120,7 @@ fn explain_use() {
     let mut word = io::buffer();
     let w = input::word(2, &mut word);
     if !help::on(&word[..w]) {
-        console::say::usage(b"no such command");
+        console::say::usage(b"no such command: ", &word[..w], b"");
     }
 }
 
@@ -132,17 +131,17 @@ fn takes(command: usize, words: usize) -> bool {
         5 | 6 => words == 4,
         7 | 8 | 9 => words == 7,
         10 => (words == 5) | (words == 6),
-        11 => true,
+        11 => 2 < words,
         _ => words < 4,
     }
 }
 
-fn run(command: usize, words: usize) {
+fn run(command: usize, name: &[u8], words: usize) {
     match command {
         1 | 2 | 3 | 4 => read_text(command),
         5 => groups(),
         6 => path(),
-        7 | 8 | 9 => verdict(command),
+        7 | 8 | 9 => verdict(command, name),
         10 => rpc(words),
         11 => rotate(words),
         _ => explain_use(),
@@ -154,13 +153,15 @@ fn main() {
     let w = input::word(1, &mut word);
     let n = os::arg_count();
     let command = console::lines::place(
-        b"table\nshow\npack\npolicy\ngroups\npath\nverdict\ntree\nexplain\nrpc\nrotate\nhelp\n",
+        b"table\nshow\npack\npolicy\ngroups\npath\nverdict\ntree\nexplain\nrpc\nrotate\nhelp\n--help\n-h\n",
         &word[..w],
     );
-    if command == 0 {
-        console::say::usage(b"no such command");
+    if n < 2 {
+        console::say::usage(b"no command is named", b"", b"");
+    } else if command == 0 {
+        console::say::usage(b"no such command: ", &word[..w], b"");
     } else if takes(command, n) {
-        run(command, n);
+        run(command, &word[..w], n);
     } else {
         console::say::misuse(&word[..w]);
     }

@@ -19,6 +19,13 @@ pub fn within(n: usize, buf: &[u8]) -> usize
     if n <= buf.len() { n } else { buf.len() }
 }
 
+// Whether argument i is `-`, standard input.
+pub fn is_standard(i: usize) -> bool {
+    let mut name = io::buffer();
+    let n = os::arg(i, &mut name);
+    text::string::is_same(&name[..n], b"-")
+}
+
 // A descriptor of the file of that name, 0 for `-`; or -1, after a complaint.
 fn open(name: &[u8]) -> i32 {
     if text::string::is_same(name, b"-") {
@@ -62,15 +69,19 @@ pub fn file(i: usize, buf: &mut [u8]) -> Read
     }
 }
 
-// 1 for read, 2 for write, 0 for anything else.
-pub fn mode(word: &[u8]) -> u32 {
-    if text::string::is_same(word, b"read") {
-        return 1;
+// 1 where argument i is read, 2 where it is write; or 0, after a complaint.
+pub fn mode(i: usize, page: &[u8]) -> u32 {
+    let mut given = io::buffer();
+    let n = word(i, &mut given);
+    let number = crate::lines::place(b"read\nwrite\n", &given[..n]);
+    match number {
+        1 => 1,
+        2 => 2,
+        _ => {
+            crate::say::usage(b"neither read nor write: ", &given[..n], page);
+            0
+        }
     }
-    if text::string::is_same(word, b"write") {
-        return 2;
-    }
-    0
 }
 
 // Writes to the descriptor of the file of that name, or complains.
@@ -85,6 +96,13 @@ fn write(fd: i32, name: &[u8], bytes: &[u8]) -> bool {
     }
     libc::close(fd);
     is_written
+}
+
+// Complains of the file that argument i names.
+pub fn complain(i: usize, what: &[u8], page: &[u8]) {
+    let mut name = io::buffer();
+    let n = os::arg(i, &mut name);
+    crate::say::usage(&name[..n], what, page);
 }
 
 // Writes the file that argument i names, or complains.

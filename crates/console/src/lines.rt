@@ -27,8 +27,11 @@ fn start(text: &[u8], n: usize) -> usize
     at
 }
 
-// The number of the line that position p is in, counted from 1; the last line's where p is past them all, 0 where there is none.
+// The number of the line that position p is in, counted from 1; the last line's where p is past them all.
 pub fn number_at(text: &[u8], p: usize) -> usize {
+    if text.len() == 0 {
+        return 1;
+    }
     let mut n = 0;
     let mut at = 0;
     while at < text.len() {
@@ -52,6 +55,11 @@ fn quote_at(text: &[u8], at: usize)
 // Prints line n.
 pub fn quote(text: &[u8], n: usize) {
     quote_at(text, start(text, n));
+}
+
+// Whether line n has no LF at its end.
+pub fn is_open(text: &[u8], n: usize) -> bool {
+    path_text::reader::find(text, start(text, n), 10, 10) == text.len()
 }
 
 // Prints what follows `key` in the line at `at`, if that begins with it.

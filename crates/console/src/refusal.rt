@@ -19,9 +19,9 @@ fn meaning(number: u8) {
         14 there is no candidate\n\
         15 not a record: its kind, its slot, a length, or a candidate while no rotation is on\n\
         16 the record is of the other kind\n\
-        20 user or mode not as a table allows\n\
-        21 origin not as a table allows\n\
-        22 not a path: path text, or path bytes\n\
+        20 user or mode not as a table allows: a user's name has 1 to 64 bytes that print\n\
+        21 origin not as a table allows: it has at most 32 bytes that print\n\
+        22 not a path: its text is / or /NAME[KEY=VALUE].., and it keeps the limits of a rule's\n\
         23 the result does not fit the buffer\n\
         30 the policy is over 16,384 bytes\n\
         31 not one JSON value, in printable bytes, nested to depth 16 at most\n\
@@ -58,8 +58,18 @@ pub fn quote_line(text: &[u8], line: usize) {
     }
 }
 
+// A line that looks right may lack its LF.
+pub fn tell_end(text: &[u8], line: usize) {
+    if crate::lines::is_open(text, line) {
+        show::line(b"the line has no LF at its end");
+    }
+}
+
 // The refusal of a text, and the line that it is about.
 pub fn of_text(text: &[u8], number: u8, line: usize) {
     at(number, line);
     quote_line(text, line);
+    if number == 2 {
+        tell_end(text, line);
+    }
 }

@@ -1,19 +1,7 @@
 // The factors for a text's strings.
-ghost use Prim.Native.Nat.{_+_, _≤_, _<_};
-ghost use lib.ListN.{length};
+ghost use Prim.Native.Nat.{_<_};
 ghost use Rattle.hash.specs.Mix.{Small};
 use crate::Seed;
-
-// Four bytes as a number.
-fn word(f: &[u8], i: usize) -> usize
-    requires { ⌜ i + 4 ≤ length (now f) ⌝ }
-    ensures { λ r. ⌜ r < 4294967296 ⌝ }
-{
-    f[i] as usize
-        + f[i + 1] as usize * 256
-        + f[i + 2] as usize * 65536
-        + f[i + 3] as usize * 16777216
-}
 
 // A factor from the middle of a product.
 fn factor(x: usize) -> usize
@@ -22,21 +10,21 @@ fn factor(x: usize) -> usize
     x / 65536 % 1073741824 * 2 + 1
 }
 
-// The factors after eight bytes at a time, the last few left out.
+// The factors after two words at a time, the last few bytes left out.
 fn absorb(s: Seed, f: &[u8]) -> Seed
     requires { ⌜ Small s ⌝ }
     ensures { λ r. ⌜ Small r ⌝ }
 {
     let mut x = s.first;
     let mut y = s.second;
-    let mut i = 0;
+    let mut k = 0;
     let mut left = f.len() / 8;
     while 0 < left {
-        let u = factor((x + word(f, i)) * y);
-        let v = factor((y + word(f, i + 4)) * x);
+        let u = factor((x + crate::word::at(f, k)) * y);
+        let v = factor((y + crate::word::at(f, k + 1)) * x);
         x = u;
         y = v;
-        i += 8;
+        k += 2;
         left -= 1;
     }
     Seed {

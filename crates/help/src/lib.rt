@@ -4,22 +4,23 @@ pub fn all() {
         1,
         b"burgee: tries rule tables and policies\n\
         \n\
-        burgee table FILE\n\
-        burgee show FILE\n\
-        burgee pack FILE\n\
-        burgee groups FILE USER\n\
-        burgee verdict FILE USER read|write ORIGIN PATH\n\
-        burgee tree FILE USER read|write ORIGIN PATH\n\
-        burgee explain FILE USER read|write ORIGIN PATH\n\
-        burgee path read TEXT\n\
-        burgee path write BYTES\n\
-        burgee policy FILE\n\
-        burgee rpc FILE IDENTITY PATH [HEADERS-FILE]\n\
-        burgee rotate STEP RECORD STORE ..\n\
-        burgee help [COMMAND]\n\
+        burgee table FILE                                  checks a rule table\n\
+        burgee show FILE                                   a rule table as readable text\n\
+        burgee pack FILE                                   readable text as a rule table\n\
+        burgee groups FILE USER                            the groups that list a user\n\
+        burgee verdict FILE USER read|write ORIGIN PATH    what a user may do at a path\n\
+        burgee tree FILE USER read|write ORIGIN PATH       and at every path beneath it\n\
+        burgee explain FILE USER read|write ORIGIN PATH    why: the rules that match, the best first\n\
+        burgee path read TEXT                              path text as path bytes\n\
+        burgee path write BYTES                            path bytes as path text\n\
+        burgee policy FILE                                 checks an RPC policy\n\
+        burgee rpc FILE IDENTITY PATH [HEADERS-FILE]       whether a client may make a call\n\
+        burgee rotate STEP RECORD STORE ..                 a rotation, tried by hand\n\
+        burgee help [COMMAND]                              this page, or one command's\n\
         \n\
         A FILE named - is standard input. Each line of an answer is one fact.\n\
-        The exit status is 0 for an answer, 1 for a refusal, 2 for a call that is not understood or a file that cannot be read.\n",
+        The exit status is 0 for an answer, 1 for a refusal, 2 for a call that is not understood\n\
+        or a file that cannot be read or written.\n",
     );
 }
 
@@ -46,6 +47,15 @@ fn conversion() {
         burgee pack FILE\n\
         \n\
         A rule table as readable text, one thing a line, and that text back as the table: show and pack undo each other.\n\
+        A line of the readable text is one of these, and ends with LF:\n\
+        \n\
+        version [VERSION] time T\n\
+        group [NAME]\n\
+        member [GROUP] [USER]\n\
+        rule permit|deny read|write user|group [NAME] id [ID] origin [ORIGIN] PATH\n\
+        \n\
+        T is 16 hex digits. In brackets \\ stands before ] and \\. A line of another form is refused at its line, without a number;\n\
+        a text that makes no table is refused by the table's number and line.\n\
         \n\
         $ burgee show examples/files/yard.table | head -n 4\n\
         version [2026-11] time 000000006553f100\n\
@@ -53,7 +63,10 @@ fn conversion() {
         group [engineers]\n\
         member [admin] [stevie]\n\
         $ burgee show examples/files/yard.table | burgee pack - | cmp - examples/files/yard.table && echo the same\n\
-        the same\n",
+        the same\n\
+        $ echo 'group admin' | burgee pack -\n\
+        refused at line 1: not a line of the readable form\n\
+        line: group admin\n",
     );
 }
 
@@ -78,11 +91,15 @@ fn verdict() {
         \n\
         What the user may do at one path: permit or deny, and the deciding rule's number and id,\n\
         or default where no rule matches.\n\
+        USER is named as in the table. ORIGIN is the path's origin, mostly empty: ''. PATH is path text, as / or /NAME[KEY=VALUE]/NAME.\n\
         \n\
         $ burgee verdict examples/files/yard.table ann write '' '/interfaces/interface[name=uplink]/config'\n\
         permit\n\
         rule 2\n\
-        id eng-ports\n",
+        id eng-ports\n\
+        $ burgee verdict examples/files/yard.table bob read '' /system\n\
+        deny\n\
+        default\n",
     );
 }
 
@@ -91,8 +108,9 @@ fn tree() {
         1,
         b"burgee tree FILE USER read|write ORIGIN PATH\n\
         \n\
-        What the user may do at a path and beneath it: ALL, NONE or MIXED.\n\
-        With MIXED comes a rule that makes the difference, the one with the smallest id.\n\
+        What the user may do at a path and at every path beneath it, also those that no machine has yet: ALL, NONE or MIXED.\n\
+        With MIXED comes, of the rules by which some path beneath gets the other answer than PATH itself, the one with the smallest id.\n\
+        USER is named as in the table. ORIGIN is the path's origin, mostly empty: ''. PATH is path text, as / or /NAME[KEY=VALUE]/NAME.\n\
         \n\
         $ burgee tree examples/files/yard.table stevie read '' /system\n\
         MIXED\n\
@@ -109,13 +127,18 @@ fn explain() {
         The verdict, and then every rule that matches, in ranking order: the first decides, and of each other one\n\
         the line says at which step of the ranking it lost to the first. The steps are, in this order:\n\
         elements, definite keys, user over group, deny over permit, smaller id.\n\
+        USER is named as in the table. ORIGIN is the path's origin, mostly empty: ''. PATH is path text, as / or /NAME[KEY=VALUE]/NAME.\n\
         \n\
         $ burgee explain examples/files/yard.table ann write '' '/interfaces/interface[name=uplink]/config'\n\
         permit\n\
         rule 2\n\
         id eng-ports\n\
-        1 decides: rule 2, permit, 3 elements, 0 definite keys, group, id eng-ports\n\
-        2 lost at elements: rule 3, deny, 2 elements, 1 definite keys, user, id ann-no-uplink\n",
+        1 decides: rule 2, permit, elements 3, definite keys 0, group, id eng-ports\n\
+        2 lost at elements: rule 3, deny, elements 2, definite keys 1, user, id ann-no-uplink\n\
+        $ burgee explain examples/files/yard.table bob read '' /system\n\
+        deny\n\
+        default\n\
+        no rule matches\n",
     );
 }
 
@@ -130,7 +153,10 @@ fn path() {
         $ burgee path read '/a[k=*]'\n\
         01016101016b012a\n\
         $ burgee path write 01016101016b012a\n\
-        /a[k=*]\n",
+        /a[k=*]\n\
+        $ burgee path write 0x01\n\
+        burgee: path bytes are pairs of the digits 0-9a-f\n\
+        Try: burgee help path\n",
     );
 }
 
@@ -157,7 +183,7 @@ fn rpc() {
         1,
         b"burgee rpc FILE IDENTITY PATH [HEADERS-FILE]\n\
         \n\
-        Whether a policy permits an RPC: permit or deny, and the list and the number of the deciding rule in it,\n\
+        Whether a policy permits an RPC: permit or deny, and the deciding rule's list, number and name,\n\
         or default where no rule matches. The identity is '' without a client certificate.\n\
         A line of the headers' file is a name, a colon and a value.\n\
         \n\
@@ -165,14 +191,17 @@ fn rpc() {
         permit\n\
         list allow_rules\n\
         rule 0\n\
+        name officers\n\
         $ burgee rpc examples/files/yard.json spiffe://yard/dryer /gnoi.system.System/Reboot\n\
         deny\n\
         list deny_rules\n\
         rule 0\n\
+        name no_reboot\n\
         $ echo 'site:north' | burgee rpc examples/files/yard.json '' /gnmi.gNMI/Get -\n\
         permit\n\
         list allow_rules\n\
         rule 1\n\
+        name readers\n\
         $ burgee rpc examples/files/yard.json '' /gnmi.gNMI/Set\n\
         deny\n\
         default\n",
@@ -183,6 +212,7 @@ fn rotate() {
     io::write_all(
         1,
         b"burgee rotate new RECORD STORE policy|table\n\
+        burgee rotate show RECORD STORE\n\
         burgee rotate start RECORD STORE\n\
         burgee rotate upload RECORD STORE FILE\n\
         burgee rotate verdict RECORD STORE USER read|write ORIGIN PATH\n\
@@ -192,7 +222,7 @@ fn rotate() {
         burgee rotate close RECORD STORE\n\
         \n\
         A rotation tried by hand. RECORD and STORE are files that new makes, and neither may be there before;\n\
-        each step prints what the record then says.\n\
+        each step prints what the record then says, and show prints it without a step.\n\
         A verdict, a tree answer or an RPC is judged on what is in force: the candidate, else the live text, else factory,\n\
         which denies all (table) or permits all (policy).\n\
         \n\
@@ -203,6 +233,9 @@ fn rotate() {
         live none\n\
         rotation off\n\
         candidate none\n\
+        $ burgee rotate verdict target/help.record target/help.store ann read '' /system\n\
+        deny\n\
+        factory\n\
         $ burgee rotate finalize target/help.record target/help.store\n\
         refused 13: no rotation is on\n\
         $ burgee rotate new target/help.record target/help.store policy\n\
@@ -210,9 +243,6 @@ fn rotate() {
         $ rm target/help.*\n\
         $ burgee rotate new target/help.record target/help.store policy | head -n 1\n\
         kind policy\n\
-        $ burgee rotate rpc target/help.record target/help.store '' /gnmi.gNMI/Get\n\
-        permit\n\
-        factory\n\
         $ burgee rotate start target/help.record target/help.store | tail -n 2\n\
         rotation on\n\
         candidate none\n\
@@ -221,7 +251,14 @@ fn rotate() {
         $ burgee rotate rpc target/help.record target/help.store spiffe://yard/dryer /gnoi.system.System/Reboot\n\
         deny\n\
         list deny_rules\n\
-        rule 0\n",
+        rule 0\n\
+        name no_reboot\n\
+        $ burgee rotate show target/help.record target/help.store\n\
+        kind policy\n\
+        slot 0\n\
+        live none\n\
+        rotation on\n\
+        candidate 525\n",
     );
 }
 

@@ -1,15 +1,31 @@
 // The RPC verdict.
 ghost use Rattle.io.specs.Counts.{Counts};
 use console::input::Read;
+use policy_facts::name::Listed;
 use rpc::verdict::Verdict;
 
-// The action, and the list and the number of the deciding rule.
-pub fn answer(v: Verdict) {
+// The name of a rule of the policy.
+fn name(policy: &[u8], rule: Listed) {
+    let n = policy_facts::name::rule_name(policy, rule);
+    let from = n.from;
+    let to = n.to;
+    show::word(b"name ");
+    show::line(&policy[from..to]);
+}
+
+// The action, and the list, the number and the name of the deciding rule.
+pub fn answer(policy: &[u8], v: Verdict) {
     match v {
-        Verdict::Permitted(rule) => console::say::decided(b"permit\nlist allow_rules", rule as u64),
-        Verdict::Denied(rule) => console::say::decided(b"deny\nlist deny_rules", rule as u64),
+        Verdict::Permitted(rule) => {
+            console::say::decided(b"permit\nlist allow_rules", rule as u64);
+            name(policy, Listed::Allow(rule));
+        }
+        Verdict::Denied(rule) => {
+            console::say::decided(b"deny\nlist deny_rules", rule as u64);
+            name(policy, Listed::Deny(rule));
+        }
         Verdict::Default => show::line(b"deny\ndefault"),
-        Verdict::Refused(number) => console::refusal::at(number, 0),
+        Verdict::Refused(number) => crate::refusal::tell(policy, number),
     }
 }
 
@@ -27,10 +43,8 @@ pub fn headers(i: usize, words: usize, buf: &mut [u8]) -> Read
 }
 
 pub fn verdict(policy: &[u8], identity: &[u8], path: &[u8], headers: &[u8]) {
-    let v = rpc_text::verdict::rpc_verdict(policy, identity, path, headers);
-    if let Verdict::Refused(number) = v {
-        crate::refusal::tell(policy, number);
-        return;
-    }
-    answer(v);
+    answer(
+        policy,
+        rpc_text::verdict::rpc_verdict(policy, identity, path, headers),
+    );
 }

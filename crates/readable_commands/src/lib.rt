@@ -18,6 +18,7 @@ fn answer(c: Converted, text: &[u8], made: &[u8]) {
             show::decimal(line as u64);
             show::line(b": not a line of the readable form");
             console::refusal::quote_line(text, line);
+            console::refusal::tell_end(text, line);
         }
         Converted::NoRoom => show::line(b"refused: too long for a table"),
     }

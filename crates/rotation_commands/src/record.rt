@@ -77,6 +77,16 @@ fn print_length(n: u32) {
     }
 }
 
+// Prints what a record says, unless it or its store of n bytes is refused.
+pub fn tell(r: Record, n: usize) {
+    let number = rotation::state::refusal(r, n, 255);
+    if number == 255 {
+        print(r);
+    } else {
+        console::refusal::at(number, 0);
+    }
+}
+
 // Prints what a record says.
 pub fn print(r: Record) {
     if r.kind == 1 {

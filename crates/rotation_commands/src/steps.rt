@@ -1,5 +1,7 @@
 // The steps of a rotation, and its probes. The words of a call: rotate, the step, the record's file, the store's file, what the step takes.
+ghost use Prim.Native.Nat.{_≤_};
 use probe::rpcs::RpcAnswer;
+use rotation::InForce;
 use rotation::Record;
 use rotation::Stepped;
 use table::Checked;
@@ -39,7 +41,7 @@ fn new() {
     let w = console::input::word(5, &mut word);
     let k = kind(&word[..w]);
     if k == 0 {
-        console::say::usage(b"a record is for a policy or for a table");
+        console::say::usage(b"a record is for a policy or for a table", b"", b"rotate");
         return;
     }
     make(crate::record::factory(k));
@@ -89,6 +91,42 @@ fn upload(r: Record, store: &mut [u8]) {
     }
 }
 
+// Where the text in force lies in a store.
+struct Force {
+    is_factory: bool,
+    start: usize,
+    end: usize,
+}
+
+// In a store of n bytes; nothing where it has no such text.
+fn find_force(r: Record, n: usize) -> Force
+    ensures { λ f. ⌜ (f .start ≤ f .end) × (f .end ≤ n) ⌝ }
+{
+    let f = rotation::state::in_force(r);
+    let InForce::Text { slot, len } = f else {
+        return Force {
+            is_factory: true,
+            start: 0,
+            end: 0,
+        };
+    };
+    let start = slot as usize * 32768;
+    let end = start + len as usize;
+    if end <= n {
+        return Force {
+            is_factory: false,
+            start: start,
+            end: end,
+        };
+    }
+    Force {
+        is_factory: false,
+        start: 0,
+        end: 0,
+    }
+}
+
+// What is asked of a path, with the text that names the rules.
 fn judge(
     r: Record,
     store: &[u8],
@@ -98,10 +136,24 @@ fn judge(
     origin: &[u8],
     path: &[u8],
 ) {
+    let f = find_force(r, store.len());
+    let start = f.start;
+    let end = f.end;
+    let text = &store[start..end];
     if is_tree {
-        answers::tree(probe::probe_tree(r, store, user, mode, origin, path));
+        let a = probe::probe_tree(r, store, user, mode, origin, path);
+        if f.is_factory {
+            answers::tree(text, a, b"factory\n");
+        } else {
+            answers::tree(text, a, b"");
+        }
     } else {
-        answers::path(probe::probe_path(r, store, user, mode, origin, path));
+        let a = probe::probe_path(r, store, user, mode, origin, path);
+        if f.is_factory {
+            answers::path(text, a, b"factory\n");
+        } else {
+            answers::path(text, a, b"default\n");
+        }
     }
 }
 
@@ -109,27 +161,32 @@ fn judge(
 fn probe(r: Record, store: &[u8], is_tree: bool) {
     let mut user = io::buffer();
     let u = console::input::word(5, &mut user);
-    let mut mode = io::buffer();
-    let m = console::input::word(6, &mut mode);
+    let mode = console::input::mode(6, b"rotate");
     let mut origin = io::buffer();
     let o = console::input::word(7, &mut origin);
     let mut path = io::large_buffer();
     let p = console::input::word(8, &mut path);
-    judge(
-        r,
-        store,
-        is_tree,
-        &user[..u],
-        console::input::mode(&mode[..m]),
-        &origin[..o],
-        &path[..p],
-    );
+    if mode != 0 {
+        judge(
+            r,
+            store,
+            is_tree,
+            &user[..u],
+            mode,
+            &origin[..o],
+            &path[..p],
+        );
+    }
 }
 
-fn answer_rpc(a: RpcAnswer) {
+// A probe's answer, with the text that names the rules.
+fn answer_rpc(r: Record, store: &[u8], a: RpcAnswer) {
+    let f = find_force(r, store.len());
+    let start = f.start;
+    let end = f.end;
     match a {
         RpcAnswer::PermitAll => show::line(b"permit\nfactory"),
-        RpcAnswer::Judged(v) => policy_commands::rpcs::answer(v),
+        RpcAnswer::Judged(v) => policy_commands::rpcs::answer(&store[start..end], v),
     }
 }
 
@@ -143,14 +200,15 @@ fn probe_rpc(r: Record, store: &[u8], words: usize) {
     let got = policy_commands::rpcs::headers(7, words, &mut headers);
     let h = got.count;
     if got.is_good {
-        answer_rpc(probe::rpcs::probe_rpc(r, store, &identity[..i], &path[..p], &headers[..h]));
+        let a = probe::rpcs::probe_rpc(r, store, &identity[..i], &path[..p], &headers[..h]);
+        answer_rpc(r, store, a);
     }
 }
 
 // Whether a step takes that many words. Steps are numbered as in `run`.
 fn takes(step: usize, words: usize) -> bool {
     match step {
-        1 | 2 | 3 => words == 5,
+        1 | 2 | 3 | 9 => words == 5,
         4 | 5 => words == 6,
         6 | 7 => words == 9,
         8 => (words == 7) | (words == 8),
@@ -167,12 +225,17 @@ fn run_on(step: usize, words: usize, r: Record, store: &mut [u8]) {
         4 => upload(r, store),
         6 => probe(r, store, false),
         7 => probe(r, store, true),
-        _ => probe_rpc(r, store, words),
+        8 => probe_rpc(r, store, words),
+        _ => crate::record::tell(r, store.len()),
     }
 }
 
 // Reads the record and the store, and takes the step.
 fn open(step: usize, words: usize) {
+    if console::input::is_standard(3) | console::input::is_standard(4) {
+        console::say::usage(b"a record and a store are files", b"", b"rotate");
+        return;
+    }
     // One byte more than a record has, so that a longer file is told from it.
     let mut bytes = [0u8; 21];
     let record = console::input::file(3, &mut bytes);
@@ -180,7 +243,7 @@ fn open(step: usize, words: usize) {
         return;
     }
     if record.count != 20 {
-        console::say::usage(b"a record has 20 bytes");
+        console::input::complain(3, b": a record has 20 bytes", b"rotate");
         return;
     }
     let mut store = io::large_buffer();
@@ -196,19 +259,19 @@ fn open(step: usize, words: usize) {
     }
 }
 
-// The step, if it is one and has the words that it takes.
-pub fn run(word: &[u8], words: usize) -> bool {
+// The step, if there is one of that name and it takes that many words.
+pub fn run(word: &[u8], words: usize) {
     let step = console::lines::place(
-        b"start\nfinalize\nclose\nupload\nnew\nverdict\ntree\nrpc\n",
+        b"start\nfinalize\nclose\nupload\nnew\nverdict\ntree\nrpc\nshow\n",
         word,
     );
-    if !takes(step, words) {
-        return false;
-    }
-    if step == 5 {
+    if step == 0 {
+        console::say::usage(b"no such step of a rotation: ", word, b"rotate");
+    } else if !takes(step, words) {
+        console::say::misuse(b"rotate");
+    } else if step == 5 {
         new();
     } else {
         open(step, words);
     }
-    true
 }

@@ -39,18 +39,17 @@ fn name_step(s: Step) {
 
 fn name_standing(s: Standing) {
     if s.permit {
-        show::word(b", permit, ");
+        show::word(b", permit, elements ");
     } else {
-        show::word(b", deny, ");
+        show::word(b", deny, elements ");
     }
     show::decimal(s.elements as u64);
-    show::word(b" elements, ");
+    show::word(b", definite keys ");
     show::decimal(s.keys as u64);
-    show::word(b" definite keys, ");
     if s.group {
-        show::word(b"group, id ");
+        show::word(b", group, id ");
     } else {
-        show::word(b"user, id ");
+        show::word(b", user, id ");
     }
 }
 
@@ -74,7 +73,7 @@ fn rule(text: &[u8], place: u64, rule: RuleNumber, best: RuleNumber) {
     }
     show::decimal(rule.0 as u64);
     name_standing(s);
-    crate::tables::name(text, Row::Rule(rule));
+    answers::name(text, Row::Rule(rule));
 }
 
 // The rules that match, the best first.
@@ -95,6 +94,7 @@ fn list(text: &mut [u8], user: &[u8], mode: u32, origin: &[u8], path: &[u8]) {
 
 // The verdict, and the rules that match.
 pub fn all(text: &mut [u8], user: &[u8], mode: u32, origin: &[u8], path: &[u8]) {
-    crate::tables::verdict(text, user, mode, origin, path);
+    let a = verdicts::path_verdict(text, user, mode, origin, path);
+    answers::path(text, a, b"default\nno rule matches\n");
     list(text, user, mode, origin, path);
 }

@@ -36,6 +36,10 @@ pub fn write(digits: &[u8])
         Line::Frame { len, next } => {
             write_bytes(&bytes[..console::input::within(len, &bytes)]);
         }
-        Line::Bad => console::say::usage(b"path bytes are written as pairs of the digits 0-9a-f"),
+        Line::Bad => console::say::usage(
+            b"path bytes are pairs of the digits 0-9a-f",
+            b"",
+            b"path",
+        ),
     }
 }

@@ -3,9 +3,6 @@ use facts::Row;
 use facts::Rows;
 use table::Counted;
 use table::GroupNumber;
-use table::RuleNumber;
-use verdict_text::PathAnswer;
-use verdict_text::TreeAnswer;
 
 // How many rows of each kind an accepted table has, or why it is refused.
 pub fn check(text: &[u8]) {
@@ -24,19 +21,12 @@ pub fn check(text: &[u8]) {
     }
 }
 
-// Prints the name of a row, which has at most 64 bytes.
-pub fn name(text: &[u8], row: Row) {
-    let mut out = [0u8; 64];
-    let n = facts::name_of(text, row, &mut out);
-    show::line(&out[..console::input::within(n, &out)]);
-}
-
 // The number and the name of a group.
 fn group(text: &[u8], number: GroupNumber) {
     show::word(b"group ");
     show::decimal(number.0 as u64);
     show::space();
-    name(text, Row::Group(number));
+    answers::name(text, Row::Group(number));
 }
 
 // Each group that lists the user.
@@ -63,32 +53,20 @@ pub fn groups(text: &[u8], user: &[u8]) {
     }
 }
 
-// Prints the id of a rule.
-fn id(text: &[u8], rule: RuleNumber) {
-    show::word(b"id ");
-    name(text, Row::Rule(rule));
-}
-
 // The action, and the deciding rule's number and id.
 pub fn verdict(text: &[u8], user: &[u8], mode: u32, origin: &[u8], path: &[u8]) {
-    let a = verdicts::path_verdict(text, user, mode, origin, path);
-    answers::path(a);
-    match a {
-        PathAnswer::Permit(rule) => id(text, rule),
-        PathAnswer::Deny(rule) => id(text, rule),
-        PathAnswer::Default => (),
-        PathAnswer::Refused { number, line } => console::refusal::quote_line(text, line),
-    }
+    answers::path(
+        text,
+        verdicts::path_verdict(text, user, mode, origin, path),
+        b"default\n",
+    );
 }
 
 // The tree answer, and the number and id of the rule that MIXED names.
 pub fn tree(text: &[u8], user: &[u8], mode: u32, origin: &[u8], path: &[u8]) {
-    let a = verdicts::tree_verdict(text, user, mode, origin, path);
-    answers::tree(a);
-    match a {
-        TreeAnswer::All => (),
-        TreeAnswer::None => (),
-        TreeAnswer::Mixed(rule) => id(text, rule),
-        TreeAnswer::Refused { number, line } => console::refusal::quote_line(text, line),
-    }
+    answers::tree(
+        text,
+        verdicts::tree_verdict(text, user, mode, origin, path),
+        b"",
+    );
 }

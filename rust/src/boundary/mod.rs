@@ -57,3 +57,10 @@ pub mod rotation;
 pub mod rpc;
 pub mod table;
 pub mod verdict;
+
+/// The calls that the C header declares, without `burgee_`, in its order.
+pub fn declared_calls() -> Vec<&'static str> {
+    let header = include_str!("../../../include/burgee.h");
+    let declared = |line: &'static str| line.strip_prefix("uint64_t burgee_")?.split('(').next();
+    header.lines().filter_map(declared).collect()
+}

@@ -1,6 +1,6 @@
 //! Single faults put into a good policy, each with the number that paper 01 gives it.
 
-use super::policy::{good_header, Header, Node, Policy, Request, Rule, Source};
+use super::policy::{good_header, good_policy, Header, Node, Policy, Request, Rule, Source};
 use crate::limits;
 use crate::policy::BARRED_KEYS;
 use crate::random::Random;
@@ -139,6 +139,27 @@ fn on_any_string(random: &mut Random, policy: &mut Policy, change: impl FnOnce(&
             list.insert(place, string);
         }
     }
+}
+
+/// The text of a policy with one fault, any of 31 to 38.
+pub fn faulty_policy(random: &mut Random) -> Bytes {
+    let mut policy = good_policy(random);
+    let fault = random.below(6);
+    if fault > 2 {
+        random.pick(&PART_FAULTS).put(random, &mut policy);
+    }
+    let mut node = policy.node(random);
+    match fault {
+        0 => put_member_twice(random, &mut node),
+        1 => put_schema_fault(random, &mut node),
+        _ => {}
+    }
+    let spaces = random.one_in(2);
+    let mut text = node.text(random, spaces);
+    if fault == 2 {
+        put_json_fault(random, &mut text);
+    }
+    text
 }
 
 /// Puts a member twice into some object (32).

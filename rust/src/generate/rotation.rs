@@ -3,7 +3,7 @@
 use super::damage::damage;
 use super::path::{good_path, TEXT_MARKS};
 use super::policy::{good_policy, good_rpc, policy_of_length, Rpc};
-use super::policy_fault::{put_json_fault, PART_FAULTS};
+use super::policy_fault::faulty_policy;
 use super::table::{dense_path, dense_table, table_of_length, table_text, Shape};
 use super::table_fault::LINE_FAULTS;
 use crate::limits;
@@ -58,16 +58,7 @@ pub fn some_text(random: &mut Random, kind: u32) -> Vec<u8> {
         (1, 1) => policy_of_length(limits::POLICY_TEXT),
         (1, 2) => vec![b' '; limits::POLICY_TEXT + 1],
         (1, 3) => padded_policy(random),
-        (1, 4 | 5) => {
-            let mut policy = good_policy(random);
-            random.pick(&PART_FAULTS).put(random, &mut policy);
-            policy.text(random)
-        }
-        (1, 6) => {
-            let mut text = good_policy(random).text(random);
-            put_json_fault(random, &mut text);
-            text
-        }
+        (1, 4..=6) => faulty_policy(random),
         (1, _) => good_policy(random).text(random),
         (_, 1) => table_of_length(random, limits::TABLE_TEXT, 160),
         (_, 2) => table_of_length(random, limits::TABLE_TEXT + 1, 160),

@@ -373,11 +373,13 @@ fn colliding_names(before: &str, common: &str, count: usize) -> Vec<String> {
 
 /// The proved library's hash of a name.
 fn proved_hash(name: &str) -> u64 {
-    let turn = |(x, y), b| {
-        let x = (x + u64::from(b)) * 1_201_626_857 % (1 << 32);
-        (x, (y + x) * 1_150_305_587 % (1 << 32))
+    let middle = |product: u64| product >> 16 & 0xFFFF_FFFF;
+    let word = |bytes: &[u8]| bytes.iter().rev().fold(0, |word, b| word << 8 | u64::from(*b));
+    let turn = |(x, y), bytes| {
+        let x = middle((x + word(bytes)) * 1_201_626_857);
+        (x, middle((y + x) * 1_150_305_587))
     };
-    name.bytes().fold((0, 0), turn).1 >> 19
+    name.as_bytes().chunks(4).fold((0, 0), turn).1 >> 19
 }
 
 /// A rule line with a frame of exactly `size` bytes, which is 24 or more.

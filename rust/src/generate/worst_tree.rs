@@ -29,7 +29,7 @@ pub fn worst_trees() -> Vec<WorstTree> {
         named("keys that are asked", full_table(partly_asked), &keyed(&[4])),
         named("ranks that rise", full_table(rising), &plain(16)),
         named("keys that rise", full_table(rising_keys), &keyed(&[4; 16])),
-        named("values of one hash", values_of_one_hash(), &root),
+        named("values alike in low bits", full_table(alike_in_low_bits), &root),
         named(
             "all keys asked",
             full_table(|number| (b'u', (number % 2) as u8, last_key(plain(14), number))),
@@ -153,19 +153,11 @@ fn split_keys(number: usize) -> (u8, u8, Path) {
     (b'u', (number % 2) as u8, path)
 }
 
-/// Values that a linear hash with a factor known beforehand does not tell apart, as the proved library once had: the
-/// upper twelve bits are those of the first value's.
-fn values_of_one_hash() -> Vec<u8> {
-    let digits = |value: &[u8]| {
-        let start = 13 * 256;
-        b"z".iter().chain(value).fold(start, |h, b| (h + u64::from(*b)) * 2_654_435_761 % (1 << 32)) >> 20
-    };
-    let value = |number: usize| (0..4).map(|at| b'0' + (number >> (6 * at) & 63) as u8).collect::<Vec<u8>>();
-    let first = digits(&value(0));
-    let values: Vec<Vec<u8>> = (0..).map(value).filter(|value| digits(value) == first).take(256).collect();
-    full_table(|number| {
-        let mut path = last_key(plain(14), number);
-        path.elements[13].keys[0].value.clone_from(&values[number]);
-        (b'u', (number % 2) as u8, path)
-    })
+/// Values of eight words of four bytes that differ in the highest byte of a word by 64: a hash that multiplies words and
+/// keeps the low end of each product gives them four hashes, whatever its factors.
+fn alike_in_low_bits(number: usize) -> (u8, u8, Path) {
+    let mut path = last_key(plain(2), number);
+    let word = |at: usize| if number >> at & 1 == 0 { *b"aaa0" } else { *b"aaap" };
+    path.elements[1].keys[0].value = (0..8).flat_map(word).collect();
+    (b'u', (number % 2) as u8, path)
 }

@@ -52,18 +52,12 @@ hash-at-requires c κs =
     let at-start = c .before .before .before .before .before .before .before in
     (at-start .pre .0, omega arith, omega (arith, str-grows (at-start .args .f .now) (strEnd (at-start .args .f .now) (at-start .args .at))))
 
-add-hash-at : tie.Need-add-hash-at
-add-hash-at c =
-    let at-hash-at = c .hash-at in
-    let at-start = c .before .before .before .before .before .before .before .before in
-    rw (at-hash-at .ensures) (omega (arith, mix-small (at-start .args .s) (at-start .args .d) (strIn (at-start .args .f .now) (at-start .args .at))))
-
 hash-at-requires-2 : tie.Need-hash-at-requires-2
 hash-at-requires-2 c κs =
     let at-hash-at = c .hash-at in
     let at-str-end = c .before .before .before .before .before .str-end in
     let at-start = c .before .before .before .before .before .before .before .before in
-    (at-start .pre .0, rw (at-hash-at .ensures) (omega (arith, mix-small (at-start .args .s) (at-start .args .d) (strIn (at-start .args .f .now) (at-start .args .at)))), rw (at-str-end .ensures) (at-start .pre .2))
+    (at-start .pre .0, rw (at-hash-at .ensures) (mix-small (at-start .args .s) (at-start .args .d) (strIn (at-start .args .f .now) (at-start .args .at)) (omega arith)), rw (at-str-end .ensures) (at-start .pre .2))
 
 digits-requires : tie.Need-digits-requires
 digits-requires c κs = search needs
@@ -93,7 +87,6 @@ key-digits-spec =
     empty-requires-2
     returns-2
     hash-at-requires
-    add-hash-at
     hash-at-requires-2
     digits-requires
     returns-3)

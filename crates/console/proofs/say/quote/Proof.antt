@@ -1,33 +1,32 @@
 -- `quote` is safe and ends.
 use borrow.Author.Needs.{needs}
+use native.Mathlib.Omega.{arith}
 use Prim.Native.Nat.{_-_, _≤_}
 use lib.ListN.{length}
 use Rattle.console.proofs.say.quote.Statement.{statement}
 use Rattle.console.proofs.say.quote.Tie as tie
 
 abbrev Inv-loop : tie.InvT-loop
-Inv-loop s i₀ t3 i = i ≤ length s
+Inv-loop s at₀ t3 at = at ≤ length s
 
 abbrev μ-loop : tie.MeasureT-loop
-μ-loop s i₀ t3 i = length s - i
+μ-loop s at₀ t3 at = length s - at
 
 loop-holds : tie.Need-loop-holds Inv-loop μ-loop
 loop-holds c = search needs
 
-shared-slice-read-quoted : tie.Need-shared-slice-read-quoted Inv-loop μ-loop
-shared-slice-read-quoted c = search needs
-
-quoted-requires : tie.Need-quoted-requires Inv-loop μ-loop
-quoted-requires c κs = search needs
-
-add-i : tie.Need-add-i Inv-loop μ-loop
-add-i c = search needs
+quote-from-requires : tie.Need-quote-from-requires Inv-loop μ-loop
+quote-from-requires c κs = search needs
 
 loop-less : tie.Need-loop-less Inv-loop μ-loop
-loop-less c = search needs
+loop-less c =
+    let at-quote-from = c .quote-from in
+    omega (arith, at-quote-from .ensures)
 
 loop-again : tie.Need-loop-again Inv-loop μ-loop
-loop-again c = search needs
+loop-again c =
+    let at-quote-from = c .quote-from in
+    at-quote-from .ensures .1
 
 slice-aggregate-word : tie.Need-slice-aggregate-word Inv-loop μ-loop
 slice-aggregate-word c = search needs
@@ -45,9 +44,7 @@ quote-spec =
     Inv-loop
     μ-loop
     loop-holds
-    shared-slice-read-quoted
-    quoted-requires
-    add-i
+    quote-from-requires
     loop-less
     loop-again
     slice-aggregate-word

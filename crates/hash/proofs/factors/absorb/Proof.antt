@@ -7,53 +7,53 @@ use Rattle.hash.proofs.factors.absorb.Statement.{statement}
 use Rattle.hash.proofs.factors.absorb.Tie as tie
 
 abbrev Inv-loop : tie.InvT-loop
-Inv-loop f x₀ y₀ i₀ left₀ x y i left = (i + 8 * left ≤ length f) × (x < 2147483648) × (y < 2147483648)
+Inv-loop f x₀ y₀ k₀ left₀ x y k left = (4 * k + 8 * left ≤ length f) × (x < 2147483648) × (y < 2147483648)
 
 abbrev μ-loop : tie.MeasureT-loop
-μ-loop f x₀ y₀ i₀ left₀ x y i left = left
+μ-loop f x₀ y₀ k₀ left₀ x y k left = left
 
 loop-holds : tie.Need-loop-holds Inv-loop μ-loop
 loop-holds c = (omega arith, omega arith, omega arith)
 
-word-requires : tie.Need-word-requires Inv-loop μ-loop
-word-requires c κs = omega arith
+at-requires : tie.Need-at-requires Inv-loop μ-loop
+at-requires c κs = omega arith
 
 add-factor : tie.Need-add-factor Inv-loop μ-loop
 add-factor c =
-    let at-word = c .word in
-    omega (arith, at-word .ensures)
+    let at-at = c .at in
+    omega (arith, at-at .ensures .1)
 
 mul-factor : tie.Need-mul-factor Inv-loop μ-loop
 mul-factor c =
-    let at-word = c .word in
+    let at-at = c .at in
     let at-loop = c .before .before .loop in
-    omega (arith, product (at-loop .x + at-word .result) (at-loop .y) (omega (arith, at-word .ensures)) (at-loop .inv .2))
+    omega (arith, product (at-loop .x + at-at .result) (at-loop .y) (omega (arith, at-at .ensures .1)) (at-loop .inv .2))
 
 factor-requires : tie.Need-factor-requires Inv-loop μ-loop
 factor-requires c κs = search needs
 
-add-word : tie.Need-add-word Inv-loop μ-loop
-add-word c = omega arith
+add-at : tie.Need-add-at Inv-loop μ-loop
+add-at c = omega arith
 
-word-requires-2 : tie.Need-word-requires-2 Inv-loop μ-loop
-word-requires-2 c κs = omega arith
+at-requires-2 : tie.Need-at-requires-2 Inv-loop μ-loop
+at-requires-2 c κs = omega arith
 
 add-factor-2 : tie.Need-add-factor-2 Inv-loop μ-loop
 add-factor-2 c =
-    let at-word2 = c .word2 in
-    omega (arith, at-word2 .ensures)
+    let at-at2 = c .at2 in
+    omega (arith, at-at2 .ensures .1)
 
 mul-factor-2 : tie.Need-mul-factor-2 Inv-loop μ-loop
 mul-factor-2 c =
-    let at-word2 = c .word2 in
+    let at-at2 = c .at2 in
     let at-loop = c .before .before .before .before .loop in
-    omega (arith, product (at-loop .y + at-word2 .result) (at-loop .x) (omega (arith, at-word2 .ensures)) (at-loop .inv .1))
+    omega (arith, product (at-loop .y + at-at2 .result) (at-loop .x) (omega (arith, at-at2 .ensures .1)) (at-loop .inv .1))
 
 factor-requires-2 : tie.Need-factor-requires-2 Inv-loop μ-loop
 factor-requires-2 c κs = search needs
 
-add-i : tie.Need-add-i Inv-loop μ-loop
-add-i c = omega arith
+add-k : tie.Need-add-k Inv-loop μ-loop
+add-k c = omega arith
 
 sub-left : tie.Need-sub-left Inv-loop μ-loop
 sub-left c = omega arith
@@ -79,16 +79,16 @@ absorb-spec =
     Inv-loop
     μ-loop
     loop-holds
-    word-requires
+    at-requires
     add-factor
     mul-factor
     factor-requires
-    add-word
-    word-requires-2
+    add-at
+    at-requires-2
     add-factor-2
     mul-factor-2
     factor-requires-2
-    add-i
+    add-k
     sub-left
     loop-less
     loop-again

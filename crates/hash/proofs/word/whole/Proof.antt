@@ -1,8 +1,9 @@
 use borrow.Author.Needs.{needs}
 use native.Mathlib.Omega.{arith}
+use mathlib.Core.Path.{refl}
 use Prim.Native.Nat.{_+_}
-use Rattle.hash.proofs.factors.word.Statement.{statement}
-use Rattle.hash.proofs.factors.word.Tie as tie
+use Rattle.hash.proofs.word.whole.Statement.{statement}
+use Rattle.hash.proofs.word.whole.Tie as tie
 
 shared-slice-read-result : tie.Need-shared-slice-read-result
 shared-slice-read-result c = search needs
@@ -89,10 +90,10 @@ returns : tie.Need-returns
 returns c =
     let at-shared-slice-known = c .before .before .before .shared-slice-known in
     let at-start = c .before .before .before .before in
-    omega (arith, at-shared-slice-known .given (at-start .args .i), at-shared-slice-known .given (at-start .args .i + 1), at-shared-slice-known .given (at-start .args .i + 2), at-shared-slice-known .given (at-start .args .i + 3))
+    (refl, omega (arith, at-shared-slice-known .given (at-start .args .i), at-shared-slice-known .given (at-start .args .i + 1), at-shared-slice-known .given (at-start .args .i + 2), at-shared-slice-known .given (at-start .args .i + 3)))
 
-pub word-spec : {M : Type 1} → statement M
-word-spec =
+pub whole-spec : {M : Type 1} → statement M
+whole-spec =
     tie.close
     (tie.spec
     shared-slice-read-result
