@@ -44,7 +44,7 @@ pub struct Seen {
 }
 
 // What a string holds, where the set is that of names (with *, which has a number of its own) or that of values.
-pub fn scan(s: &[u8], name: bool) -> Seen
+fn scan(s: &[u8], name: bool) -> Seen
     ensures { λ r. ⌜ (r .stray ≡ any (if name then outsideName else outsideValue) (now (s .entry))) × (r .star ≡ any isStar (now (s .entry))) ⌝ }
 {
     let mut stray = false;

@@ -21,7 +21,7 @@ pub fn key_end(f: &[u8], at: usize) -> usize
 }
 
 // The k keys from `at` on.
-pub fn keys_end(f: &[u8], at: usize, k: usize) -> usize
+fn keys_end(f: &[u8], at: usize, k: usize) -> usize
     requires { ⌜ keysEnd k (now f) at ≤ length (now f) ⌝ }
     ensures { λ r. ⌜ r ≡ keysEnd k (now (f .entry)) at ⌝ }
 {

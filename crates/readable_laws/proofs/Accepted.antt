@@ -12,7 +12,7 @@ use lib.Seq.{drop-length}
 use Rattle.text.specs.Test.{_and_, _or_, if_then_else_, all, any}
 use Rattle.text.specs.Byte.{within, isDigit, isName, isPrint, isStar}
 use Rattle.text.specs.String.{Str, bytes, same, joined}
-use Rattle.text.specs.Frame.{got, andThen, Reader, _>>=_, ret, byte, run, string}
+use Rattle.text.specs.Frame.{got, Reader, _>>=_, ret, byte, run, string}
 use Rattle.text.proofs.Tests.{by, clash, both, and-l, and-r, or-false-l, or-false-r, and-left, and-right}
 use Rattle.text.proofs.Frames.{byte-got, byte-unread}
 use Rattle.text.proofs.Codec.{never-got, then-got, got-move}
