@@ -1,10 +1,9 @@
 -- One turn of the hash, its end, and its bounds.
 use mathlib.Core.Path.{_≡_, sym, _∙_}
 use mathlib.Core.List.{List}
-use Prim.Native.Nat.{ℕ, zero, suc, _+_, _-_, _*_, _/_, _≤_, _<_}
+use Prim.Native.Nat.{ℕ, zero, suc, _+_, _-_, _*_, _/_, _<_}
 use native.Mathlib.Nat.{mod-lt, mul-le-mul}
 use native.Mathlib.Omega.{arith}
-use lib.ListN.{length}
 use Rattle.text.specs.String.{Str}
 use Rattle.hash.specs.declared.Seed.{Seed}
 use Rattle.hash.specs.Mix.{wordAt, middle, mixFrom, mix}

@@ -2,8 +2,6 @@ use borrow.Author.Needs.{needs}
 use native.Mathlib.Omega.{arith}
 use Prim.Native.Nat.{_+_, _*_}
 use lib.ListN.{List·getD-eq-default}
-use mathlib.Core.Path.{_≡_}
-use Rattle.hash.specs.Mix.{wordAt}
 use Rattle.hash.proofs.word.at.Statement.{statement}
 use Rattle.hash.proofs.word.at.Tie as tie
 
