@@ -11,7 +11,7 @@ use lib.Seq.{getD-set-same, getD-set-other}
 use Rattle.text.specs.Test.{_or_, if_then_else_, any}
 use Rattle.text.specs.String.{Str, same}
 use Rattle.text.proofs.Tests.{by, clash, same→≡, or-l, or-assoc, none-or}
-use Rattle.sorted.specs.Spans.{spanIn, Inside, stringsOf, Sorted, Sought, inserted}
+use Rattle.sorted.specs.Spans.{spanIn, Inside, stringsOf, Sought, inserted}
 use Rattle.sorted.specs.declared.Found.{Found}
 use Rattle.sorted.proofs.Strings.{span-longer, strings-longer, sorted-longer, sought-longer, strings-alike, sorted-alike}
 use Rattle.sorted.proofs.Inserting.{gap-beyond, gap-long}

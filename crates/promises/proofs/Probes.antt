@@ -1,22 +1,19 @@
 -- The probes' promise, kept.
 use mathlib.Core.Path.{_≡_, refl, ap, _∙_}
-use mathlib.Core.Option.{Option, none, some}
+use mathlib.Core.Option.{none, some}
 use Prim.Native.Nat.{ℕ}
 use native.Mathlib.Omega.{arith}
-use lib.Dec.{eqb}
 use lib.ListN.{length}
 use borrow.Author.Tests.{eq-eqb}
 use Rattle.text.specs.Test.{if_then_else_}
 use Rattle.text.specs.String.{Str}
-use Rattle.text.specs.Refusal.{_when_else_, clear}
-use Rattle.table.specs.declared.Checked.the-variants.{Accepted}
-use Rattle.verdict.specs.Verdict.{NONE}
+use Rattle.text.specs.Refusal.{clear}
 use Rattle.verdict_text.specs.Calls.{requestRefusal, decidedBy, pathAnswer, pathVerdict, spread, treeAnswer, treeVerdict}
 use Rattle.verdict_text.specs.declared.PathAnswer.the-variants.{Default}
 use Rattle.verdict_text.specs.declared.TreeAnswer.the-variants.{None}
 use Rattle.rpc.specs.Request.{requestFault}
 use Rattle.rpc.specs.Call.{rpcVerdict}
-use Rattle.rotation.specs.State.{shortStore, badRecord, recordRefusal, textIn, inForce}
+use Rattle.rotation.specs.State.{recordRefusal, textIn, inForce}
 use Rattle.rotation.specs.Calls.{otherKind, probeRefusal}
 use Rattle.rotation.specs.Machine.{Lent, forceText, Whole}
 use Rattle.rotation.specs.declared.InForce.{InForce}
@@ -24,7 +21,6 @@ use Rattle.rotation.specs.declared.InForce.the-variants.{Text, Factory}
 use Rattle.probe.specs.Probe.{probed, pathOn, pathRefused, probePath, treeOn, treeRefused, probeTree}
 use Rattle.probe.specs.Rpc.{rpcRefused, factoryRpc, rpcOn, probeRpc}
 use Rattle.probe.specs.declared.rpcs.RpcAnswer.the-variants.{PermitAll, Judged}
-use Rattle.promises.specs.Rotation.{force}
 use Rattle.promises.specs.Probes.{TableProbePromise, PolicyProbePromise}
 
 -- ---- what is in force is judged
