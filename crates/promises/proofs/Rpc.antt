@@ -2,7 +2,7 @@
 use mathlib.Core.Path.{_≡_, refl, ap, _∙_, subst}
 use mathlib.Core.Bool.{Bool}
 use mathlib.Core.List.{List, [], _∷_}
-use mathlib.Core.Option.{Option, none, some}
+use mathlib.Core.Option.{Option, none, some, Option·map}
 use Prim.Native.Nat.{ℕ, suc, _+_}
 use native.Mathlib.Omega.{arith}
 use lib.Dec.{ltb}
@@ -13,7 +13,7 @@ use Rattle.text.specs.Refusal.{clear}
 use Rattle.text.proofs.Tests.{by}
 use Rattle.rfc8259.specs.Json.{Json}
 use Rattle.rfc8259.specs.Parser.{parse}
-use Rattle.policy.specs.Policy.{Policy, treeJudgement, judgement, policyOfTree, policyOf}
+use Rattle.policy.specs.Policy.{Policy, treeJudgement, judgement, policyIn, policyOf}
 use Rattle.rpc.specs.Request.{Request, requestFault}
 use Rattle.rpc.specs.Verdict.{ruleMatches, firstFrom, allowed, decided, verdict, permits}
 use Rattle.rpc.specs.Call.{request, verdictBy, unless, rpcVerdict}
@@ -62,8 +62,8 @@ module _ (p : Policy) (r : Request) where
 
 -- ---- an accepted text holds a policy
 
-tree-of : (o : Option Json) → treeJudgement o ≡ clear → (p : Policy) × (policyOfTree o ≡ some p)
-unfolding treeJudgement policyOfTree
+tree-of : (o : Option Json) → treeJudgement o ≡ clear → (p : Policy) × (Option·map policyIn o ≡ some p)
+unfolding treeJudgement
 tree-of none e = absurd (omega arith)
 tree-of (some j) e = (_, refl)
 
