@@ -63,14 +63,14 @@ pub fn factory(kind: u32) -> Record {
     Record {
         kind: kind,
         live_slot: 0,
-        live_len: 4294967295,
+        live_len: rotation::NO_LENGTH,
         rotating: 0,
-        candidate_len: 4294967295,
+        candidate_len: rotation::NO_LENGTH,
     }
 }
 
 fn print_length(n: u32) {
-    if n == 4294967295 {
+    if n == rotation::NO_LENGTH {
         show::line(b"none");
     } else {
         console::say::fact(b"", n as u64);
