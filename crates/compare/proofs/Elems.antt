@@ -14,6 +14,7 @@ use Rattle.verdict.specs.Join.{conflict, clashes, agrees, agree, meetsBoth, cov
 use Rattle.place.specs.Place.{strEnd, strIn, keysIn, elemEnd, elemIn, elemsIn}
 use Rattle.place.proofs.Cursor.{elems-cons, elems-nil}
 use Rattle.compare.specs.Compare.{keyPasses, elemPasses, pathPasses}
+use Rattle.compare.proofs.Keys.{all-end}
 
 -- ---- that keys of xs and ys are in no conflict, by the members of either
 
@@ -57,6 +58,9 @@ module _ (f : List ℕ) (s : ℕ) (g : List ℕ) (p : ℕ) where
   unfolding meets agrees definite elemIn keysIn only holds any _and_ _or_
   elem-keys true e a b i j = rw (i, j, e)
   elem-keys false e a b i j = rw (i, j, e) (no-clash _ _)
+
+  pub elem-keyless : (cover : Bool) → same (strIn f s) (strIn g p) ≡ true → (a : ℕ) → a ≡ strEnd f s → getD f a 0 ≡ 0 → elemPasses cover (elemIn f s) (elemIn g p) ≡ true
+  elem-keyless cover e a i z = elem-keys cover e a (strEnd g p) i refl ∙ all-end _ f (getD f a 0) (a + 1) (omega arith)
 
 module _ (f : List ℕ) (s r : ℕ) (g : List ℕ) (p : ℕ) where
   pub both-name : same (strIn f s) (strIn f r) ≡ false → meetsBoth (elemIn f s) (elemIn f r) (elemIn g p) ≡ false

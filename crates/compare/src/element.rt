@@ -15,8 +15,11 @@ pub fn elem_passes(cover: bool, f: &[u8], s: usize, g: &[u8], p: usize) -> bool
         return false;
     }
     let a = place::str_end(f, s);
-    let b = place::str_end(g, p);
     let k = f[a] as usize;
+    if k == 0 {
+        return true;
+    }
+    let b = place::str_end(g, p);
     let n = g[b] as usize;
     crate::key::keys_pass(cover, f, a + 1, k, 0, 0, g, b + 1, n)
 }

@@ -2,6 +2,8 @@
 ghost use mathlib.Core.Path.{_≡_};
 ghost use mathlib.Core.Bool.{false};
 ghost use Prim.Native.Nat.{ℕ, _+_, _*_, _≤_, _<_};
+ghost use lib.Bits.{bitOr};
+ghost use lib.Dec.{eqb};
 ghost use lib.ListN.{length, getD};
 ghost use Rattle.place.specs.Place.{elemsEnd, elemsIn, pathEnd, pathIn};
 ghost use Rattle.hash.specs.Mix.{Small};
@@ -55,40 +57,30 @@ pub fn fill(
     }
 }
 
-// The filter of rule i.
-fn load(filters: &[u64], i: usize) -> Filter
-    requires { ⌜ 4 * i + 4 ≤ length (now filters) ⌝ }
-    ensures { λ r. ⌜ r ≡ filterOf (now (filters .entry)) i ⌝ }
+// Whether the number at q has no digit that the number at p lacks.
+fn has_within(filters: &[u64], q: usize, p: usize) -> bool
+    requires { ⌜ (q < length (now filters)) × (p < length (now filters)) ⌝ }
+    ensures { λ r. ⌜ r ≡ eqb (bitOr (getD (now (filters .entry)) q 0) (getD (now (filters .entry)) p 0)) (getD (now (filters .entry)) p 0) ⌝ }
 {
-    let q = 4 * i;
-    Filter {
-        a: filters[q],
-        b: filters[q + 1],
-        c: filters[q + 2],
-        d: filters[q + 3],
-    }
+    let x = filters[p];
+    filters[q] | x == x
 }
 
-// Whether x has no digit that y lacks.
-fn has_within(x: Filter, y: Filter) -> bool
-    ensures { λ r. ⌜ (r ≡ false → join x y ≡ y → ⊥) ⌝ }
-{
-    if x.a | y.a != y.a {
-        return false;
-    }
-    if x.b | y.b != y.b {
-        return false;
-    }
-    if x.c | y.c != y.c {
-        return false;
-    }
-    x.d | y.d == y.d
-}
-
-// The same of the filters of rules j and i.
+// Whether rule j's filter has no digit that rule i's lacks.
 pub fn is_within(filters: &[u64], j: usize, i: usize) -> bool
     requires { ⌜ (4 * j + 4 ≤ length (now filters)) × (4 * i + 4 ≤ length (now filters)) ⌝ }
     ensures { λ r. ⌜ (r ≡ false → join (filterOf (now (filters .entry)) j) (filterOf (now (filters .entry)) i) ≡ filterOf (now (filters .entry)) i → ⊥) ⌝ }
 {
-    has_within(load(filters, j), load(filters, i))
+    let q = 4 * j;
+    let p = 4 * i;
+    if !has_within(filters, q, p) {
+        return false;
+    }
+    if !has_within(filters, q + 1, p + 1) {
+        return false;
+    }
+    if !has_within(filters, q + 2, p + 2) {
+        return false;
+    }
+    has_within(filters, q + 3, p + 3)
 }
