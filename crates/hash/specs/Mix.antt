@@ -4,6 +4,7 @@ use lib.ListN.{length, getD}
 use Rattle.text.specs.String.{Str}
 use Rattle.hash.specs.declared.Seed.{Seed}
 
+-- factors with which no product passes 64 bits
 abbrev pub Small : Seed → Type 0
 Small s = (s .first < 2147483648) × (s .second < 2147483648)
 
