@@ -4,7 +4,7 @@
 # limit, or of a size that follows from one, in its programs or definitions. To see where a literal stands: tests/limits.sh 9377
 set -uo pipefail
 cd "$(dirname "$0")/.."
-shopt -s nullglob
+shopt -s nullglob extglob
 
 programs=crates/limits/src/lib.rt
 definitions=crates/limits/specs/Limits.antt
@@ -181,7 +181,6 @@ others() {
 2,731           header lines that fit: the size of an array
 131,072         what the command line takes of a file
 1,528 2,353     measured: names that found their place taken
-1,612           counted: lines of definitions, once
 END
 }
 
@@ -191,7 +190,7 @@ for value in "${limit[@]}"; do
 done
 while IFS=: read -r file line number; do
     [[ $known == *" $number "* ]] || fail "$file:$line: $number is not the number of a limit, nor one that this test knows"
-done < <(grep -noE '[0-9]+(,[0-9][0-9][0-9])+' README.md CONTRIBUTING.md SECURITY.md docs/[A-ACD-Z]*.md include/burgee.h rust/README.md rust/src/limits.rs \
+done < <(grep -noE '[0-9]+(,[0-9][0-9][0-9])+' README.md CONTRIBUTING.md SECURITY.md docs/!(BENCHMARKS|READING).md include/burgee.h rust/README.md rust/src/limits.rs \
     tests/readable.sh $(find crates/*/src crates/*/specs -type f))
 
 # ---- no literal of a limit in programs and definitions
