@@ -53,7 +53,7 @@ cd "$(dirname "$0")/.."
             for (w in where) {
                 if (!((w, c) in at)) { fail(where[w] " lacks " c); continue }
                 for (k = 3; k <= n; k++)
-                    if (used[k] in crates && at[w, used[k]] > at[w, c]) fail(where[w] ": " c " uses " used[k] ", which does not stand lower")
+                    if (used[k] in crates && (w, used[k]) in at && at[w, used[k]] > at[w, c]) fail(where[w] ": " c " uses " used[k] ", which does not stand lower")
             }
         }
         for (line in said) {
