@@ -12,6 +12,8 @@ import os
 import re
 import sys
 
+sys.dont_write_bytecode = True
+
 # sizes that follow from the limit of keys: where it changes, all of them do
 KEY_SIZES = (130, 521, 586, 845, 9377, 13520, 14000, 14001, 43532)
 
@@ -75,6 +77,8 @@ def sources(root):
     yield "lines of answers (`Proof.antt`)", commas(code(answers))
     yield "`let at-` lines in answers", commas(sum(line.strip().startswith("let at-") for p in answers for line in lines(p)))
     yield "`.before` in answers", commas(sum(line.count(".before") for p in answers for line in lines(p)))
+    loops = [(above, line) for p in answers for above, line in zip([""] + lines(p), lines(p)) if re.match(r"abbrev Inv-\S+ :", line)]
+    yield "loops' invariants; with words above them", f"{len(loops)}; {sum(above.startswith('-- ') for above, _ in loops)}"
     yield "must-fail edits", commas(len(files(root, "must-fail/*.edit")))
     for name, group in (("`src`, `specs`", src + specs), ("`proofs`", proofs)):
         group = [p for p in group if not p.startswith(os.path.join(root, "crates", "limits") + os.sep)]
