@@ -200,10 +200,21 @@ allowed() {
     cat <<'END'
 clear = 255             the definition of "no refusal number"
 leb 32 c                a byte that prints
+ltb c 32                a byte that does not
+within 32 126           the bytes that print
 r < 256                 a byte, a bucket
 b < 256                 a byte, a bucket
 g < 256                 a group's number as it is stored, in a byte
 n < 16                  a hex digit
+Puts 16                 a creation time has 16 digits
+then 16                 the same
+refusal(r, n, 16)       a refusal number
+return 32               the same
+word_at(b, 16)          where the record's fifth number stands
+slot, 256)              a number's second byte, in the record's file; and so for each of its numbers
+kind, 256)
+len, 256)
+rotating, 256)
 words < 4               arguments of the command line
 4 <= t.len() - i        four bytes a turn of a hash
 f.len() < 4             a rule's kind, action, mode and subject
@@ -215,8 +226,14 @@ code() {
     find crates/*/src crates/*/specs -type f \( -name '*.rt' -o -name '*.antt' \) | grep -v '^crates/limits/' | sort |
         ALLOWED=$(allowed | sed 's/   *[^ ].*//') xargs awk '
             BEGIN { n = split(ENVIRON["ALLOWED"], allowed, "\n") }
-            FNR == 1 { program = FILENAME ~ /\.rt$/ }
-            program { sub(/\/\/.*/, ""); gsub(/b"[^"]*"/, "") }
+            FNR == 1 { program = FILENAME ~ /\.rt$/; open = 0 }
+            program {
+                gsub(/\\\\|\\"/, "")
+                if (open && !sub(/^[^"]*"/, "")) $0 = ""; else open = 0
+                gsub(/b"[^"]*"/, "")
+                sub(/\/\/.*/, "")
+                open = open || sub(/b".*/, "")
+            }
             !program { sub(/(^|[ \t])--([ \t].*)?$/, "") }
             {
                 for (i = 1; i <= n; i++)
@@ -228,22 +245,25 @@ code() {
 # Literals that mean a limit wherever they stand: each limit over 128, but for 256 and 65,536, which are also those of bytes and words; one more
 # of the long ones, as where a frame has its kind byte; and 255.
 wherever=255
-# The others mean one as the length of an array, or as one side of a comparison.
+# The others mean one as the length of an array, as one side of a comparison, or (but for 4 and 65) as an argument.
 compared=
+given=
 for value in "${limit[@]}"; do
     case $value in
     255 | 65536) ;;
-    256 | ? | ?? | 12[0-8]) compared="$compared|$value" ;;
+    4 | 65) compared="$compared|$value" ;;
+    256 | ? | ?? | 12[0-8]) compared="$compared|$value" given="$given|$value" ;;
     *) wherever="$wherever|$value" ;;
     esac
     [ "$value" -gt 8192 ] && wherever="$wherever|$((value + 1))"
 done
 compared="(${compared#|})"
+given="(${given#|})"
 
 left='(^|[^0-9A-Za-z_.])'
 right='([^0-9A-Za-z_]|$)'
 literals="$left($wherever)$right|; ($compared|65536)\]|$left$compared <=? |[])0-9a-z] <=? $compared$right|≤ $compared$right|length [^≡]* ≡ $compared$right"
-literals="$literals|(ltb|leb) $compared [^0-9]|ltb [a-z] 65536|if [a-z] < 65536"
+literals="$literals|(ltb|leb) $compared [^0-9]|ltb [a-z] 65536|if [a-z] < 65536|[A-Za-z] $given$right|[(,] ?$given[,)]"
 
 while IFS= read -r found; do
     fail "a limit's literal: ${found:0:200}"
