@@ -101,6 +101,7 @@ def gate(log):
         yield "`rt ci`", minutes(phases["proofs"])
     if "lines" in phases:
         yield "`.ci/run`", minutes(sum(phases.values()))
+    yield "functions proved", commas(len(set(re.findall(r"^fn (\S+): proved$", text.split("phase: proofs")[0], re.M))))
     checks = [(int(s), name) for name, s in re.findall(r"^rt: ([a-z0-9_]+) proved \((\d+) s\)$", text.split("phase: proofs")[0], re.M)]
     edits = [(int(s), name) for name, s in re.findall(r"^rt: must-fail ([a-z0-9_/]+): refused.*; (\d+) s\)$", text, re.M)]
     yield "seconds of checks, of edits, added up", f"{commas(sum(s for s, _ in checks))}, {commas(sum(s for s, _ in edits))}"
