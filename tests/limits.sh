@@ -1,7 +1,7 @@
 #!/usr/bin/env bash
 # Every limit stands once, in the crate `limits`: as a definition (specs/Limits.antt) and as a constant (src/lib.rt), which agree. The C header,
 # the Rust implementation, the documents and the refusals that the command line prints say the same numbers. No other crate has the literal of a
-# limit, or of a size that follows from one, in its programs or definitions. To see where a literal stands: tests/limits.sh 9377
+# limit, or of a size that follows from one, in its programs or definitions. To see where a literal stands: bash tests/limits.sh 9377
 set -uo pipefail
 cd "$(dirname "$0")/.."
 shopt -s nullglob extglob
