@@ -20,6 +20,9 @@
 extern "C" {
 #endif
 
+/* The version of this header and its library; CHANGELOG.md says what changed. */
+#define BURGEE_VERSION "0.1.0"
+
 /* ---- The answer ---------------------------------------------------------------- */
 
 /* Refusal numbers. Those of a table, 1 to 9, carry a line; 1 has line 0. */

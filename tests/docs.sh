@@ -1,6 +1,6 @@
 #!/usr/bin/env bash
 # Runs every command that a document or a page of help shows, at the top of the repository, and compares what it writes with what is shown.
-# A shown command is a line `$ COMMAND` in a fenced block of docs/*.md or README.md, or in a page of help; what follows, up to the next such
+# A shown command is a line `$ COMMAND` in a fenced block of *.md or docs/*.md, or in a page of help; what follows, up to the next such
 # line or the end of the block (or of the page), is what it writes. A block of C has to stand in one of the examples, which are compiled and
 # run elsewhere. The tour is run too, and compared with examples/tour.expected.
 set -uo pipefail
@@ -52,7 +52,7 @@ stands_in_an_example() {
     return 1
 }
 
-for document in README.md docs/*.md; do
+for document in *.md docs/*.md; do
     name=$(basename "$document")
     split "$work/$name" 1 < "$document"
     for shown in "$work/$name".*; do

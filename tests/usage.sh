@@ -72,6 +72,8 @@ misused rpc - '' / -
 answer help
 answer --help
 answer -h
+answer --version
+misused --version more
 
 # Where the answer cannot be written.
 if [ -w /dev/full ]; then

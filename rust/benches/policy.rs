@@ -21,7 +21,7 @@ fn main() {
         ("example of 002", EXAMPLE_POLICY.as_bytes().to_vec()),
         ("0.4 KB", policy_of_length(470)),
         ("4 KB", policy_of_length(4_096)),
-        ("16 KB", policy_of_length(16_384)),
+        ("16 KB", policy_of_length(limits::POLICY_TEXT)),
     ];
 
     let printed = Table::new("Check of a policy");

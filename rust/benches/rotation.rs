@@ -5,7 +5,7 @@ use std::hint::black_box;
 use burgee_rust::boundary::rotation as proved;
 use burgee_rust::generate::policy::policy_of_length;
 use burgee_rust::generate::table::{table_of_length, table_of_rules};
-use burgee_rust::limits::{SLOT, TABLE_TEXT};
+use burgee_rust::limits::{POLICY_TEXT, SLOT, TABLE_TEXT};
 use burgee_rust::measure::Table;
 use burgee_rust::random::Random;
 use burgee_rust::request::PathRequest;
@@ -15,7 +15,7 @@ use burgee_rust::word;
 
 fn main() {
     let mut random = Random::new(0xB5);
-    let policies = [470, 16_384].map(policy_of_length);
+    let policies = [470, POLICY_TEXT].map(policy_of_length);
     let tables = [table_of_rules(&mut random, 10, 39), table_of_length(&mut random, TABLE_TEXT, 160)];
 
     let printed = Table::new("Steps of a rotation");

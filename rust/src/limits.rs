@@ -1,4 +1,4 @@
-//! The limits of paper 01.
+//! The limits of paper 01. `tests/limits.sh` of the repository compares them with those of the proved crates.
 
 /// "Rule table text: at most 32,768 bytes."
 pub const TABLE_TEXT: usize = 32_768;

@@ -3,9 +3,7 @@
 
 use super::path::{Element, Key, Path};
 use super::table::{table_text, Line, Rule};
-
-/// The longest table text.
-const LIMIT: usize = 32_768;
+use crate::limits;
 
 pub struct WorstTree {
     pub name: &'static str,
@@ -55,7 +53,7 @@ fn full_table(rule: impl Fn(usize) -> (u8, u8, Path)) -> Vec<u8> {
             path,
         });
         let line = line.text();
-        if LIMIT < text.len() + line.len() {
+        if limits::TABLE_TEXT < text.len() + line.len() {
             break;
         }
         text.extend(line);

@@ -1,0 +1,233 @@
+#!/usr/bin/env python3
+"""The definitions that have to be believed: those that the contracts of the exported functions and the statements of the promises reach.
+
+    tools/believed.py            a line for each file: lines of code of the definitions reached, of the others, and the names of the others
+    tools/believed.py --total    the total alone
+    tools/believed.py --check    docs/READING.md has exactly these files and types, with these numbers of lines
+    tools/believed.py --write    puts the numbers into docs/READING.md, and says which rows it lacks
+
+It goes by names: from the names in the `ensures` of each exported function of `burgee`, and from every definition of `promises/specs`, through
+`use` lines to definitions, and on from the names in these. Lines of code are those that are neither blank nor comments; `use` lines
+are not counted. A name that is also that of a variable may reach too much, never too little.
+
+Two functions are not followed, since a law says what they are: a parser is proved to be a reader of what is believed. Instead of them the
+relation of the law is read (PROVED below).
+"""
+import glob
+import os
+import re
+import sys
+
+# a function's file and name, and what the law about it names instead
+PROVED = {
+    ("TextReader", "readText"): [],  # promises/specs/PathReturn: Reads pathText readText
+    ("Parser", "parse"): ["Grammar"],  # its laws: the tree that it gives is that of the grammar
+}
+DECLARED = re.compile(r"^ *(unfoldable |abbrev |pub (record|data) |(record|data) \S.* where$)")
+PLAIN = re.compile(r"^ *pub \S+ :")
+NAME = re.compile(r"^ *(?:unfoldable |abbrev )?(?:pub )?(?:(record|data) )?([^\s:(){}]+)")
+USE = re.compile(r"^(?:ghost )?use ([^\s{]+?)(?:\.\{([^}]*)\})?(?: as (\S+?))?;?$")
+
+
+def words(text):
+    return set(re.split(r"[\s(){};,.⌜⌝λ«»]+", text)) | set(re.split(r"[\s(){};,⌜⌝λ]+", text))
+
+
+def mentions(name, tokens):
+    if name in tokens:
+        return True
+    if name in ("_>>=_", "_>>_"):
+        return "do" in tokens or name.strip("_") in tokens
+    parts = [p for p in name.split("_") if p]
+    return "_" in name and bool(parts) and all(p in tokens for p in parts)
+
+
+def uncommented(line):
+    return re.sub(r"(^|\s)--(\s.*|$)", "", line).rstrip()
+
+
+def file_of(module, crates="crates"):
+    """The file of a module named in a `use` line; None for the libraries; a declared type is `crate:Type`."""
+    m = re.match(r"Rattle·([a-z0-9_]+?)(?:·specs)?\.specs\.(.+)$", module)
+    if not m:
+        return None
+    crate, path = m.groups()
+    if path.startswith("declared."):
+        parts = [p for p in path.split(".")[1:] if p != "the-variants"]
+        return f"{crate}:{parts[-1]}"
+    return os.path.join(crates, crate, "specs", *path.split(".")) + ".antt"
+
+
+class File:
+    """A file of definitions: what its names stand for, and its blocks, each a definition with its clauses."""
+
+    def __init__(self, path):
+        self.path, self.imports, self.aliases, self.blocks, self.of = path, {}, {}, [], {}
+        block = None
+        for raw in open(path, encoding="utf-8"):
+            line = uncommented(raw.rstrip("\n"))
+            indent = len(line) - len(line.lstrip())
+            use = USE.match(line)
+            if use:
+                self.add_use(*use.groups())
+            if use or not line.strip() or re.match(r"^(infix[lr]?\b|(unfoldable )?mutual$)", line):
+                continue
+            inside = block and block["kind"] in ("record", "data") and indent > block["indent"]
+            if line.startswith("module "):
+                block = self.begin(None, "module", indent)
+            elif DECLARED.match(line) or PLAIN.match(line) and not inside:
+                kind, name = NAME.match(line).groups()
+                block = self.begin(name, kind, indent)
+            elif inside:
+                inner = re.match(r"^ +(?:pub )?([^:{}()]+?) +:", line)
+                for name in inner.group(1).split() if inner else []:
+                    self.of.setdefault(name, block)
+            block["lines"].append(line)
+
+    def begin(self, name, kind, indent):
+        block = {"name": name, "kind": kind, "indent": indent, "lines": [], "file": self}
+        self.blocks.append(block)
+        if name:
+            self.of[name] = block
+        return block
+
+    def add_use(self, module, names, alias):
+        if names is None:
+            self.aliases[alias or module.split(".")[-1]] = module
+            return
+        for name in names.split(","):
+            old, _, new = name.strip().partition(" as ")
+            self.imports[(new or old).strip()] = (module, old.strip())
+
+
+def load():
+    return {p: File(p) for p in sorted(glob.glob("crates/*/specs/**/*.antt", recursive=True)) if os.path.basename(p) != "Lib.antt"}
+
+
+def contracts():
+    """Pairs of a module and a name that the `ensures` of exported functions mention."""
+    for path in sorted(glob.glob("crates/burgee/src/**/*.rt", recursive=True)):
+        text = open(path, encoding="utf-8").read()
+        named = {}
+        for line in text.split("\n"):
+            use = USE.match(line.strip())
+            if use and line.startswith("ghost use") and use.group(2):
+                for name in use.group(2).split(","):
+                    named[name.strip()] = use.group(1)
+        for head in re.findall(r'extern "C" fn .*?\n\{', text, re.S):
+            tokens = words(head[head.index("ensures"):])
+            for name, module in named.items():
+                if mentions(name, tokens):
+                    yield module, name
+
+
+def reached(files):
+    seen, types, todo = set(), set(), []
+
+    def want(module, name):
+        path = file_of(module)
+        if path is None:
+            return
+        if ":" in path:
+            types.add(path)
+        elif path in files:
+            stem = os.path.basename(path)[:-5]
+            if (stem, name) in PROVED:
+                for other in PROVED[stem, name]:
+                    follow(files.get(os.path.join(os.path.dirname(path), other + ".antt")))
+                return
+            block = files[path].of.get(name)
+            if block is None:
+                sys.exit(f"{path} has no definition of {name}")
+            push(block)
+
+    def push(block):
+        if id(block) not in seen:
+            seen.add(id(block))
+            todo.append(block)
+
+    def follow(file):
+        for block in file.blocks if file else []:
+            push(block)
+
+    for module, name in contracts():
+        want(module, name)
+    for path, file in files.items():
+        if path.startswith("crates/promises/"):
+            follow(file)
+    while todo:
+        block = todo.pop()
+        file = block["file"]
+        tokens = words("\n".join(block["lines"]))
+        stem = os.path.basename(file.path)[:-5]
+        for name, other in file.of.items():
+            if other is not block and mentions(name, tokens) and (stem, name) not in PROVED:
+                push(other)
+        for name, (module, old) in file.imports.items():
+            if mentions(name, tokens):
+                want(module, old)
+        for alias, module in file.aliases.items():
+            if any(t == alias or t.startswith(alias + ".") for t in tokens):
+                want(module, "")
+        for other in file.blocks:  # the parameters that it has from a `module _ .. where`
+            if other["kind"] == "module" and block["indent"] > 0:
+                push(other)
+    return seen, types
+
+
+def main():
+    files = load()
+    seen, types = reached(files)
+    rows = []
+    for path, file in files.items():
+        read = sum(len(b["lines"]) for b in file.blocks if id(b) in seen)
+        rest = [b for b in file.blocks if id(b) not in seen and b["name"]]
+        if read:
+            rows.append((path, read, sum(len(b["lines"]) for b in rest), [b["name"] for b in rest]))
+    total = sum(r[1] for r in rows)
+    totals = f"{total:,} lines in {len(rows)} files"
+    if "--total" in sys.argv:
+        print(totals)
+    elif "--check" in sys.argv or "--write" in sys.argv:
+        page(rows, types, totals, "--write" in sys.argv)
+    else:
+        for path, read, rest, names in rows:
+            print(f"{read:5} {rest:4}  {path[len('crates/'):]}  {' '.join(names)}")
+        print(totals)
+        print("types of the programs that answers are given in:", " ".join(sorted(types)))
+
+
+def page(rows, types, totals, write):
+    name = "docs/READING.md"
+    text = open(name, encoding="utf-8").read()
+    now = {path[len("crates/"):-len(".antt")].replace("/specs/", "/"): read for path, read, _, _ in rows}
+    wrong, row = [], re.compile(r"^\| `([a-z0-9_]+/[A-Za-z/]+)` \| (\d+) \|", re.M)
+    said = [file for file, _ in row.findall(text)]
+    for file in sorted(set(now) - set(said)):
+        wrong.append(f"{name} lacks `{file}`, {now[file]} lines")
+    for file in said:
+        if file not in now or said.count(file) > 1:
+            wrong.append(f"{name} has `{file}`, " + ("which nothing reaches" if file not in now else "twice"))
+    told = set(re.findall(r"`([a-z0-9_]+)::([A-Z]\w*)`", text))
+    for crate, kind in sorted(told ^ {tuple(t.split(":")) for t in types}):
+        wrong.append(f"{name} " + ("has" if (crate, kind) in told else "lacks") + f" the type `{crate}::{kind}`" + (", which nothing reaches" if (crate, kind) in told else ""))
+
+    # the numbers: of each file, of each section, of all
+    fresh = row.sub(lambda m: f"| `{m.group(1)}` | {now.get(m.group(1), 0)} |", text)
+    parts = re.split(r"(?m)^(?=## )", fresh)
+    for k, part in enumerate(parts):
+        lines = sum(int(n) for _, n in row.findall(part))
+        parts[k] = re.sub(r"^(## .*): \d+ lines?, \d+ minutes?$", lambda m: f"{m.group(1)}: {lines} lines, {(lines + 5) // 10} minutes", part, flags=re.M)
+    fresh = re.sub(r"[\d,]+ lines in \d+ files", totals, "".join(parts))
+    for old, new in zip(text.split("\n"), fresh.split("\n")):
+        if old != new and not write:
+            wrong.append(f"{name} says: {old[:90]}\n  and it is: {new[:90]}")
+    if write:
+        open(name, "w", encoding="utf-8").write(fresh)
+    print("\n".join(wrong) if wrong else f"reading: {totals}, ok")
+    sys.exit(1 if wrong else 0)
+
+
+if __name__ == "__main__":
+    os.chdir(os.path.join(os.path.dirname(os.path.abspath(__file__)), ".."))
+    main()
