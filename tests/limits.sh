@@ -210,6 +210,7 @@ Puts 16                 a creation time has 16 digits
 then 16                 the same
 refusal(r, n, 16)       a refusal number
 return 32               the same
+512 + 65536             MIXED, 2 from bit 8 of the answer word on
 word_at(b, 16)          where the record's fifth number stands
 slot, 256)              a number's second byte, in the record's file; and so for each of its numbers
 kind, 256)
