@@ -216,6 +216,9 @@ slot, 256)              a number's second byte, in the record's file; and so for
 kind, 256)
 len, 256)
 rotating, 256)
+HASHES: usize = 8192    how many hints the groups' names have: a size of its own
+hashes = 8192           the same
+Small s × (n < 256)     a count of elements, in a byte
 words < 4               arguments of the command line
 4 <= t.len() - i        four bytes a turn of a hash
 f.len() < 4             a rule's kind, action, mode and subject
