@@ -210,11 +210,15 @@ Puts 16                 a creation time has 16 digits
 then 16                 the same
 refusal(r, n, 16)       a refusal number
 return 32               the same
+512 + 65536             MIXED, 2 from bit 8 of the answer word on
 word_at(b, 16)          where the record's fifth number stands
 slot, 256)              a number's second byte, in the record's file; and so for each of its numbers
 kind, 256)
 len, 256)
 rotating, 256)
+HASHES: usize = 8192    how many hints the groups' names have: a size of its own
+hashes = 8192           the same
+Small s × (n < 256)     a count of elements, in a byte
 words < 4               arguments of the command line
 4 <= t.len() - i        four bytes a turn of a hash
 f.len() < 4             a rule's kind, action, mode and subject
