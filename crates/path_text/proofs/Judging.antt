@@ -23,10 +23,10 @@ use Rattle.path.specs.Bytes.{counted, keyBytes, elemBytes}
 use Rattle.path.specs.Bytes as frames
 use Rattle.path.specs.Faults.{unsized, sameName, goodPath}
 use Rattle.path.specs.Spells.{whole}
-use Rattle.path.specs.Walk.{unsizedBy, nameGrade, elemNameGrade, valueGrade, aloneGrade, elemGrade, good, twiceIn}
+use Rattle.path.specs.Walk.{unsizedBy, nameRefusal, elemNameRefusal, valueRefusal, aloneRefusal, elemRefusal, good, twiceIn}
 use Rattle.path.proofs.Bytes.{twice-bytes}
 use Rattle.path.proofs.Classes.{size}
-use Rattle.path.proofs.Grades.{strange, name-good, elem-name-good, key-good, keys-good, elem-good, path-good}
+use Rattle.path.proofs.Refusals.{strange, name-good, elem-name-good, key-good, keys-good, elem-good, path-good}
 use Rattle.path_text.specs.TextReader.{literal, upTo, name, value, each, key, element}
 use Rattle.path_text.specs.Steps.{nameRun, pass, passing, goodName, goodValue, goodKey, distinct, goodKeys, goodElement, goodElements, Within, Room, Stores, stores, nothing}
 use Rattle.path_text.specs.declared.reader.Stored.{Stored}
@@ -207,8 +207,8 @@ module _ (a b : ℕ) (p : isName a ≡ false) (q : isName b ≡ false) (s : Str)
       let g : any strange (take u (drop at s)) ≡ true = run-broken a b p q (drop at s) k (rw here f) in
       let d : at + u - at ≡ u = omega arith in
       by (ltb 64 u)
-      (λ v. pass-none (good nameGrade) (rw v))
-      (λ v. pass-bad (good nameGrade) {a = part s at (at + u)} {t = at + u} (rw v) (name-good _ ∙ rw (d, g) (not-or (unsized (take u (drop at s))))))
+      (λ v. pass-none (good nameRefusal) (rw v))
+      (λ v. pass-bad (good nameRefusal) {a = part s at (at + u)} {t = at + u} (rw v) (name-good _ ∙ rw (d, g) (not-or (unsized (take u (drop at s))))))
     where
       not-or : (z : Bool) → not (z or true) ≡ false
       not-or z = unfold _or_ in by z (λ y. rw y) (λ y. rw y)
@@ -223,13 +223,13 @@ module _ (a b : ℕ) (p : isName a ≡ false) (q : isName b ≡ false) (s : Str)
         let u = upTo a b (drop at s) in
         let k : at + u ≡ n = sym m in
         by (ltb 64 u)
-        (λ v. pass-none (good nameGrade) (rw v))
-        (λ v. pass-bad (good nameGrade) {a = part s at n} {t = n} (rw (v, k)) (name-good _ ∙ rw (sized, t) or-not))
+        (λ v. pass-none (good nameRefusal) (rw v))
+        (λ v. pass-bad (good nameRefusal) {a = part s at n} {t = n} (rw (v, k)) (name-good _ ∙ rw (sized, t) or-not))
       where
         or-not : not (true or any strange (part s at n)) ≡ false
         or-not = unfold _or_ in refl
 
-    pub name-clear : unsizedBy (n - at) ≡ false → good nameGrade (part s at n) ≡ true
+    pub name-clear : unsizedBy (n - at) ≡ false → good nameRefusal (part s at n) ≡ true
     unfolding _or_
     name-clear t =
         let d : n - at ≡ nameRun (drop at s) = omega arith in
@@ -255,15 +255,15 @@ module _ {s : Str} {at : ℕ} {d : List ℕ} {to : ℕ} {d′ : List ℕ} {r : S
   pub value-ends : end ≤ length d′
   value-ends = let u = stored-to x e in omega (arith, value-room, wrote-long d to (stringBytes (u .0)) d′ end (u .2) (omega (arith, value-room, u .2 .ends)))
 
-  module _ (f : ℕ) (i : f ≡ valueGrade (part d′ (to + 1) end)) where
-    graded : f ≡ valueGrade (stored-to x e .0)
-    graded = let u = stored-to x e in i ∙ ap valueGrade (stored-string d to (u .0) d′ end (u .2) value-room)
+  module _ (f : ℕ) (i : f ≡ valueRefusal (part d′ (to + 1) end)) where
+    judged : f ≡ valueRefusal (stored-to x e .0)
+    judged = let u = stored-to x e in i ∙ ap valueRefusal (stored-string d to (u .0) d′ end (u .2) value-room)
 
     pub value-bad : (f ≡ 255 → ⊥) → Stores 65 1 stringBytes goodValue s at d to d′ Unread
-    value-bad h = nothing (pass-bad (good valueGrade) (stored-to x e .1) (ne-eqb _ 255 (λ z. h (graded ∙ z))))
+    value-bad h = nothing (pass-bad (good valueRefusal) (stored-to x e .1) (ne-eqb _ 255 (λ z. h (judged ∙ z))))
 
     pub value-stores : f ≡ 255 → Stores 65 1 stringBytes goodValue s at d to d′ (To t end)
-    value-stores h = let u = stored-to x e in stores (pass-good (good valueGrade) (u .1) (eq-eqb _ 255 (sym graded ∙ h))) (u .2) (u .3)
+    value-stores h = let u = stored-to x e in stores (pass-good (good valueRefusal) (u .1) (eq-eqb _ 255 (sym judged ∙ h))) (u .2) (u .3)
 
 -- ---- read_key
 
@@ -271,28 +271,28 @@ module _ (s : Str) (at : ℕ) where
   pub key-misnamed : goodName 61 61 s at ≡ unread → goodKey s at ≡ unread
   unfolding key _>>=_ ret
   key-misnamed e =
-      pass-first (good nameGrade) (good aloneGrade) (name 61 61 s at) _
+      pass-first (good nameRefusal) (good aloneRefusal) (name 61 61 s at) _
       (λ n p k t g f. let x = then-got (literal 61 s p) _ g in
       let y = then-got (value 64 s (x .1)) _ (x .3) in
       named n k (got-move (λ j q. j .name ≡ n) (y .3) refl) f)
       e
     where
-      named : (n : Str) (k : Key) → k .name ≡ n → good aloneGrade k ≡ true → good nameGrade n ≡ true
+      named : (n : Str) (k : Key) → k .name ≡ n → good aloneRefusal k ≡ true → good nameRefusal n ≡ true
       named n k i f = rw i at (and-l _ _ (sym (key-good k) ∙ f))
 
   module _ (n : Str) (m : ℕ) (e : goodName 61 61 s at ≡ got n m) where
-    key-named : (name 61 61 s at ≡ got n m) × (good nameGrade n ≡ true)
-    key-named = pass-got (good nameGrade) (name 61 61 s at) e
+    key-named : (name 61 61 s at ≡ got n m) × (good nameRefusal n ≡ true)
+    key-named = pass-got (good nameRefusal) (name 61 61 s at) e
 
     pub key-ends : (getD s m 0 ≡ 61 → ⊥) → goodKey s at ≡ unread
-    key-ends h = pass-none (good aloneGrade) (key-unequal s at n m (key-named .0) h)
+    key-ends h = pass-none (good aloneRefusal) (key-unequal s at n m (key-named .0) h)
 
     module _ (h : getD s m 0 ≡ 61) where
       key-is : goodKey s at ≡ andThen (goodValue s (m + 1)) (λ v t. got (record { name = n; value = v }) t)
       unfolding _and_
       key-is =
           rw (key-open s at n m (key-named .0) h)
-          (pass-then (good valueGrade) (good aloneGrade) (λ v. record { name = n; value = v }) (value 64 s (m + 1)) (λ v t i. key-good _ ∙ rw (key-named .1)))
+          (pass-then (good valueRefusal) (good aloneRefusal) (λ v. record { name = n; value = v }) (value 64 s (m + 1)) (λ v t i. key-good _ ∙ rw (key-named .1)))
 
       pub key-stores : (d : List ℕ) (to : ℕ) (d′ : List ℕ) (end : ℕ) (d″ : List ℕ) (r : Stored) → Wrote d to (stringBytes n) d′ end → Within 65 1 s at m to end → end ≤ length d
           → Stores 65 1 stringBytes goodValue s (m + 1) d′ end d″ r → Stores 130 1 keyBytes goodKey s at d to d″ r
@@ -320,35 +320,35 @@ name-part a b s at n m e =
 
 module _ (s : Str) (at : ℕ) where
   -- a name that no good element has
-  misnamed : (ok : Str → Bool) → ((e : Elem) → good elemGrade e ≡ true → ok (e .name) ≡ true) → pass ok (name 47 91 s at) ≡ unread → goodElement s at ≡ unread
+  misnamed : (ok : Str → Bool) → ((e : Elem) → good elemRefusal e ≡ true → ok (e .name) ≡ true) → pass ok (name 47 91 s at) ≡ unread → goodElement s at ≡ unread
   unfolding element _>>=_ ret
   misnamed ok h e =
-      pass-first ok (good elemGrade) (name 47 91 s at) _
+      pass-first ok (good elemRefusal) (name 47 91 s at) _
       (λ n p x t g f. let y = then-got (each 91 4 key s p) _ g in
-      got-move (λ z q. good elemGrade z ≡ true → ok n ≡ true) (y .3) (λ i. h _ i) f)
+      got-move (λ z q. good elemRefusal z ≡ true → ok n ≡ true) (y .3) (λ i. h _ i) f)
       e
 
   pub element-misnamed : goodName 47 91 s at ≡ unread → goodElement s at ≡ unread
-  element-misnamed = misnamed (good nameGrade) (λ e f. and-l _ _ (sym (elem-name-good (e .name)) ∙ and-l _ _ (and-l _ _ (sym (elem-good e) ∙ f))))
+  element-misnamed = misnamed (good nameRefusal) (λ e f. and-l _ _ (sym (elem-name-good (e .name)) ∙ and-l _ _ (and-l _ _ (sym (elem-good e) ∙ f))))
 
   pub element-dots : (n : Str) (m : ℕ) (d : Bool) → name 47 91 s at ≡ got n m → d ≡ same (part s at m) (bytes "...") → d ≡ true → goodElement s at ≡ unread
   element-dots n m d e i t =
       misnamed (λ x. not (same x (bytes "..."))) (λ x f. and-r _ _ (sym (elem-name-good (x .name)) ∙ and-l _ _ (and-l _ _ (sym (elem-good x) ∙ f))))
       (pass-bad (λ x. not (same x (bytes "..."))) e (rw (name-part 47 91 s at n m e) (ap not (sym i ∙ t))))
 
-  module _ (n : Str) (m : ℕ) (e : name 47 91 s at ≡ got n m) (f : good nameGrade n ≡ true) (d : Bool) (i : d ≡ same (part s at m) (bytes "...")) (t : d ≡ false) where
-    named : good elemNameGrade n ≡ true
+  module _ (n : Str) (m : ℕ) (e : name 47 91 s at ≡ got n m) (f : good nameRefusal n ≡ true) (d : Bool) (i : d ≡ same (part s at m) (bytes "...")) (t : d ≡ false) where
+    named : good elemNameRefusal n ≡ true
     named = elem-name-good n ∙ both _ _ f (rw (name-part 47 91 s at n m e) (ap not (sym i ∙ t)))
 
-    judged : (ks : List Key) → length ks ≤ 4 → good elemGrade (record { name = n; keys = ks }) ≡ (all (good aloneGrade) ks and distinct ks)
+    judged : (ks : List Key) → length ks ≤ 4 → good elemRefusal (record { name = n; keys = ks }) ≡ (all (good aloneRefusal) ks and distinct ks)
     unfolding _and_
     judged ks l = elem-good _ ∙ rw (named, le-ltb 4 (length ks) l) (keys-good ks)
 
     pub element-is : goodElement s at ≡ andThen (goodKeys s m) (λ ks u. got (record { name = n; keys = ks }) u)
     unfolding element _>>=_ ret
     element-is =
-        rw (e, ← each-pass (good aloneGrade) 91 4 key s m, ← pass-both (all (good aloneGrade)) distinct (each 91 4 key s m))
-        (pass-then (λ ks. all (good aloneGrade) ks and distinct ks) (good elemGrade) (λ ks. record { name = n; keys = ks }) (each 91 4 key s m) (λ ks u g. judged ks (each-few 91 4 key s m ks u g)))
+        rw (e, ← each-pass (good aloneRefusal) 91 4 key s m, ← pass-both (all (good aloneRefusal)) distinct (each 91 4 key s m))
+        (pass-then (λ ks. all (good aloneRefusal) ks and distinct ks) (good elemRefusal) (λ ks. record { name = n; keys = ks }) (each 91 4 key s m) (λ ks u g. judged ks (each-few 91 4 key s m ks u g)))
 
     pub element-stores : (d : List ℕ) (to : ℕ) (d′ : List ℕ) (end : ℕ) (d″ : List ℕ) (r : Stored) → Wrote d to (stringBytes n) d′ end → Within 65 1 s at m to end → end ≤ length d
         → Stores 521 1 (counted keyBytes) goodKeys s m d′ end d″ r → Stores 586 2 elemBytes goodElement s at d to d″ r
@@ -361,16 +361,16 @@ module _ (s : Str) (at : ℕ) where
 module _ (s : Str) where
   pub elements-bad : goodElements s 0 ≡ unread → whole s (each 47 16 element s 0) ≡ none
   unfolding whole pass if_then_else_ _and_
-  elements-bad e = go (each 47 16 element s 0) refl (each-pass (good elemGrade) 47 16 element s 0 ∙ e)
+  elements-bad e = go (each 47 16 element s 0) refl (each-pass (good elemRefusal) 47 16 element s 0 ∙ e)
     where
-      go : (y : Parsed Path) → each 47 16 element s 0 ≡ y → pass (all (good elemGrade)) y ≡ unread → whole s y ≡ none
+      go : (y : Parsed Path) → each 47 16 element s 0 ≡ y → pass (all (good elemRefusal)) y ≡ unread → whole s y ≡ none
       go unread i f = refl
       go (got p t) i f =
-          by (all (good elemGrade) p)
+          by (all (good elemRefusal) p)
           (λ g. let f′ = rw g at f in never-got f′ refl)
           (λ g. rw (path-good p (each-few 47 16 element s 0 p t i), g) (by (eqb t (length s)) (λ z. rw z) (λ z. rw z)))
 
   pub elements-good : (p : Path) (t : ℕ) → goodElements s 0 ≡ got p t → (each 47 16 element s 0 ≡ got p t) × (goodPath p ≡ true)
   elements-good p t e =
-      let x = pass-got (all (good elemGrade)) (each 47 16 element s 0) (each-pass (good elemGrade) 47 16 element s 0 ∙ e) in
+      let x = pass-got (all (good elemRefusal)) (each 47 16 element s 0) (each-pass (good elemRefusal) 47 16 element s 0 ∙ e) in
       (x .0, path-good p (each-few 47 16 element s 0 p t (x .0)) ∙ x .1)

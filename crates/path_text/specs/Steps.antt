@@ -13,7 +13,7 @@ use Rattle.text.specs.Frame.{Parsed, got, unread, Reader}
 use Rattle.text.specs.Fill.{put, Wrote}
 use Rattle.path.specs.Path.{Key, Elem, Path}
 use Rattle.path.specs.Faults.{sameName}
-use Rattle.path.specs.Walk.{nameGrade, valueGrade, aloneGrade, elemGrade, good}
+use Rattle.path.specs.Walk.{nameRefusal, valueRefusal, aloneRefusal, elemRefusal, good}
 use Rattle.path_text.specs.TextReader.{name, item, value, each, key, element}
 use Rattle.path_text.specs.declared.reader.Stored.{Stored}
 use Rattle.path_text.specs.declared.reader.Stored.the-variants as stored
@@ -44,13 +44,13 @@ passing ok r s at = pass ok (r s at)
 
 -- the parts of a good path; each name is followed by a, by b or by nothing
 abbrev pub goodName : ℕ → ℕ → Reader Str
-goodName a b = passing (good nameGrade) (name a b)
+goodName a b = passing (good nameRefusal) (name a b)
 
 abbrev pub goodValue : Reader Str
-goodValue = passing (good valueGrade) (value 64)
+goodValue = passing (good valueRefusal) (value 64)
 
 abbrev pub goodKey : Reader Key
-goodKey = passing (good aloneGrade) key
+goodKey = passing (good aloneRefusal) key
 
 abbrev pub distinct : List Key → Bool
 distinct ks = not (twice sameName ks)
@@ -59,7 +59,7 @@ abbrev pub goodKeys : Reader (List Key)
 goodKeys = passing distinct (each 91 4 goodKey)
 
 abbrev pub goodElement : Reader Elem
-goodElement = passing (good elemGrade) element
+goodElement = passing (good elemRefusal) element
 
 abbrev pub goodElements : Reader Path
 goodElements = each 47 16 goodElement

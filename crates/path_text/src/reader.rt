@@ -62,7 +62,7 @@ fn name_end(text: &[u8], at: usize) -> usize
 {
     let mut i = at;
     while i < text.len() {
-        if !path::fault::is_name(text[i]) {
+        if !path::refusal::is_name(text[i]) {
             return i;
         }
         i += 1;
@@ -180,7 +180,7 @@ fn read_good_value(text: &[u8], at: usize, out: &mut [u8], to: usize) -> Stored
         return Stored::Unread;
     };
     let start = to + 1;
-    if path::fault::value_fault(&out[start..end]) != 255 {
+    if path::refusal::value_refusal(&out[start..end]) != 255 {
         return Stored::Unread;
     }
     Stored::To {
@@ -239,7 +239,7 @@ fn read_element(text: &[u8], at: usize, out: &mut [u8], to: usize) -> Stored
     let Stored::To { next, end } = n else {
         return Stored::Unread;
     };
-    if path::fault::is_dots(&text[at..next]) {
+    if path::refusal::is_dots(&text[at..next]) {
         return Stored::Unread;
     }
     read_keys(text, next, out, end)
@@ -337,7 +337,7 @@ fn read_root(out: &mut [u8]) -> Filled
 pub fn read_text(text: &[u8], out: &mut [u8]) -> Filled
     ensures { λ r. ⌜ (r ≡ answer (now (out .entry)) (bytesFor (now (text .entry)))) × (now (out .exit) ≡ lent (now (out .entry)) (bytesFor (now (text .entry)))) ⌝ }
 {
-    if path::fault::is_byte(text, b'/') {
+    if path::refusal::is_byte(text, b'/') {
         return read_root(out);
     }
     if text.len() <= 239 {

@@ -9,6 +9,7 @@ use Rattle.path_write.proofs.Writing.{Writing, writing-start, elems-roo
 use Rattle.path_write.proofs.write_elements.Statement.{statement}
 use Rattle.path_write.proofs.write_elements.Tie as tie
 
+-- The elements passed are written, up to q in `out`; the `left` elements from p on are still to be, and there is room for them.
 abbrev Inv-loop : tie.InvT-loop
 Inv-loop f from count out₀ to p₀ q₀ left₀ out p q left = Writing elemText out₀ to (written (joined elemText) (times count element f from)) (endAt (times count element f from)) (times left element f p) out q
 

@@ -13,6 +13,7 @@ use Rattle.path_write.proofs.Writing.{Writing, writing-start, writing-n
 use Rattle.path_write.proofs.write_keys.Statement.{statement}
 use Rattle.path_write.proofs.write_keys.Tie as tie
 
+-- The keys passed are written, up to q in `out`; the `left` keys from p on are still to be, and there is room for them.
 abbrev Inv-loop : tie.InvT-loop
 Inv-loop f from count out₀ to p₀ q₀ left₀ out p q left = Writing keyText out₀ to (written (joined keyText) (times count key f from)) (endAt (times count key f from)) (times left key f p) out q
 

@@ -2,7 +2,7 @@
 use borrow.Author.Needs.{needs}
 use native.Mathlib.Omega.{arith}
 use mathlib.Core.Path.{refl}
-use Rattle.path.specs.Walk.{nameGrade, good}
+use Rattle.path.specs.Walk.{nameRefusal, good}
 use Rattle.path_text.specs.Steps.{nothing}
 use Rattle.path_text.proofs.Storing.{stored-to, stored-not, string-longer, room-less, room-end, room-then}
 use Rattle.path_text.proofs.Judging.{pass-got, element-misnamed, element-dots, element-stores}
@@ -63,7 +63,7 @@ returns-2 c =
     let at-n = c .before .before .before .before .n in
     let at-read-name = c .before .before .before .before .before .before .before .before .read-name in
     let u = stored-to (at-read-name .ensures) (at-n .given .1) in
-    let g = pass-got (good nameGrade) _ (u .1) in
+    let g = pass-got (good nameRefusal) _ (u .1) in
     nothing (element-dots _ _ _ _ _ (g .0) (at-is-dots .ensures) (at-if1 .taken))
 
 read-keys-requires : tie.Need-read-keys-requires
@@ -86,7 +86,7 @@ returns-3 c =
     let at-read-name = c .before .before .before .before .before .before .before .before .before .before .before .before .read-name in
     let at-start = c .before .before .before .before .before .before .before .before .before .before .before .before .before .before .before .before in
     let u = stored-to (at-read-name .ensures) (at-n .given .1) in
-    let g = pass-got (good nameGrade) _ (u .1) in
+    let g = pass-got (good nameRefusal) _ (u .1) in
     element-stores _ _ _ _ (g .0) (g .1) _ (at-is-dots .ensures) (at-if1 .left) _ _ _ _ _ _ (u .2) (u .3) (room-end _ _ _ _ _ _ (at-start .pre) 65 1 _ _ (u .3) (omega (arith, u .2 .ends)) (omega arith) (omega arith)) (at-read-keys .ensures)
 
 pub read-element-spec : {M : Type 1} → statement M
