@@ -16,7 +16,7 @@ use Rattle.text.specs.Refusal.{_when_else_, clear}
 use Rattle.text.proofs.Tests.{by, or-assoc, or-none, none-or, or-swap, and-l, and-r, or-false-l, or-false-r}
 use Rattle.path.specs.Path.{Key, Elem, Path}
 use Rattle.path.specs.Faults.{unsized, keyOver, elemOver, overLimit, outsideName, outsideValue, keyStray, elemStray, strayByte, starred, halfWild, keyMisplaced, elemMisplaced, misplaced, sameName, keyTwice, leastRefusal, pathRefusal, goodPath}
-use Rattle.path.specs.Walk.{nameRefusal, elemNameRefusal, valueRefusal, keyRefusal, keysRefusal, elemRefusal, elemsRefusal, aloneRefusal, good}
+use Rattle.path.specs.Walk.{noName, nameRefusal, elemNameRefusal, valueRefusal, keyRefusal, keysRefusal, elemRefusal, elemsRefusal, aloneRefusal, good}
 
 -- ---- min
 
@@ -197,43 +197,39 @@ last-clear false false true d = refl
 last-clear false false false true = refl
 last-clear false false false false = refl
 
--- a byte that no name has
-abbrev pub strange : ℕ → Bool
-strange b = not (isName b)
-
-strange-flags : (n : Bool) → (not (n || false) or false) ≡ not n
+no-name-flags : (n : Bool) → (not (n || false) or false) ≡ not n
 unfolding _or_
-strange-flags true = refl
-strange-flags false = refl
+no-name-flags true = refl
+no-name-flags false = refl
 
-strange-byte : (b : ℕ) → (outsideName b or isStar b) ≡ strange b
+no-name-byte : (b : ℕ) → (outsideName b or isStar b) ≡ noName b
 unfolding outsideName _or_
-strange-byte b =
+no-name-byte b =
     by (isStar b)
     (λ u. let z : b ≡ 42 = eqb-true b 42 u in rw z)
-    (λ u. rw u (strange-flags (isName b)))
+    (λ u. rw u (no-name-flags (isName b)))
 
 any-either : (f g h : ℕ → Bool) → ((b : ℕ) → (f b or g b) ≡ h b) → (s : Str) → (any f s or any g s) ≡ any h s
 unfolding any
 any-either f g h e [] = or-none false
 any-either f g h e (b ∷ s) = or-swap (f b) (any f s) (g b) (any g s) ∙ rw (e b, any-either f g h e s)
 
-plain-strange : (s : Str) → all isName s ≡ true → any strange s ≡ false
+plain-no-name : (s : Str) → all isName s ≡ true → any noName s ≡ false
 unfolding all any _or_
-plain-strange [] e = refl
-plain-strange (b ∷ s) e = rw (and-l (isName b) _ e) (plain-strange s (and-r (isName b) _ e))
+plain-no-name [] e = refl
+plain-no-name (b ∷ s) e = rw (and-l (isName b) _ e) (plain-no-name s (and-r (isName b) _ e))
 
 -- what a scan of such bytes sees
 pub plain-seen : (s : Str) → all isName s ≡ true → (false ≡ any outsideName s) × (false ≡ any isStar s)
 plain-seen s e =
-    let h : (any outsideName s or any isStar s) ≡ false = any-either outsideName isStar strange strange-byte s ∙ plain-strange s e in
+    let h : (any outsideName s or any isStar s) ≡ false = any-either outsideName isStar noName no-name-byte s ∙ plain-no-name s e in
     (sym (or-false-l _ _ h), sym (or-false-r (any outsideName s) _ h))
 
 -- a good name
-pub name-good : (s : Str) → good nameRefusal s ≡ not (unsized s or any strange s)
+pub name-good : (s : Str) → good nameRefusal s ≡ not (unsized s or any noName s)
 unfolding nameRefusal
 name-good s =
-    let e : (unsized s or any outsideName s or starred s or false) ≡ (unsized s or any strange s) = rw (or-none (starred s), any-either outsideName isStar strange strange-byte s) in
+    let e : (unsized s or any outsideName s or starred s or false) ≡ (unsized s or any noName s) = rw (or-none (starred s), any-either outsideName isStar noName no-name-byte s) in
     refusal-clear (unsized s) (any outsideName s) (starred s) false ∙ ap not e
 
 pub elem-name-good : (s : Str) → good elemNameRefusal s ≡ (good nameRefusal s and not (same s (bytes "...")))

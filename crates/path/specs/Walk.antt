@@ -1,11 +1,12 @@
 -- What the programs that walk over path bytes find, said of what is read there.
 use Prim.Native.Nat.{ℕ}
-use mathlib.Core.Bool.{Bool, false, _||_}
+use mathlib.Core.Bool.{Bool, false, not, _||_}
 use mathlib.Core.List.{List}
 use lib.ListN.{length}
 use lib.Dec.{eqb, ltb}
 use Rattle.limits.specs.Limits.{maxString}
 use Rattle.text.specs.Test.{_and_, _or_, any, twice}
+use Rattle.text.specs.Byte.{isName}
 use Rattle.text.specs.String.{Str, bytes, same}
 use Rattle.text.specs.Frame.{Parsed, got, unread}
 use Rattle.text.specs.Refusal.{clear}
@@ -17,6 +18,10 @@ use Rattle.path.specs.Faults.{starred, halfWild, keyMisplaced, elemMispl
 -- `unsized`, by the length
 abbrev pub unsizedBy : ℕ → Bool
 unsizedBy n = eqb n 0 || ltb maxString n
+
+-- no byte of a name
+abbrev pub noName : ℕ → Bool
+noName b = not (isName b)
 
 -- the smallest number that each part of a path gets, or `clear`
 unfoldable pub nameRefusal : Str → ℕ

@@ -40,7 +40,8 @@ returns-2 c =
     let at-byte-at = c .before .before .byte-at in
     let at-name-end = c .before .before .before .name-end in
     let at-start = c .before .before .before .before .before .before in
-    nothing (name-unsized _ _ (at-start .pre .1) (at-start .pre .2) _ _ _ _ (at-start .pre .0 .starts) (at-name-end .ensures) (at-byte-at .ensures) (name-ends _ _ (at-start .pre .1) (at-start .pre .2) _ _ _ _ (at-start .pre .0 .starts) (at-name-end .ensures) (at-byte-at .ensures) (at-if1 .left)) (at-if2 .taken))
+    nothing (name-unsized _ _ (at-start .pre .1) (at-start .pre .2) _ _ _ _ (at-start .pre .0 .starts) (at-name-end .ensures) (at-byte-at .ensures)
+    (name-ends _ _ (at-start .pre .1) (at-start .pre .2) _ _ _ _ (at-start .pre .0 .starts) (at-name-end .ensures) (at-byte-at .ensures) (at-if1 .left)) (at-if2 .taken))
 
 cast-out : tie.Need-cast-out
 cast-out c =
