@@ -19,7 +19,7 @@ abbrev μ-loop : tie.MeasureT-loop
 loop-holds : tie.Need-loop-holds Inv-loop μ-loop
 loop-holds c =
     let at-start = c .before .before in
-    writing-start elemText _ _ _ (at-start .pre .0) (at-start .pre .1)
+    writing-start elemText _ _ _ (at-start .pre)
 
 write-element-requires : tie.Need-write-element-requires Inv-loop μ-loop
 write-element-requires c κs =
@@ -40,7 +40,7 @@ loop-again c =
     let at-loop-test = c .before .before .before .before .loop-test in
     let at-loop = c .before .before .before .before .before .loop in
     let at-start = c .before .before .before .before .before .before .before .before in
-    elems-turn _ _ _ _ (at-start .args .f .now) (at-loop .p) _ _ (at-loop .left) (at-loop .inv) (at-loop-test .taken) _ _ _ (at-write-element .ensures)
+    elems-turn _ _ _ _ (at-start .args .f .now) (at-loop .p) _ _ (at-loop .left) (at-loop .inv) (at-loop-test .taken) _ _ (at-write-element .ensures)
 
 same-length : tie.Need-same-length Inv-loop μ-loop
 same-length c =
@@ -52,7 +52,8 @@ returns c =
     let at-loop-test = c .loop-test in
     let at-loop = c .before .loop in
     let at-start = c .before .before .before .before in
-    elems-done _ _ _ _ (at-start .args .f .now) (at-loop .p) _ _ (at-loop .left) (at-loop .inv) (at-loop-test .left)
+    let d = elems-done _ _ _ _ (at-start .args .f .now) (at-loop .p) _ _ (at-loop .left) (at-loop .inv) (at-loop-test .left) in
+    record { next = d .0; wrote = d .1 }
 
 pub write-elements-spec : {M : Type 1} → statement M
 write-elements-spec =
