@@ -1,14 +1,13 @@
 -- One step of each program that reads path text.
 use mathlib.Core.Path.{_≡_, refl, sym, ap, _∙_}
-use mathlib.Core.Bool.{true, false, _||_, _&&_}
+use mathlib.Core.Bool.{true, false, _&&_}
 use mathlib.Core.List.{List, [], _∷_}
 use Prim.Native.Nat.{ℕ, zero, suc, _+_, _-_, _≤_, _<_}
-use native.Mathlib.Numerals.{add-one}
 use native.Mathlib.Omega.{arith}
 use borrow.Author.Tests.{eqb-true, ltb-true, lt-ltb, le-ltb, eq-eqb, ne-eqb}
 use lib.Dec.{eqb, ltb}
-use lib.ListN.{length, drop, getD, set, length-drop, drop-of-length-le, List·getD-eq-default}
-use lib.Seq.{drop-cons, length-take-le}
+use lib.ListN.{length, drop, getD, set, length-drop, List·getD-eq-default}
+use lib.Seq.{length-take-le}
 use Rattle.limits.specs.Limits.{maxString, maxStringBytes}
 use Rattle.text.specs.Test.{if_then_else_}
 use Rattle.text.specs.String.{Str, joined}

@@ -34,5 +34,5 @@ lent out none = out
 lent out (some s) = if leb (length s) (length out) then put out 0 s else out
 
 -- r is the answer where `out` was lent for this result, and out′ what is left of it
-abbrev pub Fills : List ℕ → Option Str → List ℕ → Filled → Type 0
-Fills out result out′ r = (r ≡ answer out result) × (out′ ≡ lent out result)
+abbrev pub Delivers : List ℕ → Option Str → List ℕ → Filled → Type 0
+Delivers out result out′ r = (r ≡ answer out result) × (out′ ≡ lent out result)

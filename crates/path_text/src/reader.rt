@@ -14,7 +14,7 @@ ghost use Rattle.text.specs.String.{bytes, same};
 ghost use Rattle.text.specs.Frame.{stringBytes};
 ghost use Rattle.path.specs.Bytes.{counted, keyBytes, elemBytes};
 ghost use Rattle.path_text.specs.TextReader.{value};
-ghost use Rattle.path_text.specs.Calls.{bytesFor, Fills};
+ghost use Rattle.path_text.specs.Calls.{bytesFor, Delivers};
 ghost use Rattle.path_text.specs.Steps.{maxGrowth, shortText, nameRun, itemOf, Room, Stores, plainly, Transcribed};
 ghost use Rattle.path_text.specs.Steps.{goodName, goodValue, goodKey, goodKeys, goodElement, goodElements};
 use crate::Filled;
@@ -285,7 +285,7 @@ fn transcribe(text: &[u8], out: &mut [u8]) -> Stored
 // The bytes are made apart, and copied where they fit.
 fn read_apart(text: &[u8], apart: &mut [u8], out: &mut [u8]) -> Filled
     requires { ⌜ Room maxPathBytes maxGrowth (now text) 0 (now apart) 0 × (same (now text) (bytes "/") ≡ false) ⌝ }
-    ensures { λ r. ⌜ Fills (now (out .entry)) (bytesFor (now (text .entry))) (now (out .exit)) r ⌝ }
+    ensures { λ r. ⌜ Delivers (now (out .entry)) (bytesFor (now (text .entry))) (now (out .exit)) r ⌝ }
 {
     let t = transcribe(text, apart);
     let Stored::To { next, end } = t else {
@@ -301,7 +301,7 @@ fn read_apart(text: &[u8], apart: &mut [u8], out: &mut [u8]) -> Filled
 // A short text.
 fn read_short(text: &[u8], out: &mut [u8]) -> Filled
     requires { ⌜ (length (now text) ≤ shortText) × (same (now text) (bytes "/") ≡ false) ⌝ }
-    ensures { λ r. ⌜ Fills (now (out .entry)) (bytesFor (now (text .entry))) (now (out .exit)) r ⌝ }
+    ensures { λ r. ⌜ Delivers (now (out .entry)) (bytesFor (now (text .entry))) (now (out .exit)) r ⌝ }
 {
     let mut apart = [0u8; SHORT_BYTES];
     read_apart(text, &mut apart, out)
@@ -310,7 +310,7 @@ fn read_short(text: &[u8], out: &mut [u8]) -> Filled
 // Any text, with room for the longest path bytes.
 fn read_long(text: &[u8], out: &mut [u8]) -> Filled
     requires { ⌜ same (now text) (bytes "/") ≡ false ⌝ }
-    ensures { λ r. ⌜ Fills (now (out .entry)) (bytesFor (now (text .entry))) (now (out .exit)) r ⌝ }
+    ensures { λ r. ⌜ Delivers (now (out .entry)) (bytesFor (now (text .entry))) (now (out .exit)) r ⌝ }
 {
     let mut apart = [0u8; limits::MAX_PATH_BYTES];
     read_apart(text, &mut apart, out)
@@ -318,7 +318,7 @@ fn read_long(text: &[u8], out: &mut [u8]) -> Filled
 
 // The text `/`, whose bytes are the count 0.
 fn read_root(out: &mut [u8]) -> Filled
-    ensures { λ r. ⌜ Fills (now (out .entry)) (some (0 ∷ [])) (now (out .exit)) r ⌝ }
+    ensures { λ r. ⌜ Delivers (now (out .entry)) (some (0 ∷ [])) (now (out .exit)) r ⌝ }
 {
     if out.len() == 0 {
         return Filled::Refused(23);
@@ -329,7 +329,7 @@ fn read_root(out: &mut [u8]) -> Filled
 
 // Path text to path bytes, at the start of out. Nothing is stored there before all is checked.
 pub fn read_text(text: &[u8], out: &mut [u8]) -> Filled
-    ensures { λ r. ⌜ Fills (now (out .entry)) (bytesFor (now (text .entry))) (now (out .exit)) r ⌝ }
+    ensures { λ r. ⌜ Delivers (now (out .entry)) (bytesFor (now (text .entry))) (now (out .exit)) r ⌝ }
 {
     if path::refusal::is_byte(text, b'/') {
         return read_root(out);

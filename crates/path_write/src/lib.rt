@@ -9,7 +9,7 @@ ghost use Rattle.text.specs.Fill.{Wrote};
 ghost use Rattle.path.specs.Bytes.{key, element, path};
 ghost use Rattle.path.specs.Walk.{isPath};
 ghost use Rattle.path_text.specs.Text.{escaped, keyText, elemText, pathText};
-ghost use Rattle.path_text.specs.Calls.{textFor, Fills};
+ghost use Rattle.path_text.specs.Calls.{textFor, Delivers};
 ghost use Rattle.path_write.specs.Steps.{written, Fits, Writes};
 use path_text::Filled;
 use text::frame::End;
@@ -145,7 +145,7 @@ fn write_path(f: &[u8], out: &mut [u8]) -> usize
 // The text of a good path, made apart, and copied where it fits.
 fn write_apart(f: &[u8], out: &mut [u8]) -> Filled
     requires { ⌜ true ≡ isPath (now f) ⌝ }
-    ensures { λ r. ⌜ Fills (now (out .entry)) (textFor (now (f .entry))) (now (out .exit)) r ⌝ }
+    ensures { λ r. ⌜ Delivers (now (out .entry)) (textFor (now (f .entry))) (now (out .exit)) r ⌝ }
 {
     let mut text = [0u8; limits::MAX_PATH_TEXT];
     let n = write_path(f, &mut text);
@@ -158,7 +158,7 @@ fn write_apart(f: &[u8], out: &mut [u8]) -> Filled
 
 // Path bytes to path text, at the start of out. Nothing is stored there before all is checked.
 pub fn write_text(f: &[u8], out: &mut [u8]) -> Filled
-    ensures { λ r. ⌜ Fills (now (out .entry)) (textFor (now (f .entry))) (now (out .exit)) r ⌝ }
+    ensures { λ r. ⌜ Delivers (now (out .entry)) (textFor (now (f .entry))) (now (out .exit)) r ⌝ }
 {
     if !path_frame::is_path(f) {
         return Filled::Refused(22);
