@@ -11,6 +11,7 @@ use Rattle.readable.proofs.Laying.{Laying, laying-start, laying-long, l
 use Rattle.readable.proofs.convert_lines.Statement.{statement}
 use Rattle.readable.proofs.convert_lines.Tie as tie
 
+-- The lines before `from` are laid into `out` up to `at`, and `number` counts the line at `from`; `piece` keeps its length.
 abbrev Inv-loop : tie.InvT-loop
 Inv-loop packing text out₀ piece₀ from₀ at₀ number₀ out piece from at number = Laying (lineBy packing) text out₀ from at number out × (length piece ≡ 32769)
 
