@@ -15,7 +15,7 @@ use Rattle.text.specs.Frame.{Parsed, got, unread, andThen, Reader, _>>=_, ret, 
 use Rattle.text.specs.Fill.{put, Wrote}
 use Rattle.text.proofs.Tests.{by, and-left, and-right}
 use Rattle.text.proofs.Filling.{wrote-more, wrote-byte, wrote-before}
-use Rattle.text_search.proofs.Searching.{until-fits}
+use Rattle.text_search.proofs.Searching.{found-high}
 use Rattle.path.specs.Bytes.{counted}
 use Rattle.path_text.specs.Text.{isMark}
 use Rattle.path_text.specs.TextReader.{literal, isEither, upTo, name, item, value, each, key}
@@ -147,7 +147,7 @@ module _ (a b : ℕ) (s : Str) (at n : ℕ) (h : at ≤ length s) (e : n ≡ at 
   name-low = omega arith
 
   pub name-high : n ≤ length s
-  name-high = omega (arith, until-fits (isEither a b) (drop at s), length-drop at s)
+  name-high = found-high (isEither a b) s at n h e
 
   pub name-got : n - at ≤ maxString → name a b s at ≡ got (part s at n) n
   unfolding name if_then_else_

@@ -5,7 +5,7 @@ use mathlib.Core.List.{[], _∷_}
 use Prim.Native.Nat.{ℕ, suc, _+_, _≤_, _<_}
 use native.Mathlib.Numerals.{add-one}
 use native.Mathlib.Omega.{arith}
-use lib.ListN.{length, drop, getD, drop-of-length-le}
+use lib.ListN.{length, drop, getD, length-drop, drop-of-length-le}
 use lib.Seq.{drop-cons}
 use Rattle.text.specs.Test.{if_then_else_}
 use Rattle.text.specs.String.{Str}
@@ -30,3 +30,11 @@ module _ (p : ℕ → Bool) (s : Str) (i : ℕ) where
   pub ran-out : length s ≤ i → until p (drop i s) ≡ 0
   unfolding until
   ran-out h = rw (drop-of-length-le s h)
+
+-- the search from `at` on answers r
+module _ (p : ℕ → Bool) (s : Str) (at r : ℕ) (h : at ≤ length s) (e : r ≡ at + until p (drop at s)) where
+  pub found-low : at ≤ r
+  found-low = omega arith
+
+  pub found-high : r ≤ length s
+  found-high = omega (arith, until-fits p (drop at s), length-drop at s)
