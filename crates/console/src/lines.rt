@@ -7,7 +7,7 @@ pub fn next(text: &[u8], at: usize) -> usize
     requires { ⌜ at < length (now text) ⌝ }
     ensures { λ r. ⌜ (at < r) × (r ≤ length (now (text .entry))) ⌝ }
 {
-    let end = path_text::reader::find(text, at, 10, 10);
+    let end = text_search::find(text, at, b'\n');
     if end < text.len() { end + 1 } else { end }
 }
 
@@ -48,7 +48,7 @@ pub fn number_at(text: &[u8], p: usize) -> usize {
 fn quote_at(text: &[u8], at: usize)
     requires { ⌜ at ≤ length (now text) ⌝ }
 {
-    let end = path_text::reader::find(text, at, 10, 10);
+    let end = text_search::find(text, at, b'\n');
     crate::say::quote(&text[at..end]);
 }
 
@@ -59,7 +59,7 @@ pub fn quote(text: &[u8], n: usize) {
 
 // Whether line n has no LF at its end.
 pub fn is_open(text: &[u8], n: usize) -> bool {
-    path_text::reader::find(text, start(text, n), 10, 10) == text.len()
+    text_search::find(text, start(text, n), b'\n') == text.len()
 }
 
 // Prints what follows `key` in the line at `at`, if that begins with it.
@@ -92,7 +92,7 @@ pub fn entry(text: &[u8], key: &[u8]) {
 fn is_line(text: &[u8], at: usize, word: &[u8]) -> bool
     requires { ⌜ at ≤ length (now text) ⌝ }
 {
-    let end = path_text::reader::find(text, at, 10, 10);
+    let end = text_search::find(text, at, b'\n');
     text::string::is_same(&text[at..end], word)
 }
 

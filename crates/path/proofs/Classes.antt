@@ -10,8 +10,8 @@ use Rattle.text.specs.Test.{_or_, _and_, if_then_else_, any}
 use Rattle.text.specs.Byte.{isName, isPrint, isStar}
 use Rattle.text.specs.String.{Str, bytes, same}
 use Rattle.text.proofs.Tests.{by, same→≡}
-use Rattle.path.specs.Faults.{unsized, outsideName, outsideValue, halfWild, grade}
-use Rattle.path.specs.Walk.{unsizedBy, nameGrade, elemNameGrade, valueGrade}
+use Rattle.path.specs.Faults.{unsized, outsideName, outsideValue, halfWild, leastRefusal}
+use Rattle.path.specs.Walk.{unsizedBy, nameRefusal, elemNameRefusal, valueRefusal}
 
 -- the test of a byte, as the program makes it
 pub outside : (name : Bool) (b : ℕ) (p q : Bool) → p ≡ isName b → q ≡ isPrint b
@@ -30,19 +30,19 @@ size s = refl
 
 -- r is the number, u whether the length is wrong, and the flags are what a scan of s saw
 module _ (s : Str) (r : ℕ) (u stray star : Bool) (i : u ≡ unsizedBy (length s)) where
-  pub name-graded : r ≡ grade u stray star false → stray ≡ any outsideName s → star ≡ any isStar s → r ≡ nameGrade s
-  unfolding nameGrade unsized _or_
-  name-graded e f g = rw (e, i, f, g)
+  pub name-judged : r ≡ leastRefusal u stray star false → stray ≡ any outsideName s → star ≡ any isStar s → r ≡ nameRefusal s
+  unfolding nameRefusal unsized _or_
+  name-judged e f g = rw (e, i, f, g)
 
-  pub elem-name-graded : (dots : Bool) → r ≡ grade u stray (star || dots) false → stray ≡ any outsideName s → star ≡ any isStar s
-      → dots ≡ same s (46 ∷ 46 ∷ 46 ∷ []) → r ≡ elemNameGrade s
-  unfolding elemNameGrade unsized _or_
-  elem-name-graded dots e f g h = rw (e, i, f, g, h)
+  pub elem-name-judged : (dots : Bool) → r ≡ leastRefusal u stray (star || dots) false → stray ≡ any outsideName s → star ≡ any isStar s
+      → dots ≡ same s (46 ∷ 46 ∷ 46 ∷ []) → r ≡ elemNameRefusal s
+  unfolding elemNameRefusal unsized _or_
+  elem-name-judged dots e f g h = rw (e, i, f, g, h)
 
-  pub value-graded : (wild : Bool) → r ≡ grade u stray (star && not wild) false → stray ≡ any outsideValue s → star ≡ any isStar s
-      → wild ≡ same s (42 ∷ []) → r ≡ valueGrade s
-  unfolding valueGrade unsized halfWild _or_ _and_
-  value-graded wild e f g h = rw (e, i, f, g, h)
+  pub value-judged : (wild : Bool) → r ≡ leastRefusal u stray (star && not wild) false → stray ≡ any outsideValue s → star ≡ any isStar s
+      → wild ≡ same s (42 ∷ []) → r ≡ valueRefusal s
+  unfolding valueRefusal unsized halfWild _or_ _and_
+  value-judged wild e f g h = rw (e, i, f, g, h)
 
 -- ---- is_byte, is_dots
 

@@ -1,3 +1,3 @@
-pub mod Grades
+pub mod Refusals
 pub mod Classes
 pub mod Bytes

@@ -3,6 +3,7 @@ use Prim.Native.Nat.{ℕ}
 use mathlib.Core.Bool.{Bool, _||_, not}
 use lib.ListN.{length}
 use lib.Dec.{ltb, eqb}
+use Rattle.limits.specs.Limits.{maxElements, maxKeys, maxString}
 use Rattle.text.specs.Test.{_and_, _or_, any, twice}
 use Rattle.text.specs.Byte.{isName, isPrint, isStar}
 use Rattle.text.specs.String.{Str, bytes, same}
@@ -13,18 +14,18 @@ use Rattle.path.specs.Path.{Key, Elem, Path}
 
 -- "other strings 64; only origin may be empty"
 unfoldable pub unsized : Str → Bool
-unsized s = eqb (length s) 0 or ltb 64 (length s)
+unsized s = eqb (length s) 0 or ltb maxString (length s)
 
 unfoldable pub keyOver : Key → Bool
 keyOver k = unsized (k .name) or unsized (k .value)
 
 -- "4 keys an element"
 unfoldable pub elemOver : Elem → Bool
-elemOver e = unsized (e .name) or ltb 4 (length (e .keys)) or any keyOver (e .keys)
+elemOver e = unsized (e .name) or ltb maxKeys (length (e .keys)) or any keyOver (e .keys)
 
 -- "16 elements"
 unfoldable pub overLimit : Path → Bool
-overLimit p = ltb 16 (length p) or any elemOver p
+overLimit p = ltb maxElements (length p) or any elemOver p
 
 -- ---- 6: "a byte outside its set (an * in an element or key name is 7)"
 
@@ -76,11 +77,11 @@ keyTwice p = any (λ (e : Elem). twice sameName (e .keys)) p
 -- ---- the smallest of them, and none
 
 -- the smallest of 5 to 8 that holds
-unfoldable pub grade : Bool → Bool → Bool → Bool → ℕ
-grade five six seven eight = 5 when five else 6 when six else 7 when seven else 8 when eight else clear
+unfoldable pub leastRefusal : Bool → Bool → Bool → Bool → ℕ
+leastRefusal five six seven eight = 5 when five else 6 when six else 7 when seven else 8 when eight else clear
 
 unfoldable pub pathRefusal : Path → ℕ
-pathRefusal p = grade (overLimit p) (strayByte p) (misplaced p) (keyTwice p)
+pathRefusal p = leastRefusal (overLimit p) (strayByte p) (misplaced p) (keyTwice p)
 
 -- a path that no rule table refuses
 unfoldable pub goodPath : Path → Bool

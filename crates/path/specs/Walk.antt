@@ -1,48 +1,55 @@
 -- What the programs that walk over path bytes find, said of what is read there.
 use Prim.Native.Nat.{ℕ}
-use mathlib.Core.Bool.{Bool, false, _||_}
+use mathlib.Core.Bool.{Bool, false, not, _||_}
 use mathlib.Core.List.{List}
 use lib.ListN.{length}
 use lib.Dec.{eqb, ltb}
+use Rattle.limits.specs.Limits.{maxString}
 use Rattle.text.specs.Test.{_and_, _or_, any, twice}
+use Rattle.text.specs.Byte.{isName}
 use Rattle.text.specs.String.{Str, bytes, same}
 use Rattle.text.specs.Frame.{Parsed, got, unread}
 use Rattle.text.specs.Refusal.{clear}
 use Rattle.path.specs.Path.{Key, Elem, Path}
 use Rattle.path.specs.Bytes.{path}
-use Rattle.path.specs.Faults.{unsized, keyOver, elemOver, outsideName, outsideValue, keyStray, elemStray, starred, halfWild, keyMisplaced, elemMisplaced, sameName, grade, goodPath}
+use Rattle.path.specs.Faults.{unsized, keyOver, elemOver, outsideName, outsideValue, keyStray, elemStray}
+use Rattle.path.specs.Faults.{starred, halfWild, keyMisplaced, elemMisplaced, sameName, leastRefusal, goodPath}
 
 -- `unsized`, by the length
 abbrev pub unsizedBy : ℕ → Bool
-unsizedBy n = eqb n 0 || ltb 64 n
+unsizedBy n = eqb n 0 || ltb maxString n
+
+-- no byte of a name
+abbrev pub noName : ℕ → Bool
+noName b = not (isName b)
 
 -- the smallest number that each part of a path gets, or `clear`
-unfoldable pub nameGrade : Str → ℕ
-nameGrade s = grade (unsized s) (any outsideName s) (starred s) false
+unfoldable pub nameRefusal : Str → ℕ
+nameRefusal s = leastRefusal (unsized s) (any outsideName s) (starred s) false
 
-unfoldable pub elemNameGrade : Str → ℕ
-elemNameGrade s = grade (unsized s) (any outsideName s) (starred s or same s (bytes "...")) false
+unfoldable pub elemNameRefusal : Str → ℕ
+elemNameRefusal s = leastRefusal (unsized s) (any outsideName s) (starred s or same s (bytes "...")) false
 
-unfoldable pub valueGrade : Str → ℕ
-valueGrade s = grade (unsized s) (any outsideValue s) (halfWild s) false
+unfoldable pub valueRefusal : Str → ℕ
+valueRefusal s = leastRefusal (unsized s) (any outsideValue s) (halfWild s) false
 
 -- `again`: a later key of the element has the name
-unfoldable pub keyGrade : Str → Str → Bool → ℕ
-keyGrade name value again =
-    grade (unsized name or unsized value) (any outsideName name or any outsideValue value) (starred name or halfWild value) again
+unfoldable pub keyRefusal : Str → Str → Bool → ℕ
+keyRefusal name value again =
+    leastRefusal (unsized name or unsized value) (any outsideName name or any outsideValue value) (starred name or halfWild value) again
 
-unfoldable pub keysGrade : List Key → ℕ
-keysGrade ks = grade (any keyOver ks) (any keyStray ks) (any keyMisplaced ks) (twice sameName ks)
+unfoldable pub keysRefusal : List Key → ℕ
+keysRefusal ks = leastRefusal (any keyOver ks) (any keyStray ks) (any keyMisplaced ks) (twice sameName ks)
 
-unfoldable pub elemGrade : Elem → ℕ
-elemGrade e = grade (elemOver e) (elemStray e) (elemMisplaced e) (twice sameName (e .keys))
+unfoldable pub elemRefusal : Elem → ℕ
+elemRefusal e = leastRefusal (elemOver e) (elemStray e) (elemMisplaced e) (twice sameName (e .keys))
 
-unfoldable pub elemsGrade : List Elem → ℕ
-elemsGrade es = grade (any elemOver es) (any elemStray es) (any elemMisplaced es) (any (λ (e : Elem). twice sameName (e .keys)) es)
+unfoldable pub elemsRefusal : List Elem → ℕ
+elemsRefusal es = leastRefusal (any elemOver es) (any elemStray es) (any elemMisplaced es) (any (λ (e : Elem). twice sameName (e .keys)) es)
 
 -- a key by itself
-unfoldable pub aloneGrade : Key → ℕ
-aloneGrade k = keyGrade (k .name) (k .value) false
+unfoldable pub aloneRefusal : Key → ℕ
+aloneRefusal k = keyRefusal (k .name) (k .value) false
 
 -- a part that gets no number
 abbrev pub good : {A : Type 0} → (A → ℕ) → A → Bool

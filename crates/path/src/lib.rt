@@ -1,2 +1,2 @@
 // Paths in their bytes.
-pub mod fault;
+pub mod refusal;

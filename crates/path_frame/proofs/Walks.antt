@@ -7,22 +7,24 @@ use native.Mathlib.Nat.{min-eq-left, min-eq-right}
 use native.Mathlib.Omega.{arith}
 use lib.Dec.{ltb, eqb}
 use lib.ListN.{length, getD}
+use Rattle.limits.specs.Limits.{maxElements, maxKeys}
 use Rattle.text.specs.Test.{_and_, _or_, any, twice}
 use Rattle.text.specs.String.{Str, same}
 use Rattle.text.specs.Frame.{Parsed, got, unread, andThen, _>>=_, ret, string, part, times, endOf}
 use Rattle.text.specs.declared.frame.End.{End}
 use Rattle.text.specs.declared.frame.End.the-variants.{At}
 use Rattle.text.specs.declared.frame.End.the-variants as ends
+use Rattle.text.specs.Refusal.{clear}
 use Rattle.text.proofs.Tests.{or-none}
 use Rattle.text.proofs.Frames.{byte-got, byte-unread, string-ends, string-misses, times-turn, times-unread, times-done, times-length}
 use Rattle.path.specs.Path.{Key, Elem, Path}
 use Rattle.path.specs.Bytes.{key, element, path}
-use Rattle.path.specs.Faults.{grade, pathRefusal}
-use Rattle.path.specs.Walk.{keyGrade, keysGrade, elemNameGrade, elemGrade, elemsGrade, hasName, twiceIn, isPath, isPathIn}
+use Rattle.path.specs.Faults.{leastRefusal, pathRefusal}
+use Rattle.path.specs.Walk.{keyRefusal, keysRefusal, elemNameRefusal, elemRefusal, elemsRefusal, hasName, twiceIn, isPath, isPathIn}
 use Rattle.path_frame.specs.Walked.{walked}
 use Rattle.path_frame.specs.declared.Walk.{Walk}
 use Rattle.path_frame.specs.declared.Walk.the-variants.{To, Unread}
-use Rattle.path.proofs.Grades.{min-assoc, keys-high, keys-none, keys-grade, elem-grade, elems-high, elems-none, elems-grade, path-grade, path-clear}
+use Rattle.path.proofs.Refusals.{min-assoc, keys-high, keys-none, keys-refusal, elem-refusal, elems-high, elems-none, elems-refusal, path-refusal, path-clear}
 
 -- ---- keys
 
@@ -112,7 +114,7 @@ twice-done f p left z = go (times left key f p) refl
 abbrev pub lowered : {A : Type 0} → ℕ → (A → ℕ) → A → ℕ
 lowered m g a = min m (g a)
 
-pub walk-start : {A : Type 0} (g : A → ℕ) → ((a : A) → g a ≤ 255) → (x : Parsed A) → walked g x ≡ walked (lowered 255 g) x
+pub walk-start : {A : Type 0} (g : A → ℕ) → ((a : A) → g a ≤ clear) → (x : Parsed A) → walked g x ≡ walked (lowered clear g) x
 unfolding walked
 walk-start g h (got a t) = ap (λ (n : ℕ). To n t) (sym (min-eq-right (h a)))
 walk-start g h unread = refl
@@ -138,34 +140,34 @@ walk-cons G h c m a w i unread = refl
 
 -- ---- read_keys
 
-pub keys-start : (x : Parsed (List Key)) → walked keysGrade x ≡ walked (lowered 255 keysGrade) x
-keys-start = walk-start keysGrade keys-high
+pub keys-start : (x : Parsed (List Key)) → walked keysRefusal x ≡ walked (lowered clear keysRefusal) x
+keys-start = walk-start keysRefusal keys-high
 
-again-is : (n v : Str) (ks : List Key) (t : ℕ) → keyGrade n v (hasName false n (got ks t)) ≡ keyGrade n v (any (λ (k : Key). same n (k .name)) ks)
+again-is : (n v : Str) (ks : List Key) (t : ℕ) → keyRefusal n v (hasName false n (got ks t)) ≡ keyRefusal n v (any (λ (k : Key). same n (k .name)) ks)
 unfolding hasName _or_
 again-is n v ks t = refl
 
 module _ (f : List ℕ) (p : ℕ) (r : End) (e : r ≡ endOf (string f p)) (m left : ℕ) where
   pub keys-turn : (i t : ℕ) (s : End) (again : Bool) (n : ℕ) → 0 < left → r ≡ At i → s ≡ endOf (string f i) → s ≡ At t
-      → again ≡ hasName false (part f (p + 1) i) (times (left - 1) key f t) → n ≡ keyGrade (part f (p + 1) i) (part f (i + 1) t) again
-      → walked (lowered m keysGrade) (times left key f p) ≡ walked (lowered (min m n) keysGrade) (times (left - 1) key f t)
+      → again ≡ hasName false (part f (p + 1) i) (times (left - 1) key f t) → n ≡ keyRefusal (part f (p + 1) i) (part f (i + 1) t) again
+      → walked (lowered m keysRefusal) (times left key f p) ≡ walked (lowered (min m n) keysRefusal) (times (left - 1) key f t)
   keys-turn i t s again n z g h j u w =
       rw (times-turn key f p left _ t z (key-got f p r e i t s g h j), w, u)
-      (walk-cons keysGrade (λ k ks. keyGrade (k .name) (k .value) (any (λ (l : Key). same (k .name) (l .name)) ks)) keys-grade m
+      (walk-cons keysRefusal (λ k ks. keyRefusal (k .name) (k .value) (any (λ (l : Key). same (k .name) (l .name)) ks)) keys-refusal m
       (record { name = part f (p + 1) i; value = part f (i + 1) t })
-      (λ y. keyGrade (part f (p + 1) i) (part f (i + 1) t) (hasName false (part f (p + 1) i) y))
+      (λ y. keyRefusal (part f (p + 1) i) (part f (i + 1) t) (hasName false (part f (p + 1) i) y))
       (again-is (part f (p + 1) i) (part f (i + 1) t))
       (times (left - 1) key f t))
 
-  pub keys-nameless : 0 < left → r ≡ ends.Unread → walked (lowered m keysGrade) (times left key f p) ≡ Unread
+  pub keys-nameless : 0 < left → r ≡ ends.Unread → walked (lowered m keysRefusal) (times left key f p) ≡ Unread
   unfolding walked
   keys-nameless z g = rw (times-unread key f p left z (key-nameless f p r e g))
 
-  pub keys-valueless : (i : ℕ) (s : End) → 0 < left → r ≡ At i → s ≡ endOf (string f i) → s ≡ ends.Unread → walked (lowered m keysGrade) (times left key f p) ≡ Unread
+  pub keys-valueless : (i : ℕ) (s : End) → 0 < left → r ≡ At i → s ≡ endOf (string f i) → s ≡ ends.Unread → walked (lowered m keysRefusal) (times left key f p) ≡ Unread
   unfolding walked
   keys-valueless i s z g h j = rw (times-unread key f p left z (key-valueless f p r e i s g h j))
 
-pub keys-done : (f : List ℕ) (p m left : ℕ) → m ≤ 255 → left ≤ 0 → walked (lowered m keysGrade) (times left key f p) ≡ To m p
+pub keys-done : (f : List ℕ) (p m left : ℕ) → m ≤ clear → left ≤ 0 → walked (lowered m keysRefusal) (times left key f p) ≡ To m p
 unfolding walked
 keys-done f p m left h z = rw (times-done key f p left z, keys-none) (ap (λ (n : ℕ). To n p) (min-eq-left h))
 
@@ -173,55 +175,55 @@ keys-done f p m left h z = rw (times-done key f p left z, keys-none) (ap (λ (n 
 
 -- r is the end of the name at `at`
 module _ (f : List ℕ) (at : ℕ) (r : End) (e : r ≡ endOf (string f at)) where
-  pub element-nameless : r ≡ ends.Unread → walked elemGrade (element f at) ≡ Unread
+  pub element-nameless : r ≡ ends.Unread → walked elemRefusal (element f at) ≡ Unread
   unfolding walked element _>>=_
   element-nameless g = rw (string-misses f at r e g)
 
   module _ (m : ℕ) (g : r ≡ At m) where
-    pub element-countless : length f ≤ m → walked elemGrade (element f at) ≡ Unread
+    pub element-countless : length f ≤ m → walked elemRefusal (element f at) ≡ Unread
     unfolding walked element _>>=_
     element-countless h = rw (string-ends f at r e m g .0, byte-unread f m h)
 
-    module _ (h : m < length f) (w : Walk) (i : w ≡ walked keysGrade (times (getD f m 0) key f (m + 1))) where
-      pub element-keyless : w ≡ Unread → walked elemGrade (element f at) ≡ Unread
+    module _ (h : m < length f) (w : Walk) (i : w ≡ walked keysRefusal (times (getD f m 0) key f (m + 1))) where
+      pub element-keyless : w ≡ Unread → walked elemRefusal (element f at) ≡ Unread
       unfolding walked element _>>=_
-      element-keyless j = rw (string-ends f at r e m g .0, byte-got f m h, walked-not keysGrade (times (getD f m 0) key f (m + 1)) (sym j ∙ i))
+      element-keyless j = rw (string-ends f at r e m g .0, byte-got f m h, walked-not keysRefusal (times (getD f m 0) key f (m + 1)) (sym j ∙ i))
 
-      graded : (n : ℕ) (ks : List Key) (t : ℕ) → times (getD f m 0) key f (m + 1) ≡ got ks t → n ≡ keysGrade ks
-          → walked elemGrade (element f at) ≡ To (min (min (elemNameGrade (part f (at + 1) m)) (grade (ltb 4 (getD f m 0)) false false false)) n) t
+      judged : (n : ℕ) (ks : List Key) (t : ℕ) → times (getD f m 0) key f (m + 1) ≡ got ks t → n ≡ keysRefusal ks
+          → walked elemRefusal (element f at) ≡ To (min (min (elemNameRefusal (part f (at + 1) m)) (leastRefusal (ltb maxKeys (getD f m 0)) false false false)) n) t
       unfolding walked element _>>=_ ret
-      graded n ks t k l =
+      judged n ks t k l =
           rw (string-ends f at r e m g .0, byte-got f m h, k, l, ← times-length key f (getD f m 0) (m + 1) ks t k)
-          (ap (λ (x : ℕ). To x t) (elem-grade _))
+          (ap (λ (x : ℕ). To x t) (elem-refusal _))
 
-      pub element-graded : (n t a b : ℕ) → w ≡ To n t → a ≡ elemNameGrade (part f (at + 1) m) → b ≡ grade (ltb 4 (getD f m 0)) false false false
-          → walked elemGrade (element f at) ≡ To (min (min a b) n) t
-      element-graded n t a b j u v =
-          let x = walked-to keysGrade _ n t (sym j ∙ i) in
-          rw (u, v) (graded n (x .0) t (x .1) (x .2))
+      pub element-judged : (n t a b : ℕ) → w ≡ To n t → a ≡ elemNameRefusal (part f (at + 1) m) → b ≡ leastRefusal (ltb maxKeys (getD f m 0)) false false false
+          → walked elemRefusal (element f at) ≡ To (min (min a b) n) t
+      element-judged n t a b j u v =
+          let x = walked-to keysRefusal _ n t (sym j ∙ i) in
+          rw (u, v) (judged n (x .0) t (x .1) (x .2))
 
 -- ---- read_elements
 
-pub elems-start : (x : Parsed (List Elem)) → walked elemsGrade x ≡ walked (lowered 255 elemsGrade) x
-elems-start = walk-start elemsGrade elems-high
+pub elems-start : (x : Parsed (List Elem)) → walked elemsRefusal x ≡ walked (lowered clear elemsRefusal) x
+elems-start = walk-start elemsRefusal elems-high
 
-module _ (f : List ℕ) (p : ℕ) (w : Walk) (e : w ≡ walked elemGrade (element f p)) (m left : ℕ) (z : 0 < left) where
-  elem-turn : (n t : ℕ) (a : Elem) → element f p ≡ got a t → n ≡ elemGrade a
-      → walked (lowered m elemsGrade) (times left element f p) ≡ walked (lowered (min m n) elemsGrade) (times (left - 1) element f t)
+module _ (f : List ℕ) (p : ℕ) (w : Walk) (e : w ≡ walked elemRefusal (element f p)) (m left : ℕ) (z : 0 < left) where
+  elem-turn : (n t : ℕ) (a : Elem) → element f p ≡ got a t → n ≡ elemRefusal a
+      → walked (lowered m elemsRefusal) (times left element f p) ≡ walked (lowered (min m n) elemsRefusal) (times (left - 1) element f t)
   elem-turn n t a g i =
       rw (times-turn element f p left a t z g, i)
-      (walk-cons elemsGrade (λ b l. elemGrade b) elems-grade m a (λ y. elemGrade a) (λ l u. refl) (times (left - 1) element f t))
+      (walk-cons elemsRefusal (λ b l. elemRefusal b) elems-refusal m a (λ y. elemRefusal a) (λ l u. refl) (times (left - 1) element f t))
 
-  pub elems-turn : (n t : ℕ) → w ≡ To n t → walked (lowered m elemsGrade) (times left element f p) ≡ walked (lowered (min m n) elemsGrade) (times (left - 1) element f t)
+  pub elems-turn : (n t : ℕ) → w ≡ To n t → walked (lowered m elemsRefusal) (times left element f p) ≡ walked (lowered (min m n) elemsRefusal) (times (left - 1) element f t)
   elems-turn n t g =
-      let x = walked-to elemGrade _ n t (sym g ∙ e) in
+      let x = walked-to elemRefusal _ n t (sym g ∙ e) in
       elem-turn n t (x .0) (x .1) (x .2)
 
-  pub elems-unread : w ≡ Unread → walked (lowered m elemsGrade) (times left element f p) ≡ Unread
+  pub elems-unread : w ≡ Unread → walked (lowered m elemsRefusal) (times left element f p) ≡ Unread
   unfolding walked
-  elems-unread g = rw (times-unread element f p left z (walked-not elemGrade _ (sym g ∙ e)))
+  elems-unread g = rw (times-unread element f p left z (walked-not elemRefusal _ (sym g ∙ e)))
 
-pub elems-done : (f : List ℕ) (p m left : ℕ) → m ≤ 255 → left ≤ 0 → walked (lowered m elemsGrade) (times left element f p) ≡ To m p
+pub elems-done : (f : List ℕ) (p m left : ℕ) → m ≤ clear → left ≤ 0 → walked (lowered m elemsRefusal) (times left element f p) ≡ To m p
 unfolding walked
 elems-done f p m left h z = rw (times-done element f p left z, elems-none) (ap (λ (n : ℕ). To n p) (min-eq-left h))
 
@@ -231,21 +233,21 @@ pub path-countless : (f : List ℕ) (at : ℕ) → length f ≤ at → walked pa
 unfolding walked path _>>=_
 path-countless f at h = rw (byte-unread f at h)
 
-module _ (f : List ℕ) (at : ℕ) (h : at < length f) (w : Walk) (e : w ≡ walked elemsGrade (times (getD f at 0) element f (at + 1))) where
+module _ (f : List ℕ) (at : ℕ) (h : at < length f) (w : Walk) (e : w ≡ walked elemsRefusal (times (getD f at 0) element f (at + 1))) where
   pub path-unread : w ≡ Unread → walked pathRefusal (path f at) ≡ Unread
   unfolding walked path _>>=_
-  path-unread g = rw (byte-got f at h, walked-not elemsGrade (times (getD f at 0) element f (at + 1)) (sym g ∙ e))
+  path-unread g = rw (byte-got f at h, walked-not elemsRefusal (times (getD f at 0) element f (at + 1)) (sym g ∙ e))
 
-  numbered : (n : ℕ) (es : List Elem) (t : ℕ) → times (getD f at 0) element f (at + 1) ≡ got es t → n ≡ elemsGrade es
-      → walked pathRefusal (path f at) ≡ To (min (grade (ltb 16 (getD f at 0)) false false false) n) t
+  numbered : (n : ℕ) (es : List Elem) (t : ℕ) → times (getD f at 0) element f (at + 1) ≡ got es t → n ≡ elemsRefusal es
+      → walked pathRefusal (path f at) ≡ To (min (leastRefusal (ltb maxElements (getD f at 0)) false false false) n) t
   unfolding walked path _>>=_
   numbered n es t k l =
       rw (byte-got f at h, k, l, ← times-length element f (getD f at 0) (at + 1) es t k)
-      (ap (λ (x : ℕ). To x t) (path-grade es))
+      (ap (λ (x : ℕ). To x t) (path-refusal es))
 
-  pub path-graded : (n t b : ℕ) → w ≡ To n t → b ≡ grade (ltb 16 (getD f at 0)) false false false → walked pathRefusal (path f at) ≡ To (min b n) t
-  path-graded n t b g v =
-      let x = walked-to elemsGrade _ n t (sym g ∙ e) in
+  pub path-judged : (n t b : ℕ) → w ≡ To n t → b ≡ leastRefusal (ltb maxElements (getD f at 0)) false false false → walked pathRefusal (path f at) ≡ To (min b n) t
+  path-judged n t b g v =
+      let x = walked-to elemsRefusal _ n t (sym g ∙ e) in
       rw v (numbered n (x .0) t (x .1) (x .2))
 
 module _ (f : List ℕ) (w : Walk) (e : w ≡ walked pathRefusal (path f 0)) where
@@ -253,11 +255,11 @@ module _ (f : List ℕ) (w : Walk) (e : w ≡ walked pathRefusal (path f 0)) whe
   unfolding isPath isPathIn
   no-path g = rw (walked-not pathRefusal _ (sym g ∙ e))
 
-  good-path : (n t : ℕ) (p : Path) → path f 0 ≡ got p t → n ≡ pathRefusal p → isPath f ≡ (eqb t (length f) and eqb n 255)
+  good-path : (n t : ℕ) (p : Path) → path f 0 ≡ got p t → n ≡ pathRefusal p → isPath f ≡ (eqb t (length f) and eqb n clear)
   unfolding isPath isPathIn
   good-path n t p g i = rw (g, i, path-clear p)
 
-  pub a-path : (n t : ℕ) → w ≡ To n t → isPath f ≡ (eqb t (length f) and eqb n 255)
+  pub a-path : (n t : ℕ) → w ≡ To n t → isPath f ≡ (eqb t (length f) and eqb n clear)
   a-path n t g =
       let x = walked-to pathRefusal _ n t (sym g ∙ e) in
       good-path n t (x .0) (x .1) (x .2)

@@ -4,13 +4,13 @@ ghost use mathlib.Core.Bool.{false};
 ghost use Rattle.text.specs.Frame.{times};
 ghost use Rattle.path.specs.Bytes.{key, element, path};
 ghost use Rattle.path.specs.Faults.{pathRefusal};
-ghost use Rattle.path.specs.Walk.{keysGrade, elemGrade, elemsGrade, hasName, twiceIn, isPath};
+ghost use Rattle.path.specs.Walk.{keysRefusal, elemRefusal, elemsRefusal, hasName, twiceIn, isPath};
 ghost use Rattle.path_frame.specs.Walked.{walked};
 use text::frame::End;
 
 pub enum Walk {
-    // The smallest of 5 to 8, or 255, and where reading goes on.
-    To { fault: u8, next: usize },
+    // The smallest of 5 to 8, or `limits::CLEAR`, and where reading goes on.
+    To { refusal: u8, next: usize },
     // The frame is too short.
     Unread,
 }
@@ -65,20 +65,20 @@ pub fn has_twice(f: &[u8], at: usize, count: usize) -> bool
 }
 
 // The number of a key; `again`: a later key of its element has the same name.
-fn key_fault(name: &[u8], value: &[u8], again: bool) -> u8
-    ensures { λ r. ⌜ r ≡ Rattle.path.specs.Walk.keyGrade (now (name .entry)) (now (value .entry)) again ⌝ }
+fn key_refusal(name: &[u8], value: &[u8], again: bool) -> u8
+    ensures { λ r. ⌜ r ≡ Rattle.path.specs.Walk.keyRefusal (now (name .entry)) (now (value .entry)) again ⌝ }
 {
-    let n = path::fault::name_fault(name);
-    let v = path::fault::value_fault(value);
-    let t = path::fault::grade(false, false, false, again);
-    path::fault::smaller(path::fault::smaller(n, v), t)
+    let n = path::refusal::name_refusal(name);
+    let v = path::refusal::value_refusal(value);
+    let t = path::refusal::least_refusal(false, false, false, again);
+    path::refusal::smaller(path::refusal::smaller(n, v), t)
 }
 
 // The `count` keys from `at` on.
 fn read_keys(f: &[u8], at: usize, count: usize) -> Walk
-    ensures { λ r. ⌜ r ≡ walked keysGrade (times count key (now (f .entry)) at) ⌝ }
+    ensures { λ r. ⌜ r ≡ walked keysRefusal (times count key (now (f .entry)) at) ⌝ }
 {
-    let mut fault: u8 = 255;
+    let mut refusal = limits::CLEAR;
     let mut p = at;
     let mut left = count;
     while 0 < left {
@@ -96,18 +96,18 @@ fn read_keys(f: &[u8], at: usize, count: usize) -> Walk
         let value = &f[from..end];
         left -= 1;
         let again = has_key(f, end, left, name);
-        fault = path::fault::smaller(fault, key_fault(name, value, again));
+        refusal = path::refusal::smaller(refusal, key_refusal(name, value, again));
         p = end;
     }
     Walk::To {
-        fault: fault,
+        refusal: refusal,
         next: p,
     }
 }
 
 // The element at `at`.
 fn read_element(f: &[u8], at: usize) -> Walk
-    ensures { λ r. ⌜ r ≡ walked elemGrade (element (now (f .entry)) at) ⌝ }
+    ensures { λ r. ⌜ r ≡ walked elemRefusal (element (now (f .entry)) at) ⌝ }
 {
     let n = text::frame::string_end(f, at);
     let End::At(middle) = n else {
@@ -118,36 +118,36 @@ fn read_element(f: &[u8], at: usize) -> Walk
     }
     let count = f[middle] as usize;
     let keys = read_keys(f, middle + 1, count);
-    let Walk::To { fault, next } = keys else {
+    let Walk::To { refusal, next } = keys else {
         return Walk::Unread;
     };
     let start = at + 1;
-    let name = path::fault::elem_name_fault(&f[start..middle]);
-    let many = path::fault::grade(4 < count, false, false, false);
+    let name = path::refusal::elem_name_refusal(&f[start..middle]);
+    let many = path::refusal::least_refusal(limits::MAX_KEYS < count, false, false, false);
     Walk::To {
-        fault: path::fault::smaller(path::fault::smaller(name, many), fault),
+        refusal: path::refusal::smaller(path::refusal::smaller(name, many), refusal),
         next: next,
     }
 }
 
 // The `count` elements from `at` on.
 fn read_elements(f: &[u8], at: usize, count: usize) -> Walk
-    ensures { λ r. ⌜ r ≡ walked elemsGrade (times count element (now (f .entry)) at) ⌝ }
+    ensures { λ r. ⌜ r ≡ walked elemsRefusal (times count element (now (f .entry)) at) ⌝ }
 {
-    let mut fault: u8 = 255;
+    let mut refusal = limits::CLEAR;
     let mut p = at;
     let mut left = count;
     while 0 < left {
         let e = read_element(f, p);
-        let Walk::To { fault: own, next } = e else {
+        let Walk::To { refusal: own, next } = e else {
             return Walk::Unread;
         };
-        fault = path::fault::smaller(fault, own);
+        refusal = path::refusal::smaller(refusal, own);
         p = next;
         left -= 1;
     }
     Walk::To {
-        fault: fault,
+        refusal: refusal,
         next: p,
     }
 }
@@ -161,12 +161,12 @@ pub fn read_path(f: &[u8], at: usize) -> Walk
     }
     let count = f[at] as usize;
     let elements = read_elements(f, at + 1, count);
-    let Walk::To { fault, next } = elements else {
+    let Walk::To { refusal, next } = elements else {
         return Walk::Unread;
     };
-    let many = path::fault::grade(16 < count, false, false, false);
+    let many = path::refusal::least_refusal(limits::MAX_ELEMENTS < count, false, false, false);
     Walk::To {
-        fault: path::fault::smaller(many, fault),
+        refusal: path::refusal::smaller(many, refusal),
         next: next,
     }
 }
@@ -176,8 +176,8 @@ pub fn is_path(f: &[u8]) -> bool
     ensures { λ r. ⌜ r ≡ isPath (now (f .entry)) ⌝ }
 {
     let w = read_path(f, 0);
-    let Walk::To { fault, next } = w else {
+    let Walk::To { refusal, next } = w else {
         return false;
     };
-    (next == f.len()) & (fault == 255)
+    (next == f.len()) & (refusal == limits::CLEAR)
 }

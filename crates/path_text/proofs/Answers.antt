@@ -9,6 +9,7 @@ use borrow.Author.Tests.{le-leb, lt-leb, eq-eqb, ne-eqb}
 use lib.Dec.{leb}
 use lib.ListN.{length, take, set}
 use lib.Seq.{take-at}
+use Rattle.limits.specs.Limits.{maxPathBytes}
 use Rattle.text.specs.Test.{_and_, if_then_else_}
 use Rattle.text.specs.String.{Str, bytes, same, joined}
 use Rattle.text.specs.Frame.{got, unread}
@@ -19,7 +20,7 @@ use Rattle.path.specs.Bytes.{counted, elemBytes, pathBytes}
 use Rattle.path.specs.Spells.{whole}
 use Rattle.path_text.specs.TextReader.{elements, readText}
 use Rattle.path_text.specs.Calls.{bytesFor, answer, lent}
-use Rattle.path_text.specs.Steps.{goodElements, Room, Stores, Transcribed, filled-up, not-filled}
+use Rattle.path_text.specs.Steps.{maxGrowth, goodElements, Room, Stores, Transcribed, filled-up, not-filled}
 use Rattle.path_text.specs.declared.Filled.the-variants.{Length, Refused}
 use Rattle.path_text.specs.declared.reader.Stored.{Stored}
 use Rattle.path_text.specs.declared.reader.Stored.the-variants.{To, Unread}
@@ -101,7 +102,7 @@ module _ (s : Str) (n : same s (bytes "/") ≡ false) where
     pub empty-transcribed : length s ≡ 0 → Transcribed (bytesFor s) d d′ Unread
     empty-transcribed z = rw (empty-bytes z) not-filled
 
-    module _ (m : length s ≡ 0 → ⊥) (r : Stored) (x : Stores 9377 17 (counted elemBytes) goodElements s 0 d 0 d′ r) where
+    module _ (m : length s ≡ 0 → ⊥) (r : Stored) (x : Stores maxPathBytes maxGrowth (counted elemBytes) goodElements s 0 d 0 d′ r) where
       pub none-transcribed : r ≡ Unread → Transcribed (bytesFor s) d d′ Unread
       none-transcribed e = rw (no-bytes m (stored-not x e)) not-filled
 
@@ -113,12 +114,12 @@ module _ (s : Str) (n : same s (bytes "/") ≡ false) where
         unfolding pathBytes
         whole-wrote p w = (omega (arith, w .ends), w .same)
 
-        pub whole-transcribed : t ≡ length s → Room 9377 17 s 0 d 0 → Transcribed (bytesFor s) d d′ (To t end)
+        pub whole-transcribed : t ≡ length s → Room maxPathBytes maxGrowth s 0 d 0 → Transcribed (bytesFor s) d d′ (To t end)
         whole-transcribed h k =
             let u = stored-to x e in
             let w = whole-wrote (u .0) (u .2) in
             rw (good-bytes m (u .0) t (u .1) h)
-            (filled-up (w .0) (room-end 9377 17 s 0 d 0 k 9377 17 t end (u .3) (omega arith) (omega arith) (omega arith)) (w .1))
+            (filled-up (w .0) (room-end maxPathBytes maxGrowth s 0 d 0 k maxPathBytes maxGrowth t end (u .3) (omega arith) (omega arith) (omega arith)) (w .1))
 
 -- what a transcription tells
 pub transcribed-to : {o : Option Str} {d d′ : List ℕ} {r : Stored} {next end : ℕ} → Transcribed o d d′ r → r ≡ To next end → (f : Str) × (o ≡ some f) × Wrote d 0 f d′ end × (end ≤ length d)

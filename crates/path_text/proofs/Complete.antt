@@ -8,11 +8,13 @@ use borrow.Author.Tests.{eqb-true, ltb-false, lt-ltb, le-ltb, eq-eqb, ne-eqb}
 use lib.Dec.{eqb, ltb}
 use lib.ListN.{length, drop, getD, length-drop, List·getD-eq-default}
 use lib.Seq.{drop-drop, take-at, drop-at}
+use Rattle.limits.specs.Limits.{maxElements, maxKeys, maxString}
 use Rattle.text.specs.Test.{_or_, if_then_else_, _∈_, any}
 use Rattle.text.specs.String.{Str, joined}
 use Rattle.text.specs.Frame.{got, andThen, Reader, _>>=_, ret, part}
 use Rattle.text.proofs.Tests.{by, clash, or-false-l, or-false-r, none-any}
 use Rattle.text.proofs.Codec.{Gives, then-gives, first-byte, joined-nil, joined-cons}
+use Rattle.text_search.specs.Search.{until}
 use Rattle.path.specs.Path.{Key, Elem, Path}
 use Rattle.path.specs.Faults.{unsized, keyOver, elemOver, overLimit, outsideName, keyStray, elemStray, strayByte}
 use Rattle.path_text.specs.Text.{isMark, escaped, keyText, elemText}
@@ -27,14 +29,14 @@ plain c b p q = by (eqb b c) (λ e. clash p (ap outsideName (sym (eqb-true _ _ e
 
 -- a name, and then what comes after it
 name-run : (a b : ℕ) (n rest : Str) → outsideName a ≡ true → outsideName b ≡ true → any outsideName n ≡ false → upTo a b (n ++ rest) ≡ length n + upTo a b rest
-unfolding upTo any if_then_else_
+unfolding until any if_then_else_
 name-run a b [] rest p q h = (let f : upTo a b rest ≡ 0 + upTo a b rest = omega arith in f)
 name-run a b (x ∷ n) rest p q h =
     let o = or-false-l (outsideName x) _ h in
     let ih = name-run a b n rest p q (or-false-r (outsideName x) _ h) in
     rw (plain a x p o, plain b x q o) (omega arith)
 
-pub sized : (s : Str) → unsized s ≡ false → length s ≤ 64
+pub sized : (s : Str) → unsized s ≡ false → length s ≤ maxString
 unfolding unsized
 sized s h = ltb-false _ _ (or-false-r (eqb (length s) 0) _ h)
 
@@ -48,7 +50,7 @@ module _ (s : Str) (at : ℕ) where
       let d : (at + length n) - at ≡ length n = omega arith in
       let t : part s at (at + length n) ≡ n = rw (d, e) (take-at n rest (length n) refl) in (
         at + length n,
-        rw (u, le-ltb 64 (length n) k, t),
+        rw (u, le-ltb maxString (length n) k, t),
         rw (← drop-drop (length n) at s, e) (drop-at n rest (length n) refl),
       )
 
@@ -166,7 +168,7 @@ key-tail : (n v rest : Str) → (n ++ (61 ∷ (v ++ 93 ∷ []))) ++ rest ≡ n +
 key-tail n v rest = simp append-assoc
 
 stops : (rest : Str) → upTo 61 61 (61 ∷ rest) ≡ 0
-unfolding upTo if_then_else_
+unfolding until if_then_else_
 stops rest = refl
 
 module _ (s : Str) where
@@ -181,7 +183,7 @@ module _ (s : Str) where
         then-gives (name 61 61 s (at + 1)) _ s (k .name) _ _ _
             (name-gives s (at + 1) 61 61 (k .name) (61 ∷ (v ++ 93 ∷ rest)) refl refl (or-false-l _ _ stray) (or-false-l _ _ over) (stops (v ++ 93 ∷ rest)) (f .2 ∙ key-tail (k .name) v rest))
             (λ p i. then-gives (literal 61 s p) _ s 61 _ _ _ (literal-gives s p 61 _ i)
-            (λ q j. then-gives (value 64 s q) _ s (k .value) _ _ _ (value-gives (k .value) 64 s q rest (sized (k .value) (or-false-r _ _ over)) j) (λ t l. (t, refl, l)))),
+            (λ q j. then-gives (value maxString s q) _ s (k .value) _ _ _ (value-gives (k .value) maxString s q rest (sized (k .value) (or-false-r _ _ over)) j) (λ t l. (t, refl, l)))),
       )
 
 -- what may follow an element: nothing, or the next
@@ -189,11 +191,11 @@ abbrev Next : Str → Type 0
 Next rest = (upTo 47 91 rest ≡ 0) × (starts 91 rest ≡ false)
 
 element-next : (e : Elem) (rest : Str) → Next (elemText e ++ rest)
-unfolding elemText upTo starts if_then_else_
+unfolding elemText until starts if_then_else_
 element-next e rest = (refl, refl)
 
 keys-next : (ks : List Key) (rest : Str) → upTo 47 91 rest ≡ 0 → upTo 47 91 (joined keyText ks ++ rest) ≡ 0
-unfolding joined keyText upTo if_then_else_
+unfolding joined keyText until if_then_else_
 keys-next [] rest h = h
 keys-next (k ∷ ks) rest h = refl
 
@@ -205,14 +207,14 @@ module _ (s : Str) where
       let over = good .0 in
       let stray = good .1 in
       let many = or-false-r (unsized (x .name)) _ over in
-      let keys-over = or-false-r (ltb 4 (length (x .keys))) _ many in
+      let keys-over = or-false-r (ltb maxKeys (length (x .keys))) _ many in
       let keys-stray = or-false-r (any outsideName (x .name)) _ stray in (
         eq-eqb _ _ (f .1),
         then-gives (name 47 91 s (at + 1)) _ s (x .name) _ _ _
             (name-gives s (at + 1) 47 91 (x .name) _ refl refl (or-false-l _ _ stray) (or-false-l _ _ over) (keys-next (x .keys) rest (next .0)) (f .2 ∙ append-assoc (x .name) (joined keyText (x .keys)) rest))
-            (λ p i. then-gives (each 91 4 key s p) _ s (x .keys) _ _ _
-            (each-gives 91 key keyText s GoodKey Anything (omega arith) (key-gives s) (λ k r. tt) 4 (x .keys) p rest
-            (λ k m. (none-any keyOver _ keys-over m, none-any keyStray _ keys-stray m)) (ltb-false 4 (length (x .keys)) (or-false-l _ _ many)) tt (next .1) i)
+            (λ p i. then-gives (each 91 maxKeys key s p) _ s (x .keys) _ _ _
+            (each-gives 91 key keyText s GoodKey Anything (omega arith) (key-gives s) (λ k r. tt) maxKeys (x .keys) p rest
+            (λ k m. (none-any keyOver _ keys-over m, none-any keyStray _ keys-stray m)) (ltb-false maxKeys (length (x .keys)) (or-false-l _ _ many)) tt (next .1) i)
             (λ t l. (t, refl, l))),
       )
 
@@ -220,12 +222,12 @@ module _ (s : Str) where
 pub elements-gives : (p : Path) → overLimit p ≡ false → strayByte p ≡ false → Gives (elements (joined elemText p) 0) (joined elemText p) p []
 unfolding elements overLimit strayByte
 elements-gives p over stray =
-    each-gives 47 element elemText (joined elemText p) GoodElem Next (omega arith) (element-gives (joined elemText p)) element-next 16 p 0 []
-    (λ e m. (none-any elemOver p (or-false-r (ltb 16 (length p)) _ over) m, none-any elemStray p stray m)) (ltb-false 16 (length p) (or-false-l _ _ over))
+    each-gives 47 element elemText (joined elemText p) GoodElem Next (omega arith) (element-gives (joined elemText p)) element-next maxElements p 0 []
+    (λ e m. (none-any elemOver p (or-false-r (ltb maxElements (length p)) _ over) m, none-any elemStray p stray m)) (ltb-false maxElements (length p) (or-false-l _ _ over))
     nothing-next nothing-starts (sym (append-nil (joined elemText p)))
   where
     nothing-next : Next []
-    nothing-next = unfold upTo starts in (refl, refl)
+    nothing-next = unfold until starts in (refl, refl)
 
     nothing-starts : starts 47 [] ≡ false
     nothing-starts = unfold starts in refl

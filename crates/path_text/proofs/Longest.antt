@@ -8,6 +8,7 @@ use native.Mathlib.Omega.{arith}
 use borrow.Author.Tests.{ltb-false}
 use lib.Dec.{ltb}
 use lib.ListN.{length, length-append}
+use Rattle.limits.specs.Limits.{maxElements, maxKeys, maxString, maxKeyBytes, maxElemBytes, maxPathBytes, maxKeyText, maxElemText, maxPathText}
 use Rattle.text.specs.Test.{_or_, if_then_else_, any}
 use Rattle.text.specs.String.{Str, joined}
 use Rattle.text.specs.Frame.{stringBytes}
@@ -39,7 +40,7 @@ joined-length w over n h [] g = omega arith
 joined-length w over n h (x ∷ xs) g =
     omega (arith, length-append (w x) (joined w xs), h x (or-false-l (over x) (any over xs) g), joined-length w over n h xs (or-false-r (over x) (any over xs) g))
 
-key-text : (k : Key) → keyOver k ≡ false → length (keyText k) ≤ 195
+key-text : (k : Key) → keyOver k ≡ false → length (keyText k) ≤ maxKeyText
 unfolding keyText keyOver
 key-text k g =
     let n = sized (k .name) (or-false-l _ _ g) in
@@ -47,7 +48,7 @@ key-text k g =
     let m = value-length (k .value) in
     simp length-append (omega arith)
 
-key-bytes : (k : Key) → keyOver k ≡ false → length (keyBytes k) ≤ 130
+key-bytes : (k : Key) → keyOver k ≡ false → length (keyBytes k) ≤ maxKeyBytes
 unfolding keyBytes stringBytes keyOver
 key-bytes k g =
     let n = sized (k .name) (or-false-l _ _ g) in
@@ -55,51 +56,51 @@ key-bytes k g =
     simp length-append (omega arith)
 
 module _ (e : Elem) (g : elemOver e ≡ false) where
-  name-sized : length (e .name) ≤ 64
+  name-sized : length (e .name) ≤ maxString
   unfolding elemOver
   name-sized = sized (e .name) (or-false-l _ _ g)
 
-  few-keys : length (e .keys) ≤ 4
+  few-keys : length (e .keys) ≤ maxKeys
   unfolding elemOver
-  few-keys = ltb-false 4 (length (e .keys)) (or-false-l _ _ (or-false-r (unsized (e .name)) _ g))
+  few-keys = ltb-false maxKeys (length (e .keys)) (or-false-l _ _ (or-false-r (unsized (e .name)) _ g))
 
   keys-fine : any keyOver (e .keys) ≡ false
   unfolding elemOver
-  keys-fine = or-false-r (ltb 4 (length (e .keys))) _ (or-false-r (unsized (e .name)) _ g)
+  keys-fine = or-false-r (ltb maxKeys (length (e .keys))) _ (or-false-r (unsized (e .name)) _ g)
 
-elem-text : (e : Elem) → elemOver e ≡ false → length (elemText e) ≤ 845
+elem-text : (e : Elem) → elemOver e ≡ false → length (elemText e) ≤ maxElemText
 unfolding elemText
 elem-text e g =
     let n = name-sized e g in
     let f = few-keys e g in
-    let k = joined-length keyText keyOver 195 key-text (e .keys) (keys-fine e g) in
+    let k = joined-length keyText keyOver maxKeyText key-text (e .keys) (keys-fine e g) in
     simp length-append (omega arith)
 
-elem-bytes : (e : Elem) → elemOver e ≡ false → length (elemBytes e) ≤ 586
+elem-bytes : (e : Elem) → elemOver e ≡ false → length (elemBytes e) ≤ maxElemBytes
 unfolding elemBytes stringBytes counted
 elem-bytes e g =
     let n = name-sized e g in
     let f = few-keys e g in
-    let k = joined-length keyBytes keyOver 130 key-bytes (e .keys) (keys-fine e g) in
+    let k = joined-length keyBytes keyOver maxKeyBytes key-bytes (e .keys) (keys-fine e g) in
     simp length-append (omega arith)
 
 module _ (p : Path) (g : goodPath p ≡ true) where
-  few-elements : length p ≤ 16
+  few-elements : length p ≤ maxElements
   unfolding overLimit
-  few-elements = ltb-false 16 (length p) (or-false-l _ _ (within-limits p g))
+  few-elements = ltb-false maxElements (length p) (or-false-l _ _ (within-limits p g))
 
   elems-fine : any elemOver p ≡ false
   unfolding overLimit
-  elems-fine = or-false-r (ltb 16 (length p)) _ (within-limits p g)
+  elems-fine = or-false-r (ltb maxElements (length p)) _ (within-limits p g)
 
-  pub bytes-length : length (pathBytes p) ≤ 9377
+  pub bytes-length : length (pathBytes p) ≤ maxPathBytes
   unfolding pathBytes counted
-  bytes-length = omega (arith, few-elements, joined-length elemBytes elemOver 586 elem-bytes p elems-fine)
+  bytes-length = omega (arith, few-elements, joined-length elemBytes elemOver maxElemBytes elem-bytes p elems-fine)
 
-pub text-length : (p : Path) → goodPath p ≡ true → length (pathText p) ≤ 13520
+pub text-length : (p : Path) → goodPath p ≡ true → length (pathText p) ≤ maxPathText
 unfolding pathText
 text-length [] g = omega arith
-text-length (e ∷ es) g = omega (arith, few-elements (e ∷ es) g, joined-length elemText elemOver 845 elem-text (e ∷ es) (elems-fine (e ∷ es) g))
+text-length (e ∷ es) g = omega (arith, few-elements (e ∷ es) g, joined-length elemText elemOver maxElemText elem-text (e ∷ es) (elems-fine (e ∷ es) g))
 
 -- ---- the text, and the bytes
 
@@ -134,13 +135,13 @@ bound read was write n r s f h e = go (read s) refl e
         let l = h p (r .only s p i) in
         rw j at l
 
-pub bytes-bound : (s f : Str) → bytesFor s ≡ some f → length f ≤ 9377
+pub bytes-bound : (s f : Str) → bytesFor s ≡ some f → length f ≤ maxPathBytes
 unfolding bytesFor
-bytes-bound s f e = bound readText pathText pathBytes 9377 text-reader s f (λ p h. bytes-length p (h .good)) e
+bytes-bound s f e = bound readText pathText pathBytes maxPathBytes text-reader s f (λ p h. bytes-length p (h .good)) e
 
-pub text-bound : (f s : Str) → textFor f ≡ some s → length s ≤ 13520
+pub text-bound : (f s : Str) → textFor f ≡ some s → length s ≤ maxPathText
 unfolding textFor
-text-bound f s e = bound readBytes pathBytes pathText 13520 bytes-reader f s (λ p h. text-length p (h .good)) e
+text-bound f s e = bound readBytes pathBytes pathText maxPathText bytes-reader f s (λ p h. text-length p (h .good)) e
 
 pub text-twice : (f s : Str) → textFor f ≡ some s → length s ≤ 2 * length f
 unfolding textFor

@@ -1,45 +1,31 @@
 -- One step of each program that reads path text.
 use mathlib.Core.Path.{_≡_, refl, sym, ap, _∙_}
-use mathlib.Core.Bool.{true, false, _||_, _&&_}
+use mathlib.Core.Bool.{true, false, _&&_}
 use mathlib.Core.List.{List, [], _∷_}
 use Prim.Native.Nat.{ℕ, zero, suc, _+_, _-_, _≤_, _<_}
-use native.Mathlib.Numerals.{add-one}
 use native.Mathlib.Omega.{arith}
 use borrow.Author.Tests.{eqb-true, ltb-true, lt-ltb, le-ltb, eq-eqb, ne-eqb}
 use lib.Dec.{eqb, ltb}
-use lib.ListN.{length, drop, getD, set, length-drop, drop-of-length-le, List·getD-eq-default}
-use lib.Seq.{drop-cons, length-take-le}
+use lib.ListN.{length, drop, getD, set, length-drop, List·getD-eq-default}
+use lib.Seq.{length-take-le}
+use Rattle.limits.specs.Limits.{maxString, maxStringBytes}
 use Rattle.text.specs.Test.{if_then_else_}
 use Rattle.text.specs.String.{Str, joined}
 use Rattle.text.specs.Frame.{Parsed, got, unread, andThen, Reader, _>>=_, ret, part, stringBytes}
 use Rattle.text.specs.Fill.{put, Wrote}
 use Rattle.text.proofs.Tests.{by, and-left, and-right}
 use Rattle.text.proofs.Filling.{wrote-more, wrote-byte, wrote-before}
+use Rattle.text_search.proofs.Searching.{found-high}
 use Rattle.path.specs.Bytes.{counted}
 use Rattle.path_text.specs.Text.{isMark}
-use Rattle.path_text.specs.TextReader.{literal, upTo, name, item, value, each, key}
+use Rattle.path_text.specs.TextReader.{literal, isEither, upTo, name, item, value, each, key}
 use Rattle.path_text.specs.Steps.{itemIn, itemOf, Within, Room}
 use Rattle.path_text.specs.declared.reader.Item.{Item}
 use Rattle.path_text.specs.declared.reader.Item.the-variants as items
 use Rattle.path_text.specs.declared.reader.Stored.the-variants.{Unread}
-use Rattle.path_text.proofs.Sound.{inside, upTo-fits, item-inside}
+use Rattle.path_text.proofs.Sound.{inside, item-inside}
 use Rattle.path_text.proofs.Complete.{value-closed, value-open, each-open, each-end, each-none}
 use Rattle.path_text.proofs.Storing.{room-end}
-
--- ---- find
-
-module _ (a b : ℕ) (s : Str) (i : ℕ) where
-  pub found : i < length s → (eqb (getD s i 0) a || eqb (getD s i 0) b) ≡ true → upTo a b (drop i s) ≡ 0
-  unfolding upTo if_then_else_
-  found h t = rw (drop-cons s i 0 h, t)
-
-  pub passed : i < length s → (eqb (getD s i 0) a || eqb (getD s i 0) b) ≡ false → upTo a b (drop i s) ≡ upTo a b (drop (i + 1) s) + 1
-  unfolding upTo if_then_else_
-  passed h t = let k : drop (i + 1) s ≡ drop (suc i) s = ap (λ (n : ℕ). drop n s) (add-one i) in rw (drop-cons s i 0 h, t, k) (omega arith)
-
-  pub ran-out : length s ≤ i → upTo a b (drop i s) ≡ 0
-  unfolding upTo
-  ran-out h = rw (drop-of-length-le s h)
 
 -- ---- read_item
 
@@ -132,15 +118,15 @@ module _ (s : Str) (at : ℕ) (r : Item) (i : r ≡ itemOf s at) where
       value-open n s at (h .0) ∙ rw (h .1, k)
 
 -- the bytes of a value so far, where at most `left` more are read: what was read ends at p, and what was stored at q
-module _ (s : Str) (at left p to q : ℕ) (b : Within (64 - left) 0 s at p to q) (l : left ≤ 64) where
+module _ (s : Str) (at left p to q : ℕ) (b : Within (maxString - left) 0 s at p to q) (l : left ≤ maxString) where
   module _ (t : ℕ) (i : (p < t) × (t ≤ length s)) (z : left ≡ 0 → ⊥) where
-    pub plain-turn : Within (64 - (left - 1)) 0 s at t to (q + 1)
+    pub plain-turn : Within (maxString - (left - 1)) 0 s at t to (q + 1)
     plain-turn = record { few = omega (arith, b .few); near = omega (arith, b .near, i .0); inside = i .1 }
 
-    pub plain-room : (d : List ℕ) → Room 64 0 s at d to → to ≤ q → q < length d
-    plain-room d r h = omega (arith, room-end 64 0 s at d to r _ 0 t (q + 1) plain-turn (omega arith) (omega arith) (omega arith))
+    pub plain-room : (d : List ℕ) → Room maxString 0 s at d to → to ≤ q → q < length d
+    plain-room d r h = omega (arith, room-end maxString 0 s at d to r _ 0 t (q + 1) plain-turn (omega arith) (omega arith) (omega arith))
 
-  pub plain-end : p < length s → Within 64 0 s at (p + 1) to q
+  pub plain-end : p < length s → Within maxString 0 s at (p + 1) to q
   plain-end h = record { few = omega (arith, b .few); near = omega (arith, b .near); inside = omega arith }
 
 abbrev pub single : ℕ → Str
@@ -161,18 +147,18 @@ module _ (a b : ℕ) (s : Str) (at n : ℕ) (h : at ≤ length s) (e : n ≡ at 
   name-low = omega arith
 
   pub name-high : n ≤ length s
-  name-high = omega (arith, upTo-fits a b (drop at s), length-drop at s)
+  name-high = found-high (isEither a b) s at n h e
 
-  pub name-got : n - at ≤ 64 → name a b s at ≡ got (part s at n) n
+  pub name-got : n - at ≤ maxString → name a b s at ≡ got (part s at n) n
   unfolding name if_then_else_
-  name-got k = rw (le-ltb 64 (upTo a b (drop at s)) (omega arith)) (let i : at + upTo a b (drop at s) ≡ n = omega arith in rw i)
+  name-got k = rw (le-ltb maxString (upTo a b (drop at s)) (omega arith)) (let i : at + upTo a b (drop at s) ≡ n = omega arith in rw i)
 
-  module _ (to : ℕ) (k : n - at ≤ 64) where
-    pub name-within : Within 65 1 s at n to (to + 1 + (n - at))
+  module _ (to : ℕ) (k : n - at ≤ maxString) where
+    pub name-within : Within maxStringBytes 1 s at n to (to + 1 + (n - at))
     name-within = record { few = omega arith; near = omega (arith, name-low); inside = name-high }
 
-    pub name-room : (d : List ℕ) → Room 65 1 s at d to → to + 1 + (n - at) ≤ length d
-    name-room d r = room-end 65 1 s at d to r 65 1 n _ name-within (omega arith) (omega arith) (omega arith)
+    pub name-room : (d : List ℕ) → Room maxStringBytes 1 s at d to → to + 1 + (n - at) ≤ length d
+    name-room d r = room-end maxStringBytes 1 s at d to r maxStringBytes 1 n _ name-within (omega arith) (omega arith) (omega arith)
 
 -- the length byte, and then the bytes
 pub wrote-string : (d : List ℕ) (to n : ℕ) (s d′ : List ℕ) → n ≡ length s → to + 1 + n ≤ length d → d′ ≡ put (set d to n) (to + 1) s → Wrote d to (stringBytes s) d′ (to + 1 + n)
@@ -191,16 +177,16 @@ part-length s at n h k = sym (length-take-le (n - at) (drop at s) (omega (arith,
 
 -- ---- read_value
 
-module _ (s : Str) (at : ℕ) (d : List ℕ) (to : ℕ) (r : Room 65 1 s at d to) where
-  pub value-room : Room 64 0 s at d (to + 1)
+module _ (s : Str) (at : ℕ) (d : List ℕ) (to : ℕ) (r : Room maxStringBytes 1 s at d to) where
+  pub value-room : Room maxString 0 s at d (to + 1)
   value-room = record { starts = r .starts; fits = λ n f g. omega (arith, r .fits (1 + n) (omega arith) (omega arith)) }
 
-  module _ (t end : ℕ) (b : Within 64 0 s at t (to + 1) end) where
-    pub value-within : Within 65 1 s at t to end
+  module _ (t end : ℕ) (b : Within maxString 0 s at t (to + 1) end) where
+    pub value-within : Within maxStringBytes 1 s at t to end
     value-within = record { few = omega (arith, b .few); near = omega (arith, b .near); inside = b .inside }
 
     pub value-fits : to ≤ end → end ≤ length d
-    value-fits h = room-end 65 1 s at d to r 65 1 t end value-within h (omega arith) (omega arith)
+    value-fits h = room-end maxStringBytes 1 s at d to r maxStringBytes 1 t end value-within h (omega arith) (omega arith)
 
 -- the length byte, after the bytes
 pub wrote-value : (d : List ℕ) (to : ℕ) (v d′ : List ℕ) (end : ℕ) → end ≤ length d → Wrote d (to + 1) v d′ end
@@ -216,7 +202,7 @@ pub key-unequal : (s : Str) (at : ℕ) (n : Str) (m : ℕ) → name 61 61 s at �
 unfolding key _>>=_ literal if_then_else_
 key-unequal s at n m e h = rw (e, ne-eqb _ 61 h)
 
-pub key-open : (s : Str) (at : ℕ) (n : Str) (m : ℕ) → name 61 61 s at ≡ got n m → getD s m 0 ≡ 61 → key s at ≡ andThen (value 64 s (m + 1)) (λ v t. got (record { name = n; value = v }) t)
+pub key-open : (s : Str) (at : ℕ) (n : Str) (m : ℕ) → name 61 61 s at ≡ got n m → getD s m 0 ≡ 61 → key s at ≡ andThen (value maxString s (m + 1)) (λ v t. got (record { name = n; value = v }) t)
 unfolding key _>>=_ literal ret if_then_else_
 key-open s at n m e h = rw (e, eq-eqb _ 61 h)
 

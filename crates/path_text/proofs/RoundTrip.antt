@@ -8,6 +8,7 @@ use native.Mathlib.Omega.{arith}
 use borrow.Author.Tests.{eq-eqb, ne-eqb, eqb-false, not-true}
 use lib.Dec.{eqb, ltb}
 use lib.ListN.{length, length-drop, length-append}
+use Rattle.limits.specs.Limits.{maxElements}
 use Rattle.text.specs.Test.{_and_, _or_, if_then_else_, any}
 use Rattle.text.specs.String.{Str, bytes, same, joined}
 use Rattle.text.specs.Frame.{got}
@@ -80,7 +81,7 @@ elem-long x h =
 text-long : (x : Elem) (q : Path) → overLimit (x ∷ q) ≡ false → 2 ≤ length (joined elemText (x ∷ q))
 unfolding joined overLimit any
 text-long x q h =
-    let l = elem-long x (or-false-l _ _ (or-false-r (ltb 16 (length (x ∷ q))) _ h)) in
+    let l = elem-long x (or-false-l _ _ (or-false-r (ltb maxElements (length (x ∷ q))) _ h)) in
     omega (arith, length-append (elemText x) (joined elemText q), l)
 
 long-text : (s : Str) (p : Path) → 2 ≤ length s → whole s (elements s 0) ≡ some p → readText s ≡ some p

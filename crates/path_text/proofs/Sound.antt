@@ -1,6 +1,6 @@
 -- Path text that was read is the text of the path.
 use mathlib.Core.Path.{_≡_, refl, sym}
-use mathlib.Core.Bool.{true, false, _||_}
+use mathlib.Core.Bool.{true, false}
 use mathlib.Core.List.{List, [], _∷_, _++_}
 use Prim.Native.Nat.{ℕ, zero, suc, _+_, _-_, _≤_, _<_}
 use native.Mathlib.Numerals.{add-one}
@@ -9,14 +9,16 @@ use borrow.Author.Tests.{eqb-true, ltb-true, ltb-false}
 use lib.Dec.{eqb, ltb}
 use lib.ListN.{length, drop, getD, length-drop, take-append-drop, List·getD-eq-default}
 use lib.Seq.{drop-cons, drop-drop}
+use Rattle.limits.specs.Limits.{maxElements, maxKeys, maxString}
 use Rattle.text.specs.Test.{if_then_else_}
 use Rattle.text.specs.String.{Str, joined}
 use Rattle.text.specs.Frame.{got, Reader, _>>=_, ret, part}
 use Rattle.text.proofs.Tests.{by}
 use Rattle.text.proofs.Codec.{never-got, then-got, got-move, Took, took-both, took-none, took-cons, joined-nil, joined-cons}
+use Rattle.text_search.proofs.Searching.{until-fits}
 use Rattle.path.specs.Path.{Key, Elem, Path}
 use Rattle.path_text.specs.Text.{isMark, escaped, keyText, elemText}
-use Rattle.path_text.specs.TextReader.{literal, upTo, name, item, value, each, key, element, elements}
+use Rattle.path_text.specs.TextReader.{literal, isEither, upTo, name, item, value, each, key, element, elements}
 
 module _ (s : Str) (at : ℕ) where
   -- a byte that is not 0 stands within the text
@@ -39,11 +41,6 @@ module _ (s : Str) (at : ℕ) where
       (λ u. let e′ = rw u at e in never-got refl e′)
 
 -- there are no more bytes than the text has
-pub upTo-fits : (a b : ℕ) (s : Str) → upTo a b s ≤ length s
-unfolding upTo if_then_else_
-upTo-fits a b [] = omega arith
-upTo-fits a b (x ∷ s) = by (eqb x a || eqb x b) (λ u. rw u (omega arith)) (λ u. rw u (let h = upTo-fits a b s in omega arith))
-
 split : (s : Str) (at u : ℕ) → at ≤ length s → u ≤ length (drop at s) → Took s at (part s at (at + u)) (at + u)
 split s at u h k =
     let d : (at + u) - at ≡ u = omega arith in
@@ -52,9 +49,9 @@ split s at u h k =
 name-took : (a b : ℕ) (s : Str) (at : ℕ) (n : Str) (t : ℕ) → at ≤ length s → name a b s at ≡ got n t → Took s at n t
 unfolding name if_then_else_
 name-took a b s at n t h e =
-    by (ltb 64 (upTo a b (drop at s)))
+    by (ltb maxString (upTo a b (drop at s)))
     (λ u. let e′ = rw u at e in never-got refl e′)
-    (λ u. let e′ = rw u at e in got-move (λ x q. Took s at x q) e′ (split s at (upTo a b (drop at s)) h (upTo-fits a b (drop at s))))
+    (λ u. let e′ = rw u at e in got-move (λ x q. Took s at x q) e′ (split s at (upTo a b (drop at s)) h (until-fits (isEither a b) (drop at s))))
 
 pub escaped-plain : (b : ℕ) → isMark b ≡ false → escaped b ≡ b ∷ []
 unfolding escaped if_then_else_
@@ -147,26 +144,26 @@ module _ (s : Str) where
   key-took at k t h e =
       let a = then-got (name 61 61 s (at + 1)) _ e in
       let b = then-got (literal 61 s (a .1)) _ (a .3) in
-      let c = then-got (value 64 s (b .1)) _ (b .3) in
+      let c = then-got (value maxString s (b .1)) _ (b .3) in
       let i = inside s at 91 (omega arith) h in
       got-move (λ x q. Took s at (keyText x) q) (c .3)
       (took-both s at (at + 1) (c .1) (91 ∷ []) _ (byte-took s at 91 (omega arith) h)
       (took-both s (at + 1) (a .1) (c .1) (a .0) _ (name-took 61 61 s (at + 1) (a .0) (a .1) (omega arith) (a .2))
       (took-both s (a .1) (b .1) (c .1) (61 ∷ []) _ (literal-took s (a .1) 61 (b .0) (b .1) (omega arith) (b .2))
-      (value-took 64 s (b .1) (c .0) (c .1) (c .2)))))
+      (value-took maxString s (b .1) (c .0) (c .1) (c .2)))))
 
   element-took : (at : ℕ) (x : Elem) (t : ℕ) → getD s at 0 ≡ 47 → element s (at + 1) ≡ got x t → Took s at (elemText x) t
   unfolding element _>>=_ ret elemText
   element-took at x t h e =
       let a = then-got (name 47 91 s (at + 1)) _ e in
-      let b = then-got (each 91 4 key s (a .1)) _ (a .3) in
+      let b = then-got (each 91 maxKeys key s (a .1)) _ (a .3) in
       let i = inside s at 47 (omega arith) h in
       let w = name-took 47 91 s (at + 1) (a .0) (a .1) (omega arith) (a .2) in
       got-move (λ y q. Took s at (elemText y) q) (b .3)
       (took-both s at (at + 1) (b .1) (47 ∷ []) _ (byte-took s at 47 (omega arith) h)
-      (took-both s (at + 1) (a .1) (b .1) (a .0) _ w (each-took 91 key keyText s key-took 4 (a .1) (b .0) (b .1) (w .fits) (b .2))))
+      (took-both s (at + 1) (a .1) (b .1) (a .0) _ w (each-took 91 key keyText s key-took maxKeys (a .1) (b .0) (b .1) (w .fits) (b .2))))
 
   -- the text of the elements that were read
   pub elements-took : (p : Path) (t : ℕ) → elements s 0 ≡ got p t → Took s 0 (joined elemText p) t
   unfolding elements
-  elements-took p t e = each-took 47 element elemText s element-took 16 0 p t (omega arith) e
+  elements-took p t e = each-took 47 element elemText s element-took maxElements 0 p t (omega arith) e

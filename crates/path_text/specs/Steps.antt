@@ -1,24 +1,36 @@
 -- The answers of the programs that read path text step by step, said of what is read there.
-use Prim.Native.Nat.{ℕ, suc, _+_, _≤_}
+use Prim.Native.Nat.{ℕ, _+_, _-_, _≤_}
 use mathlib.Core.Path.{_≡_}
 use mathlib.Core.Bool.{Bool, not}
-use mathlib.Core.List.{List, [], _∷_}
+use mathlib.Core.List.{List}
 use mathlib.Core.Option.{Option, none, some}
 use lib.Dec.{eqb}
 use lib.ListN.{length, getD}
+use Rattle.limits.specs.Limits.{maxElements, maxKeys, maxString}
 use Rattle.text.specs.Test.{if_then_else_, twice}
-use Rattle.text.specs.Byte.{isName}
 use Rattle.text.specs.String.{Str}
 use Rattle.text.specs.Frame.{Parsed, got, unread, Reader}
 use Rattle.text.specs.Fill.{put, Wrote}
+use Rattle.text_search.specs.Search.{until}
 use Rattle.path.specs.Path.{Key, Elem, Path}
 use Rattle.path.specs.Faults.{sameName}
-use Rattle.path.specs.Walk.{nameGrade, valueGrade, aloneGrade, elemGrade, good}
+use Rattle.path.specs.Walk.{noName, nameRefusal, valueRefusal, aloneRefusal, elemRefusal, good}
 use Rattle.path_text.specs.TextReader.{name, item, value, each, key, element}
 use Rattle.path_text.specs.declared.reader.Stored.{Stored}
 use Rattle.path_text.specs.declared.reader.Stored.the-variants as stored
 use Rattle.path_text.specs.declared.reader.Item.{Item}
 use Rattle.path_text.specs.declared.reader.Item.the-variants as items
+
+-- a path's bytes are at most so many more than its text: the count, and for each element one more than its text has
+abbrev pub maxGrowth : ℕ
+maxGrowth = 1 + maxElements
+
+-- the array that short texts are read into, and the longest text whose bytes surely fit it
+abbrev pub shortBytes : ℕ
+shortBytes = 256
+
+abbrev pub shortText : ℕ
+shortText = shortBytes - maxGrowth
 
 -- the next byte of a value
 unfoldable pub itemIn : Parsed ℕ → Item
@@ -30,9 +42,8 @@ unfoldable pub itemOf : Str → ℕ → Item
 itemOf s at = if eqb (getD s at 0) 93 then items.End else itemIn (item s at)
 
 -- how many bytes at the start belong to a name
-unfoldable pub nameRun : Str → ℕ
-nameRun [] = 0
-nameRun (b ∷ s) = if isName b then suc (nameRun s) else 0
+abbrev pub nameRun : Str → ℕ
+nameRun s = until noName s
 
 -- what was read, where it passes
 unfoldable pub pass : {A : Type 0} → (A → Bool) → Parsed A → Parsed A
@@ -44,25 +55,25 @@ passing ok r s at = pass ok (r s at)
 
 -- the parts of a good path; each name is followed by a, by b or by nothing
 abbrev pub goodName : ℕ → ℕ → Reader Str
-goodName a b = passing (good nameGrade) (name a b)
+goodName a b = passing (good nameRefusal) (name a b)
 
 abbrev pub goodValue : Reader Str
-goodValue = passing (good valueGrade) (value 64)
+goodValue = passing (good valueRefusal) (value maxString)
 
 abbrev pub goodKey : Reader Key
-goodKey = passing (good aloneGrade) key
+goodKey = passing (good aloneRefusal) key
 
 abbrev pub distinct : List Key → Bool
 distinct ks = not (twice sameName ks)
 
 abbrev pub goodKeys : Reader (List Key)
-goodKeys = passing distinct (each 91 4 goodKey)
+goodKeys = passing distinct (each 91 maxKeys goodKey)
 
 abbrev pub goodElement : Reader Elem
-goodElement = passing (good elemGrade) element
+goodElement = passing (good elemRefusal) element
 
 abbrev pub goodElements : Reader Path
-goodElements = each 47 16 goodElement
+goodElements = each 47 maxElements goodElement
 
 -- a string, written as it is
 abbrev pub plainly : Str → Str

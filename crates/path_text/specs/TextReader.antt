@@ -1,14 +1,16 @@
 -- Reading path text. This is no part of what has to be believed: it is proved to answer exactly the good path whose text it is given
 -- (proofs/RoundTrip). The bytes that it looks for are / (47), = (61), [ (91), \ (92) and ] (93).
 use Prim.Native.Nat.{ℕ, zero, suc, _+_}
-use mathlib.Core.Bool.{_||_}
+use mathlib.Core.Bool.{Bool, _||_}
 use mathlib.Core.List.{List, [], _∷_}
 use mathlib.Core.Option.{Option, none, some}
 use lib.ListN.{length, drop, getD}
 use lib.Dec.{eqb, ltb}
+use Rattle.limits.specs.Limits.{maxElements, maxKeys, maxString}
 use Rattle.text.specs.Test.{if_then_else_}
 use Rattle.text.specs.String.{Str, bytes, same}
 use Rattle.text.specs.Frame.{got, unread, Reader, _>>=_, ret, part}
+use Rattle.text_search.specs.Search.{until}
 use Rattle.path.specs.Path.{Key, Elem, Path}
 use Rattle.path.specs.Spells.{whole}
 use Rattle.path_text.specs.Text.{isMark}
@@ -17,15 +19,17 @@ use Rattle.path_text.specs.Text.{isMark}
 unfoldable pub literal : ℕ → Reader ℕ
 literal b s at = if eqb (getD s at 0) b then got b (at + 1) else unread
 
--- how many bytes stand before the first that is a or b
-unfoldable pub upTo : ℕ → ℕ → Str → ℕ
-upTo a b [] = 0
-upTo a b (x ∷ s) = if eqb x a || eqb x b then 0 else suc (upTo a b s)
+abbrev pub isEither : ℕ → ℕ → ℕ → Bool
+isEither a b x = eqb x a || eqb x b
 
--- the bytes before the first that is a or b, at most 64
+-- how many bytes stand before the first that is a or b
+abbrev pub upTo : ℕ → ℕ → Str → ℕ
+upTo a b s = until (isEither a b) s
+
+-- the bytes before the first that is a or b, as many as a string may have
 unfoldable pub name : ℕ → ℕ → Reader Str
 name a b s at =
-    if ltb 64 (upTo a b (drop at s)) then unread else got (part s at (at + upTo a b (drop at s))) (at + upTo a b (drop at s))
+    if ltb maxString (upTo a b (drop at s)) then unread else got (part s at (at + upTo a b (drop at s))) (at + upTo a b (drop at s))
 
 -- the next byte of a value: one that stands plain, or a \ and then a mark
 unfoldable pub item : Reader ℕ
@@ -61,19 +65,19 @@ unfoldable pub key : Reader Key
 key = do
   n ← name 61 61
   e ← literal 61
-  v ← value 64
+  v ← value maxString
   ret (record { name = n; value = v })
 
 -- the name, and each key after its [
 unfoldable pub element : Reader Elem
 element = do
   n ← name 47 91
-  ks ← each 91 4 key
+  ks ← each 91 maxKeys key
   ret (record { name = n; keys = ks })
 
 -- each element after its /
 unfoldable pub elements : Reader Path
-elements = each 47 16 element
+elements = each 47 maxElements element
 
 -- the good path whose text this is
 unfoldable pub readText : Str → Option Path

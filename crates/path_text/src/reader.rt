@@ -1,22 +1,32 @@
 // Path text to path bytes.
 //
 // Each function that reads a part of the format stores it as bytes, and its contract bounds them twice, `Room` before and `Stores` after: so many
-// bytes at most, and so many more than were read of the text. Names and values have at most 64 bytes and a length (65, one more than the text),
-// a key has 2 * 65 = 130, the keys with their count 1 + 4 * 130 = 521, an element 65 + 521 = 586, a path 1 + 16 * 586 = 9,377.
+// bytes at most (`limits` computes how many), and so many more than were read of the text.
 ghost use mathlib.Core.Path.{_≡_};
 ghost use mathlib.Core.Bool.{false};
 ghost use mathlib.Core.List.{[], _∷_};
 ghost use mathlib.Core.Option.{some};
 ghost use Prim.Native.Nat.{_+_, _≤_};
 ghost use lib.ListN.{length, drop, getD};
+ghost use Rattle.limits.specs.Limits.{maxString, maxStringBytes, maxKeyBytes, maxKeysBytes, maxElemBytes, maxPathBytes};
 ghost use Rattle.text.specs.Byte.{isName};
 ghost use Rattle.text.specs.String.{bytes, same};
 ghost use Rattle.text.specs.Frame.{stringBytes};
 ghost use Rattle.path.specs.Bytes.{counted, keyBytes, elemBytes};
-ghost use Rattle.path_text.specs.TextReader.{upTo, value};
-ghost use Rattle.path_text.specs.Calls.{answer, lent, bytesFor};
-ghost use Rattle.path_text.specs.Steps.{nameRun, goodName, goodValue, goodKey, goodKeys, goodElement, goodElements, itemOf, Room, Stores, plainly, Transcribed};
+ghost use Rattle.path_text.specs.TextReader.{value};
+ghost use Rattle.path_text.specs.Calls.{bytesFor, Delivers};
+ghost use Rattle.path_text.specs.Steps.{maxGrowth, shortText, nameRun, itemOf, Room, Stores, plainly, Transcribed};
+ghost use Rattle.path_text.specs.Steps.{goodName, goodValue, goodKey, goodKeys, goodElement, goodElements};
 use crate::Filled;
+
+// So many bytes more than its text a path can have: `maxGrowth` of the definitions.
+const MAX_GROWTH: usize = 1 + limits::MAX_ELEMENTS;
+
+// The array that short texts are read into, and the longest text whose bytes surely fit it. Clearing an array for the longest path costs more than
+// reading most texts.
+const SHORT_BYTES: usize = 256;
+
+const SHORT_TEXT: usize = SHORT_BYTES - MAX_GROWTH;
 
 // Where reading goes on in the text, and storing in the buffer.
 pub enum Stored {
@@ -39,22 +49,6 @@ fn byte_at(s: &[u8], at: usize) -> u8
     if at < s.len() { s[at] } else { 0 }
 }
 
-// Where the first byte from `at` on stands that is a or b, or the end.
-pub fn find(text: &[u8], at: usize, a: u8, b: u8) -> usize
-    requires { ⌜ at ≤ length (now text) ⌝ }
-    ensures { λ r. ⌜ r ≡ at + upTo a b (drop at (now (text .entry))) ⌝ }
-{
-    let mut i = at;
-    while i < text.len() {
-        let c = text[i];
-        if (c == a) | (c == b) {
-            return i;
-        }
-        i += 1;
-    }
-    i
-}
-
 // Where the name from `at` on ends.
 fn name_end(text: &[u8], at: usize) -> usize
     requires { ⌜ at ≤ length (now text) ⌝ }
@@ -62,7 +56,7 @@ fn name_end(text: &[u8], at: usize) -> usize
 {
     let mut i = at;
     while i < text.len() {
-        if !path::fault::is_name(text[i]) {
+        if !path::refusal::is_name(text[i]) {
             return i;
         }
         i += 1;
@@ -72,8 +66,8 @@ fn name_end(text: &[u8], at: usize) -> usize
 
 // A good name with its length byte. a, b or nothing comes after it.
 fn read_name(text: &[u8], at: usize, a: u8, b: u8, out: &mut [u8], to: usize) -> Stored
-    requires { ⌜ Room 65 1 (now text) at (now out) to × (isName a ≡ false) × (isName b ≡ false) ⌝ }
-    ensures { λ r. ⌜ Stores 65 1 stringBytes (goodName a b) (now (text .entry)) at (now (out .entry)) to (now (out .exit)) r ⌝ }
+    requires { ⌜ Room maxStringBytes 1 (now text) at (now out) to × (isName a ≡ false) × (isName b ≡ false) ⌝ }
+    ensures { λ r. ⌜ Stores maxStringBytes 1 stringBytes (goodName a b) (now (text .entry)) at (now (out .entry)) to (now (out .exit)) r ⌝ }
 {
     let next = name_end(text, at);
     let c = byte_at(text, next);
@@ -81,7 +75,7 @@ fn read_name(text: &[u8], at: usize, a: u8, b: u8, out: &mut [u8], to: usize) ->
         return Stored::Unread;
     }
     let n = next - at;
-    if (n == 0) | (64 < n) {
+    if (n == 0) | (limits::MAX_STRING < n) {
         return Stored::Unread;
     }
     out[to] = n as u8;
@@ -122,12 +116,12 @@ fn read_item(text: &[u8], at: usize) -> Item
 
 // The bytes of a value, up to its ].
 fn read_plain(text: &[u8], at: usize, out: &mut [u8], to: usize) -> Stored
-    requires { ⌜ Room 64 0 (now text) at (now out) to ⌝ }
-    ensures { λ r. ⌜ Stores 64 0 plainly (value 64) (now (text .entry)) at (now (out .entry)) to (now (out .exit)) r ⌝ }
+    requires { ⌜ Room maxString 0 (now text) at (now out) to ⌝ }
+    ensures { λ r. ⌜ Stores maxString 0 plainly (value maxString) (now (text .entry)) at (now (out .entry)) to (now (out .exit)) r ⌝ }
 {
     let mut p = at;
     let mut q = to;
-    let mut left: usize = 64;
+    let mut left = limits::MAX_STRING;
     loop {
         let i = read_item(text, p);
         match i {
@@ -155,8 +149,8 @@ fn read_plain(text: &[u8], at: usize, out: &mut [u8], to: usize) -> Stored
 
 // A value with its length byte.
 pub fn read_value(text: &[u8], at: usize, out: &mut [u8], to: usize) -> Stored
-    requires { ⌜ Room 65 1 (now text) at (now out) to ⌝ }
-    ensures { λ r. ⌜ Stores 65 1 stringBytes (value 64) (now (text .entry)) at (now (out .entry)) to (now (out .exit)) r ⌝ }
+    requires { ⌜ Room maxStringBytes 1 (now text) at (now out) to ⌝ }
+    ensures { λ r. ⌜ Stores maxStringBytes 1 stringBytes (value maxString) (now (text .entry)) at (now (out .entry)) to (now (out .exit)) r ⌝ }
 {
     let start = to + 1;
     let v = read_plain(text, at, out, start);
@@ -172,15 +166,15 @@ pub fn read_value(text: &[u8], at: usize, out: &mut [u8], to: usize) -> Stored
 
 // A good value with its length byte.
 fn read_good_value(text: &[u8], at: usize, out: &mut [u8], to: usize) -> Stored
-    requires { ⌜ Room 65 1 (now text) at (now out) to ⌝ }
-    ensures { λ r. ⌜ Stores 65 1 stringBytes goodValue (now (text .entry)) at (now (out .entry)) to (now (out .exit)) r ⌝ }
+    requires { ⌜ Room maxStringBytes 1 (now text) at (now out) to ⌝ }
+    ensures { λ r. ⌜ Stores maxStringBytes 1 stringBytes goodValue (now (text .entry)) at (now (out .entry)) to (now (out .exit)) r ⌝ }
 {
     let v = read_value(text, at, out, to);
     let Stored::To { next, end } = v else {
         return Stored::Unread;
     };
     let start = to + 1;
-    if path::fault::value_fault(&out[start..end]) != 255 {
+    if path::refusal::value_refusal(&out[start..end]) != limits::CLEAR {
         return Stored::Unread;
     }
     Stored::To {
@@ -191,8 +185,8 @@ fn read_good_value(text: &[u8], at: usize, out: &mut [u8], to: usize) -> Stored
 
 // name=value], after its [.
 fn read_key(text: &[u8], at: usize, out: &mut [u8], to: usize) -> Stored
-    requires { ⌜ Room 130 1 (now text) at (now out) to ⌝ }
-    ensures { λ r. ⌜ Stores 130 1 keyBytes goodKey (now (text .entry)) at (now (out .entry)) to (now (out .exit)) r ⌝ }
+    requires { ⌜ Room maxKeyBytes 1 (now text) at (now out) to ⌝ }
+    ensures { λ r. ⌜ Stores maxKeyBytes 1 keyBytes goodKey (now (text .entry)) at (now (out .entry)) to (now (out .exit)) r ⌝ }
 {
     let n = read_name(text, at, b'=', b'=', out, to);
     let Stored::To { next, end } = n else {
@@ -206,13 +200,13 @@ fn read_key(text: &[u8], at: usize, out: &mut [u8], to: usize) -> Stored
 
 // The keys of an element, each in brackets; their count is stored before them.
 fn read_keys(text: &[u8], at: usize, out: &mut [u8], to: usize) -> Stored
-    requires { ⌜ Room 521 1 (now text) at (now out) to ⌝ }
-    ensures { λ r. ⌜ Stores 521 1 (counted keyBytes) goodKeys (now (text .entry)) at (now (out .entry)) to (now (out .exit)) r ⌝ }
+    requires { ⌜ Room maxKeysBytes 1 (now text) at (now out) to ⌝ }
+    ensures { λ r. ⌜ Stores maxKeysBytes 1 (counted keyBytes) goodKeys (now (text .entry)) at (now (out .entry)) to (now (out .exit)) r ⌝ }
 {
     let start = to + 1;
     let mut p = at;
     let mut q = start;
-    let mut left: usize = 4;
+    let mut left = limits::MAX_KEYS;
     while (0 < left) & (byte_at(text, p) == b'[') {
         let k = read_key(text, p + 1, out, q);
         let Stored::To { next, end } = k else {
@@ -222,7 +216,7 @@ fn read_keys(text: &[u8], at: usize, out: &mut [u8], to: usize) -> Stored
         q = end;
         left -= 1;
     }
-    let count = 4 - left;
+    let count = limits::MAX_KEYS - left;
     if path_frame::has_twice(&out[start..q], 0, count) {
         return Stored::Unread;
     }
@@ -232,14 +226,14 @@ fn read_keys(text: &[u8], at: usize, out: &mut [u8], to: usize) -> Stored
 
 // An element, after its /.
 fn read_element(text: &[u8], at: usize, out: &mut [u8], to: usize) -> Stored
-    requires { ⌜ Room 586 2 (now text) at (now out) to ⌝ }
-    ensures { λ r. ⌜ Stores 586 2 elemBytes goodElement (now (text .entry)) at (now (out .entry)) to (now (out .exit)) r ⌝ }
+    requires { ⌜ Room maxElemBytes 2 (now text) at (now out) to ⌝ }
+    ensures { λ r. ⌜ Stores maxElemBytes 2 elemBytes goodElement (now (text .entry)) at (now (out .entry)) to (now (out .exit)) r ⌝ }
 {
     let n = read_name(text, at, b'/', b'[', out, to);
     let Stored::To { next, end } = n else {
         return Stored::Unread;
     };
-    if path::fault::is_dots(&text[at..next]) {
+    if path::refusal::is_dots(&text[at..next]) {
         return Stored::Unread;
     }
     read_keys(text, next, out, end)
@@ -247,12 +241,12 @@ fn read_element(text: &[u8], at: usize, out: &mut [u8], to: usize) -> Stored
 
 // The elements of a path; their count is stored before them.
 fn read_elements(text: &[u8], out: &mut [u8]) -> Stored
-    requires { ⌜ Room 9377 17 (now text) 0 (now out) 0 ⌝ }
-    ensures { λ r. ⌜ Stores 9377 17 (counted elemBytes) goodElements (now (text .entry)) 0 (now (out .entry)) 0 (now (out .exit)) r ⌝ }
+    requires { ⌜ Room maxPathBytes maxGrowth (now text) 0 (now out) 0 ⌝ }
+    ensures { λ r. ⌜ Stores maxPathBytes maxGrowth (counted elemBytes) goodElements (now (text .entry)) 0 (now (out .entry)) 0 (now (out .exit)) r ⌝ }
 {
     let mut p = 0;
     let mut q = 1;
-    let mut left: usize = 16;
+    let mut left = limits::MAX_ELEMENTS;
     while (0 < left) & (byte_at(text, p) == b'/') {
         let e = read_element(text, p + 1, out, q);
         let Stored::To { next, end } = e else {
@@ -262,14 +256,14 @@ fn read_elements(text: &[u8], out: &mut [u8]) -> Stored
         q = end;
         left -= 1;
     }
-    let count = 16 - left;
+    let count = limits::MAX_ELEMENTS - left;
     out[0] = count as u8;
     Stored::To { next: p, end: q }
 }
 
 // The bytes of the good path, not the root, whose text this is.
 fn transcribe(text: &[u8], out: &mut [u8]) -> Stored
-    requires { ⌜ Room 9377 17 (now text) 0 (now out) 0 × (same (now text) (bytes "/") ≡ false) ⌝ }
+    requires { ⌜ Room maxPathBytes maxGrowth (now text) 0 (now out) 0 × (same (now text) (bytes "/") ≡ false) ⌝ }
     ensures { λ r. ⌜ Transcribed (bytesFor (now (text .entry))) (now (out .entry)) (now (out .exit)) r ⌝ }
 {
     if text.len() == 0 {
@@ -290,8 +284,8 @@ fn transcribe(text: &[u8], out: &mut [u8]) -> Stored
 
 // The bytes are made apart, and copied where they fit.
 fn read_apart(text: &[u8], apart: &mut [u8], out: &mut [u8]) -> Filled
-    requires { ⌜ Room 9377 17 (now text) 0 (now apart) 0 × (same (now text) (bytes "/") ≡ false) ⌝ }
-    ensures { λ r. ⌜ (r ≡ answer (now (out .entry)) (bytesFor (now (text .entry)))) × (now (out .exit) ≡ lent (now (out .entry)) (bytesFor (now (text .entry)))) ⌝ }
+    requires { ⌜ Room maxPathBytes maxGrowth (now text) 0 (now apart) 0 × (same (now text) (bytes "/") ≡ false) ⌝ }
+    ensures { λ r. ⌜ Delivers (now (out .entry)) (bytesFor (now (text .entry))) (now (out .exit)) r ⌝ }
 {
     let t = transcribe(text, apart);
     let Stored::To { next, end } = t else {
@@ -304,27 +298,27 @@ fn read_apart(text: &[u8], apart: &mut [u8], out: &mut [u8]) -> Filled
     Filled::Length(end)
 }
 
-// A short text. Its bytes are at most 17 more than the text: a count, and for each of 16 elements one more byte than its text has.
+// A short text.
 fn read_short(text: &[u8], out: &mut [u8]) -> Filled
-    requires { ⌜ (length (now text) ≤ 239) × (same (now text) (bytes "/") ≡ false) ⌝ }
-    ensures { λ r. ⌜ (r ≡ answer (now (out .entry)) (bytesFor (now (text .entry)))) × (now (out .exit) ≡ lent (now (out .entry)) (bytesFor (now (text .entry)))) ⌝ }
+    requires { ⌜ (length (now text) ≤ shortText) × (same (now text) (bytes "/") ≡ false) ⌝ }
+    ensures { λ r. ⌜ Delivers (now (out .entry)) (bytesFor (now (text .entry))) (now (out .exit)) r ⌝ }
 {
-    let mut apart = [0u8; 256];
+    let mut apart = [0u8; SHORT_BYTES];
     read_apart(text, &mut apart, out)
 }
 
 // Any text, with room for the longest path bytes.
 fn read_long(text: &[u8], out: &mut [u8]) -> Filled
     requires { ⌜ same (now text) (bytes "/") ≡ false ⌝ }
-    ensures { λ r. ⌜ (r ≡ answer (now (out .entry)) (bytesFor (now (text .entry)))) × (now (out .exit) ≡ lent (now (out .entry)) (bytesFor (now (text .entry)))) ⌝ }
+    ensures { λ r. ⌜ Delivers (now (out .entry)) (bytesFor (now (text .entry))) (now (out .exit)) r ⌝ }
 {
-    let mut apart = [0u8; 9377];
+    let mut apart = [0u8; limits::MAX_PATH_BYTES];
     read_apart(text, &mut apart, out)
 }
 
 // The text `/`, whose bytes are the count 0.
 fn read_root(out: &mut [u8]) -> Filled
-    ensures { λ r. ⌜ (r ≡ answer (now (out .entry)) (some (0 ∷ []))) × (now (out .exit) ≡ lent (now (out .entry)) (some (0 ∷ []))) ⌝ }
+    ensures { λ r. ⌜ Delivers (now (out .entry)) (some (0 ∷ [])) (now (out .exit)) r ⌝ }
 {
     if out.len() == 0 {
         return Filled::Refused(23);
@@ -335,12 +329,12 @@ fn read_root(out: &mut [u8]) -> Filled
 
 // Path text to path bytes, at the start of out. Nothing is stored there before all is checked.
 pub fn read_text(text: &[u8], out: &mut [u8]) -> Filled
-    ensures { λ r. ⌜ (r ≡ answer (now (out .entry)) (bytesFor (now (text .entry)))) × (now (out .exit) ≡ lent (now (out .entry)) (bytesFor (now (text .entry)))) ⌝ }
+    ensures { λ r. ⌜ Delivers (now (out .entry)) (bytesFor (now (text .entry))) (now (out .exit)) r ⌝ }
 {
-    if path::fault::is_byte(text, b'/') {
+    if path::refusal::is_byte(text, b'/') {
         return read_root(out);
     }
-    if text.len() <= 239 {
+    if text.len() <= SHORT_TEXT {
         return read_short(text, out);
     }
     read_long(text, out)

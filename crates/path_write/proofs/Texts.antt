@@ -6,6 +6,7 @@ use mathlib.Core.Option.{none, some, Option·map}
 use Prim.Native.Nat.{ℕ, _-_, _/_, _≤_}
 use native.Mathlib.Omega.{arith}
 use lib.ListN.{length}
+use Rattle.limits.specs.Limits.{maxPathText}
 use Rattle.text.specs.Test.{_and_, if_then_else_}
 use Rattle.text.specs.String.{Str}
 use Rattle.text.specs.Frame.{Parsed, got, unread}
@@ -19,7 +20,7 @@ use Rattle.path_text.specs.Calls.{textFor}
 use Rattle.path_write.specs.Steps.{isRead, written}
 use Rattle.path_text.proofs.Longest.{text-length, text-twice}
 
-text-told : (f : Str) (x : Parsed Path) → isPathIn f x ≡ true → (Option·map pathText (whole f x) ≡ some (written pathText x)) × (isRead x ≡ true) × (length (written pathText x) ≤ 13520)
+text-told : (f : Str) (x : Parsed Path) → isPathIn f x ≡ true → (Option·map pathText (whole f x) ≡ some (written pathText x)) × (isRead x ≡ true) × (length (written pathText x) ≤ maxPathText)
 unfolding isPathIn whole if_then_else_
 text-told f (got p t) h = (rw h, refl, text-length p (and-r _ _ h))
 text-told f unread h = clash h refl
@@ -39,7 +40,7 @@ module _ (f : Str) (b : Bool) (i : b ≡ isPath f) where
   unfolding textFor readBytes isPath
   text-good e = text-told f (path f 0) (sym i ∙ e) .0
 
-  pub text-fits : b ≡ true → (isRead (path f 0) ≡ true) × (length (written pathText (path f 0)) ≤ 13520)
+  pub text-fits : b ≡ true → (isRead (path f 0) ≡ true) × (length (written pathText (path f 0)) ≤ maxPathText)
   unfolding isPath
   text-fits e = let t = text-told f (path f 0) (sym i ∙ e) in (t .1, t .2)
 

@@ -18,7 +18,8 @@ use Rattle.text.proofs.Filling.{Pending, fill-start, fill-room, fill-put, fill-
 use Rattle.path.specs.Path.{Key, Elem, Path}
 use Rattle.path.specs.Bytes.{key, element, path}
 use Rattle.path_text.specs.Text.{isMark, escaped, keyText, elemText, pathText}
-use Rattle.path_write.specs.Steps.{isRead, written, endAt}
+use Rattle.path_write.specs.Steps.{isRead, written, endAt, Fits, Writes}
+use Rattle.path_write.specs.declared.Place.{Place}
 use Rattle.path_text.proofs.Sound.{escaped-plain, escaped-mark}
 
 -- ---- a byte of a value
@@ -120,9 +121,8 @@ module _ {A : Type 0} (write : A → Str) where
   cons-end a (got l t) = refl
   cons-end a unread = refl
 
-  pub writing-start : (d : List ℕ) (to : ℕ) (x : Parsed (List A)) → isRead x ≡ true → to + length (written (joined write) x) ≤ length d
-      → Writing write d to (written (joined write) x) (endAt x) x d to
-  writing-start d to x h i = record { reads = h; stops = refl; pending = fill-start d to _ i }
+  pub writing-start : (d : List ℕ) (to : ℕ) (x : Parsed (List A)) → Fits (joined write) x d to → Writing write d to (written (joined write) x) (endAt x) x d to
+  writing-start d to x h = record { reads = h .reads; stops = refl; pending = fill-start d to _ (h .room) }
 
   module _ (d : List ℕ) (to : ℕ) (w : Str) (stop : ℕ) (x : Parsed (List A)) (out : List ℕ) (q : ℕ) (s : Writing write d to w stop x out q) where
     pub writing-never {ℓ} : {X : Type ℓ} → x ≡ unread → X
@@ -156,12 +156,15 @@ module _ {A : Type 0} (write : A → Str) where
 
 -- ---- an element
 
+-- y is an element with this name, and what was read of its keys
+pub record Element (name : Str) (keys : Parsed (List Key)) (y : Parsed Elem) : Type 0 where
+  pub is : y ≡ andThen keys (λ ks t. got (record { name = name; keys = ks }) t)
+
 -- r is the end of the name at `from`
 module _ (f : List ℕ) (from : ℕ) (r : End) (h : r ≡ endOf (string f from)) where
-  pub element-is : (m : ℕ) → r ≡ At m → m < length f
-      → element f from ≡ andThen (times (getD f m 0) key f (m + 1)) (λ ks t. got (record { name = part f (from + 1) m; keys = ks }) t)
+  pub element-is : (m : ℕ) → r ≡ At m → m < length f → Element (part f (from + 1) m) (times (getD f m 0) key f (m + 1)) (element f from)
   unfolding element _>>=_ ret
-  element-is m g l = rw (string-ends f from r h m g .0, byte-got f m l)
+  element-is m g l = record { is = rw (string-ends f from r h m g .0, byte-got f m l) }
 
   module _ (i : isRead (element f from) ≡ true) where
     pub element-named {ℓ} : {X : Type ℓ} → r ≡ Unread → X
@@ -185,21 +188,20 @@ keys-end : (n : Str) (x : Parsed (List Key)) → endAt {A = Elem} (andThen x (λ
 keys-end n (got ks t) = refl
 keys-end n unread = refl
 
-module _ (d : List ℕ) (to : ℕ) (n : Str) (x : Parsed (List Key)) (y : Parsed Elem) (e : y ≡ andThen x (λ ks t. got (record { name = n; keys = ks }) t))
-    (pre : (isRead y ≡ true) × (to + length (written elemText y) ≤ length d)) where
+module _ {d : List ℕ} {to : ℕ} {n : Str} {x : Parsed (List Key)} {y : Parsed Elem} (e : Element n x y) (pre : Fits elemText y d to) where
   abbrev pub keys′ : Str
   keys′ = written (joined keyText) x
 
   pub elem-read : isRead x ≡ true
-  elem-read = keys-read n x (ap isRead (sym e) ∙ pre .0)
+  elem-read = keys-read n x (ap isRead (sym (e .is)) ∙ pre .reads)
 
   pub elem-ends : endAt x ≡ endAt y
-  elem-ends = sym (keys-end n x) ∙ ap endAt (sym e)
+  elem-ends = sym (keys-end n x) ∙ ap endAt (sym (e .is))
 
   pub elem-start : Pending d to (written elemText y) d to (47 ∷ (n ++ keys′))
   elem-start =
-      let t : written elemText y ≡ 47 ∷ (n ++ keys′) = ap (written elemText) e ∙ keys-text n x elem-read in
-      subst (λ (l : List ℕ). Pending d to (written elemText y) d to l) t (fill-start d to _ (pre .1))
+      let t : written elemText y ≡ 47 ∷ (n ++ keys′) = ap (written elemText) (e .is) ∙ keys-text n x elem-read in
+      subst (λ (l : List ℕ). Pending d to (written elemText y) d to l) t (fill-start d to _ (pre .room))
 
   elem-name : Pending d to (written elemText y) (set d to 47) (to + 1) (n ++ keys′)
   elem-name = fill-set d to _ d to 47 (n ++ keys′) elem-start
@@ -238,13 +240,16 @@ module _ (d : List ℕ) (to : ℕ) (w : Str) (stop : ℕ) (f : List ℕ) (p : �
     turned : times left element f p ≡ andThen (times (left - 1) element f (endAt (element f p))) (λ es t. got (first-is .0 ∷ es) t)
     turned = times-turn element f p left (first-is .0) (endAt (element f p)) z (first-is .1)
 
-    pub elems-room : (isRead (element f p) ≡ true) × (q + length (written elemText (element f p)) ≤ length out)
-    elems-room = (first-read, rw (first-is .2) (writing-room elemText d to w stop _ out q s (first-is .0) (times (left - 1) element f (endAt (element f p))) turned))
+    pub elems-room : Fits elemText (element f p) out q
+    elems-room = record {
+      reads = first-read;
+      room = rw (first-is .2) (writing-room elemText d to w stop _ out q s (first-is .0) (times (left - 1) element f (endAt (element f p))) turned);
+    }
 
-    pub elems-turn : (out′ : List ℕ) (p′ q′ : ℕ) → (p′ ≡ endAt (element f p)) × Wrote out q (written elemText (element f p)) out′ q′ → Writing elemText d to w stop (times (left - 1) element f p′) out′ q′
-    elems-turn out′ p′ q′ v =
-        let u = v .1 in
-        rw (v .0) (writing-turn elemText d to w stop _ out q s (first-is .0) (times (left - 1) element f (endAt (element f p))) turned out′ q′ (rw (first-is .2) at u))
+    pub elems-turn : (out′ : List ℕ) (r : Place) → Writes elemText (element f p) out q out′ r → Writing elemText d to w stop (times (left - 1) element f (r .from)) out′ (r .to)
+    elems-turn out′ r v =
+        let u = v .wrote in
+        rw (v .next) (writing-turn elemText d to w stop _ out q s (first-is .0) (times (left - 1) element f (endAt (element f p))) turned out′ (r .to) (rw (first-is .2) at u))
 
   pub elems-done : left ≤ 0 → (p ≡ stop) × Wrote d to w out q
   elems-done z = writing-done elemText d to w stop _ out q s p (times-done element f p left z)
@@ -257,10 +262,10 @@ path-words (got [] t) h = absurd (h [] t refl refl)
 path-words (got (a ∷ p) t) h = refl
 path-words unread h = refl
 
-module _ (d f : List ℕ) (pre : (isRead (path f 0) ≡ true) × (length (written pathText (path f 0)) ≤ length d)) where
+module _ (d f : List ℕ) (pre : Fits pathText (path f 0) d 0) where
   pub path-counted {ℓ} : {X : Type ℓ} → length f ≤ 0 → X
   unfolding path _>>=_
-  path-counted h = let p = pre .0 in clash p (rw (byte-unread f 0 h))
+  path-counted h = let p = pre .reads in clash p (rw (byte-unread f 0 h))
 
   module _ (h : 0 < length f) where
     path-is : path f 0 ≡ times (getD f 0 0) element f 1
@@ -272,7 +277,7 @@ module _ (d f : List ℕ) (pre : (isRead (path f 0) ≡ true) × (length (writte
     path-root z = rw (path-is, z, times-done element f 1 0 (omega arith))
 
     pub root-room : getD f 0 0 ≡ 0 → 0 < length d
-    root-room z = let p = pre .1 in omega (arith, p, ap length (path-root z))
+    root-room z = let p = pre .room in omega (arith, p, ap length (path-root z))
 
     pub root-wrote : getD f 0 0 ≡ 0 → Wrote d 0 (written pathText (path f 0)) (set d 0 47) 1
     root-wrote z = rw (path-root z) (wrote d 0 _ _ _ (fill-set d 0 _ d 0 47 [] (fill-start d 0 (47 ∷ []) (omega (arith, root-room z)))))
@@ -284,8 +289,8 @@ module _ (d f : List ℕ) (pre : (isRead (path f 0) ≡ true) × (length (writte
           ∙ path-words (times (getD f 0 0) element f 1)
           (λ p t e n. z (sym (times-length element f (getD f 0 0) 1 p t e) ∙ ap length n))
 
-      pub more-room : (isRead (times (getD f 0 0) element f 1) ≡ true) × (0 + length (written (joined elemText) (times (getD f 0 0) element f 1)) ≤ length d)
-      more-room = let p = pre .1 in (ap isRead (sym path-is) ∙ pre .0, omega (arith, p, ap length path-more))
+      pub more-room : Fits (joined elemText) (times (getD f 0 0) element f 1) d 0
+      more-room = let p = pre .room in record { reads = ap isRead (sym path-is) ∙ pre .reads; room = omega (arith, p, ap length path-more) }
 
       pub more-wrote : (d′ : List ℕ) (r : ℕ) → Wrote d 0 (written (joined elemText) (times (getD f 0 0) element f 1)) d′ r → Wrote d 0 (written pathText (path f 0)) d′ r
       more-wrote d′ r w = rw path-more w

@@ -9,8 +9,8 @@ ghost use Rattle.text.specs.Fill.{Wrote};
 ghost use Rattle.path.specs.Bytes.{key, element, path};
 ghost use Rattle.path.specs.Walk.{isPath};
 ghost use Rattle.path_text.specs.Text.{escaped, keyText, elemText, pathText};
-ghost use Rattle.path_text.specs.Calls.{answer, lent, textFor};
-ghost use Rattle.path_write.specs.Steps.{isRead, written, endAt};
+ghost use Rattle.path_text.specs.Calls.{textFor, Delivers};
+ghost use Rattle.path_write.specs.Steps.{written, Fits, Writes};
 use path_text::Filled;
 use text::frame::End;
 
@@ -64,8 +64,8 @@ fn write_key(name: &[u8], value: &[u8], out: &mut [u8], at: usize) -> usize
 
 // The text of the `count` keys from `from` on.
 fn write_keys(f: &[u8], from: usize, count: usize, out: &mut [u8], to: usize) -> Place
-    requires { ⌜ (isRead (times count key (now f) from) ≡ true) × (to + length (written (joined keyText) (times count key (now f) from)) ≤ length (now out)) ⌝ }
-    ensures { λ r. ⌜ (r .from ≡ endAt (times count key (now (f .entry)) from)) × Wrote (now (out .entry)) to (written (joined keyText) (times count key (now (f .entry)) from)) (now (out .exit)) (r .to) ⌝ }
+    requires { ⌜ Fits (joined keyText) (times count key (now f) from) (now out) to ⌝ }
+    ensures { λ r. ⌜ Writes (joined keyText) (times count key (now (f .entry)) from) (now (out .entry)) to (now (out .exit)) r ⌝ }
 {
     let mut p = from;
     let mut q = to;
@@ -90,8 +90,8 @@ fn write_keys(f: &[u8], from: usize, count: usize, out: &mut [u8], to: usize) ->
 
 // The text of the element at `from`.
 fn write_element(f: &[u8], from: usize, out: &mut [u8], to: usize) -> Place
-    requires { ⌜ (isRead (element (now f) from) ≡ true) × (to + length (written elemText (element (now f) from)) ≤ length (now out)) ⌝ }
-    ensures { λ r. ⌜ (r .from ≡ endAt (element (now (f .entry)) from)) × Wrote (now (out .entry)) to (written elemText (element (now (f .entry)) from)) (now (out .exit)) (r .to) ⌝ }
+    requires { ⌜ Fits elemText (element (now f) from) (now out) to ⌝ }
+    ensures { λ r. ⌜ Writes elemText (element (now (f .entry)) from) (now (out .entry)) to (now (out .exit)) r ⌝ }
 {
     let n = text::frame::string_end(f, from);
     let End::At(middle) = n else {
@@ -110,8 +110,8 @@ fn write_element(f: &[u8], from: usize, out: &mut [u8], to: usize) -> Place
 
 // The text of the `count` elements from `from` on.
 fn write_elements(f: &[u8], from: usize, count: usize, out: &mut [u8], to: usize) -> Place
-    requires { ⌜ (isRead (times count element (now f) from) ≡ true) × (to + length (written (joined elemText) (times count element (now f) from)) ≤ length (now out)) ⌝ }
-    ensures { λ r. ⌜ (r .from ≡ endAt (times count element (now (f .entry)) from)) × Wrote (now (out .entry)) to (written (joined elemText) (times count element (now (f .entry)) from)) (now (out .exit)) (r .to) ⌝ }
+    requires { ⌜ Fits (joined elemText) (times count element (now f) from) (now out) to ⌝ }
+    ensures { λ r. ⌜ Writes (joined elemText) (times count element (now (f .entry)) from) (now (out .entry)) to (now (out .exit)) r ⌝ }
 {
     let mut p = from;
     let mut q = to;
@@ -127,7 +127,7 @@ fn write_elements(f: &[u8], from: usize, count: usize, out: &mut [u8], to: usize
 
 // The text of the path at the start of f.
 fn write_path(f: &[u8], out: &mut [u8]) -> usize
-    requires { ⌜ (isRead (path (now f) 0) ≡ true) × (length (written pathText (path (now f) 0)) ≤ length (now out)) ⌝ }
+    requires { ⌜ Fits pathText (path (now f) 0) (now out) 0 ⌝ }
     ensures { λ r. ⌜ Wrote (now (out .entry)) 0 (written pathText (path (now (f .entry)) 0)) (now (out .exit)) r ⌝ }
 {
     if f.len() == 0 {
@@ -145,10 +145,9 @@ fn write_path(f: &[u8], out: &mut [u8]) -> usize
 // The text of a good path, made apart, and copied where it fits.
 fn write_apart(f: &[u8], out: &mut [u8]) -> Filled
     requires { ⌜ true ≡ isPath (now f) ⌝ }
-    ensures { λ r. ⌜ (r ≡ answer (now (out .entry)) (textFor (now (f .entry)))) × (now (out .exit) ≡ lent (now (out .entry)) (textFor (now (f .entry)))) ⌝ }
+    ensures { λ r. ⌜ Delivers (now (out .entry)) (textFor (now (f .entry))) (now (out .exit)) r ⌝ }
 {
-    // the longest path text
-    let mut text = [0u8; 13520];
+    let mut text = [0u8; limits::MAX_PATH_TEXT];
     let n = write_path(f, &mut text);
     if out.len() < n {
         return Filled::Refused(23);
@@ -159,7 +158,7 @@ fn write_apart(f: &[u8], out: &mut [u8]) -> Filled
 
 // Path bytes to path text, at the start of out. Nothing is stored there before all is checked.
 pub fn write_text(f: &[u8], out: &mut [u8]) -> Filled
-    ensures { λ r. ⌜ (r ≡ answer (now (out .entry)) (textFor (now (f .entry)))) × (now (out .exit) ≡ lent (now (out .entry)) (textFor (now (f .entry)))) ⌝ }
+    ensures { λ r. ⌜ Delivers (now (out .entry)) (textFor (now (f .entry))) (now (out .exit)) r ⌝ }
 {
     if !path_frame::is_path(f) {
         return Filled::Refused(22);

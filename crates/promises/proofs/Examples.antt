@@ -5,10 +5,11 @@ use mathlib.Core.List.{map}
 use Rattle.text.specs.Test.{_and_, _or_, if_then_else_, all, any, only, twice}
 use Rattle.text.specs.String.{same, more, before}
 use Rattle.text.specs.Frame.{_>>=_, ret, byte, run, string, times}
+use Rattle.text_search.specs.Search.{until}
 use Rattle.path.specs.Bytes.{key, element, path}
-use Rattle.path.specs.Faults.{unsized, keyOver, elemOver, overLimit, outsideName, outsideValue, keyStray, elemStray, strayByte, halfWild, keyMisplaced, elemMisplaced, misplaced, keyTwice, grade, pathRefusal, goodPath}
+use Rattle.path.specs.Faults.{unsized, keyOver, elemOver, overLimit, outsideName, outsideValue, keyStray, elemStray, strayByte, halfWild, keyMisplaced, elemMisplaced, misplaced, keyTwice, leastRefusal, pathRefusal, goodPath}
 use Rattle.path.specs.Spells.{whole, readBytes}
-use Rattle.path_text.specs.TextReader.{literal, upTo, name, item, value, each, elements, readText}
+use Rattle.path_text.specs.TextReader.{literal, name, item, value, each, elements, readText}
 use Rattle.path_text.specs.TextReader as reader
 use Rattle.line.specs.Lines.{onto, lines, pair, pairs, nonempty, frame}
 use Rattle.table.specs.Frame.{unknown, code, versionBody, groupBody, memberBody, ruleBody, ruleEntry, body, entry, entryOf}
@@ -26,5 +27,5 @@ use Rattle.rpc.specs.Pattern as pattern
 use Rattle.promises.specs.Examples.{Example, examples}
 
 pub marked : map (λ (x : Example). x .given) examples ≡ map (λ (x : Example). x .expected) examples
-unfolding xor _and_ _or_ if_then_else_ all any only twice same more before _>>=_ ret byte run string times key element path unsized keyOver elemOver overLimit outsideName outsideValue keyStray elemStray strayByte halfWild keyMisplaced elemMisplaced misplaced keyTwice grade pathRefusal goodPath whole readBytes literal upTo name item value each elements readText reader.key reader.element onto lines pair pairs nonempty frame unknown code versionBody groupBody memberBody ruleBody ruleEntry body entry entryOf table-line.whole framed decoded lineOf kindOf outOfOrder unsizedShort pastLimit stray strays misplaces sameMember repeats listed unlisted refusal first with after unless judge check maybe collect read entries asGroup asMember asRule versionOf timeOf table tableOf lists badUser wild definite holds meets covers conflict clashes agrees agree meld join definites better earlier prefer candidate choose concerns applies matches decider action permits fits opposes word answer tree badMode badOrigin unspelled requestRefusal spelled request decidedBy pathAnswer pathVerdict spread treeAnswer treeVerdict empty begins ends pattern.matches examples
+unfolding xor _and_ _or_ if_then_else_ all any only twice same more before _>>=_ ret byte run string times key element path unsized keyOver elemOver overLimit outsideName outsideValue keyStray elemStray strayByte halfWild keyMisplaced elemMisplaced misplaced keyTwice leastRefusal pathRefusal goodPath whole readBytes literal until name item value each elements readText reader.key reader.element onto lines pair pairs nonempty frame unknown code versionBody groupBody memberBody ruleBody ruleEntry body entry entryOf table-line.whole framed decoded lineOf kindOf outOfOrder unsizedShort pastLimit stray strays misplaces sameMember repeats listed unlisted refusal first with after unless judge check maybe collect read entries asGroup asMember asRule versionOf timeOf table tableOf lists badUser wild definite holds meets covers conflict clashes agrees agree meld join definites better earlier prefer candidate choose concerns applies matches decider action permits fits opposes word answer tree badMode badOrigin unspelled requestRefusal spelled request decidedBy pathAnswer pathVerdict spread treeAnswer treeVerdict empty begins ends pattern.matches examples
 marked = refl

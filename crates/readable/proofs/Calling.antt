@@ -8,6 +8,7 @@ use native.Mathlib.Omega.{arith}
 use borrow.Author.Tests.{ltb-false, leb-true, le-leb, lt-leb}
 use lib.Dec.{leb, ltb}
 use lib.ListN.{length, take, length-append}
+use Rattle.limits.specs.Limits.{maxTableText}
 use Rattle.text.specs.Test.{if_then_else_}
 use Rattle.text.specs.String.{Str}
 use Rattle.text.specs.Fill.{put}
@@ -26,12 +27,12 @@ use Rattle.readable_parts.proofs.Stored.{front}
 
 -- ---- show
 
-pub accepted-short : (t : Str) → check t ≡ checked.Accepted → length t ≤ 32768
+pub accepted-short : (t : Str) → check t ≡ checked.Accepted → length t ≤ maxTableText
 unfolding check if_then_else_
 accepted-short t e =
-    by (ltb 32768 (length t))
+    by (ltb maxTableText (length t))
     (λ u. let f : checked.Refused 1 0 ≡ checked.Accepted = rw u at e in let z : _≡_ {A = ℕ} 0 1 = cc in absurd (omega arith))
-    (λ u. ltb-false 32768 (length t) u)
+    (λ u. ltb-false maxTableText (length t) u)
 
 module _ (t : Str) (out : List ℕ) (c : Checked) (i : c ≡ check t) where
   pub show-refused : (n l : ℕ) → c ≡ checked.Refused n l → (converted.Refused n l ≡ showAnswer (check t) t out) × (out ≡ showLent (check t) t out)
@@ -92,7 +93,7 @@ module _ (g : Str → Option Str) (room : ℕ) where
           rw (j, u) (omega (arith, r .0, length-append w (stored g room (at + length w) ls)), r .1))
           (λ u. let k′ : ended.Full ≡ ended.All m = rw u at k in let z : _≡_ {A = ℕ} 0 1 = cc in absurd (omega arith))
 
-module _ (text : Str) (out z table : List ℕ) (e : Ended) (x : e ≡ ending (lineBy true) (length z) 1 0 (lines text)) (y : table ≡ put z 0 (stored (lineBy true) (length z) 0 (lines text))) (l : length z ≡ 32768) where
+module _ (text : Str) (out z table : List ℕ) (e : Ended) (x : e ≡ ending (lineBy true) (length z) 1 0 (lines text)) (y : table ≡ put z 0 (stored (lineBy true) (length z) 0 (lines text))) (l : length z ≡ maxTableText) where
   end-is : packedEnd text ≡ e
   unfolding packedEnd lineBy if_then_else_
   end-is = sym (rw l at x)
@@ -109,7 +110,7 @@ module _ (text : Str) (out z table : List ℕ) (e : Ended) (x : e ≡ ending (li
     sizes : (n ≡ 0 + length (stored (lineBy true) (length z) 0 (lines text))) × (n ≤ length z)
     sizes = stored-length (lineBy true) (length z) (lines text) 1 0 n (omega arith) (sym x ∙ g)
 
-    pub pack-size : n ≤ 32768
+    pub pack-size : n ≤ maxTableText
     pack-size = omega (arith, sizes .1)
 
     table-is : take n table ≡ packedTable text

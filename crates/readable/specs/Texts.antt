@@ -1,9 +1,11 @@
 -- Whole texts, converted line by line; and what the two calls answer and leave in the lent buffer.
 use Prim.Native.Nat.{ℕ, _+_, _-_}
+use mathlib.Core.Path.{_≡_}
 use mathlib.Core.List.{List, [], _∷_, _++_}
 use mathlib.Core.Option.{Option, none, some}
 use lib.Dec.{leb}
 use lib.ListN.{length}
+use Rattle.limits.specs.Limits.{maxTableText}
 use Rattle.text.specs.Test.{if_then_else_}
 use Rattle.text.specs.String.{Str}
 use Rattle.text.specs.Fill.{put}
@@ -77,9 +79,25 @@ packLent (ended.All n) table out = madeLent (check table) table out
 packLent (ended.Unread l) table out = out
 packLent ended.Full table out = out
 
--- the table is made in a buffer of its own, of 32,768 bytes
+-- the table is made in a buffer of its own, which has room for the longest
 unfoldable pub packedEnd : Str → Ended
-packedEnd text = ending packedLine 32768 1 0 (lines text)
+packedEnd text = ending packedLine maxTableText 1 0 (lines text)
 
 unfoldable pub packedTable : Str → Str
-packedTable text = stored packedLine 32768 0 (lines text)
+packedTable text = stored packedLine maxTableText 0 (lines text)
+
+-- ---- what each function answers, r, and makes of the buffer `out`, out′
+
+-- the lines of the text, converted by g
+abbrev pub Converts : (Str → Option Str) → Str → List ℕ → List ℕ → Ended → Type 0
+Converts g text out out′ r = (r ≡ ending g (length out) 1 0 (lines text)) × (out′ ≡ put out 0 (stored g (length out) 0 (lines text)))
+
+abbrev pub Shows : Str → List ℕ → List ℕ → Converted → Type 0
+Shows table out out′ r = (r ≡ showAnswer (check table) table out) × (out′ ≡ showLent (check table) table out)
+
+-- a table that was made, handed out
+abbrev pub Makes : Str → List ℕ → List ℕ → Converted → Type 0
+Makes table out out′ r = (r ≡ madeAnswer (check table) table out) × (out′ ≡ madeLent (check table) table out)
+
+abbrev pub Packs : Str → List ℕ → List ℕ → Converted → Type 0
+Packs text out out′ r = (r ≡ packAnswer (packedEnd text) (packedTable text) out) × (out′ ≡ packLent (packedEnd text) (packedTable text) out)

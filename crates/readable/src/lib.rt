@@ -3,11 +3,9 @@ ghost use mathlib.Core.Path.{_≡_};
 ghost use mathlib.Core.Bool.{false};
 ghost use Prim.Native.Nat.{_≤_, _<_};
 ghost use lib.ListN.{length};
-ghost use Rattle.text.specs.Fill.{put};
-ghost use Rattle.line.specs.Lines.{lines};
-ghost use Rattle.table.specs.Text.{check};
+ghost use Rattle.limits.specs.Limits.{maxTableText};
 ghost use Rattle.readable_lines.specs.Lines.{lineBy};
-ghost use Rattle.readable.specs.Texts.{ending, stored, showAnswer, showLent, madeAnswer, madeLent, packAnswer, packLent, packedEnd, packedTable};
+ghost use Rattle.readable.specs.Texts.{Converts, Shows, Makes, Packs};
 use path_text::reader::Stored;
 use table::Checked;
 
@@ -34,10 +32,10 @@ pub enum Ended {
 
 // Converts the lines one after another into out.
 fn convert_lines(packing: bool, text: &[u8], out: &mut [u8]) -> Ended
-    requires { ⌜ (packing ≡ false → length (now text) ≤ 32768) ⌝ }
-    ensures { λ r. ⌜ (r ≡ ending (lineBy packing) (length (now (out .entry))) 1 0 (lines (now (text .entry)))) × (now (out .exit) ≡ put (now (out .entry)) 0 (stored (lineBy packing) (length (now (out .entry))) 0 (lines (now (text .entry))))) ⌝ }
+    requires { ⌜ (packing ≡ false → length (now text) ≤ maxTableText) ⌝ }
+    ensures { λ r. ⌜ Converts (lineBy packing) (now (text .entry)) (now (out .entry)) (now (out .exit)) r ⌝ }
 {
-    let mut piece = [0u8; 32769];
+    let mut piece = [0u8; readable_lines::MAX_MADE_LINE];
     let mut from = 0;
     let mut at = 0;
     let mut number = 1;
@@ -59,7 +57,7 @@ fn convert_lines(packing: bool, text: &[u8], out: &mut [u8]) -> Ended
 
 // A table text to its readable text.
 pub fn show(table: &[u8], out: &mut [u8]) -> Converted
-    ensures { λ r. ⌜ (r ≡ showAnswer (check (now (table .entry))) (now (table .entry)) (now (out .entry))) × (now (out .exit) ≡ showLent (check (now (table .entry))) (now (table .entry)) (now (out .entry))) ⌝ }
+    ensures { λ r. ⌜ Shows (now (table .entry)) (now (out .entry)) (now (out .exit)) r ⌝ }
 {
     let c = groups::check_table(table);
     if let Checked::Refused { number, line } = c {
@@ -78,7 +76,7 @@ pub fn show(table: &[u8], out: &mut [u8]) -> Converted
 
 // The table that was made goes to out, where it is accepted and there is room.
 fn hand_out(table: &[u8], out: &mut [u8]) -> Converted
-    ensures { λ r. ⌜ (r ≡ madeAnswer (check (now (table .entry))) (now (table .entry)) (now (out .entry))) × (now (out .exit) ≡ madeLent (check (now (table .entry))) (now (table .entry)) (now (out .entry))) ⌝ }
+    ensures { λ r. ⌜ Makes (now (table .entry)) (now (out .entry)) (now (out .exit)) r ⌝ }
 {
     let c = groups::check_table(table);
     if let Checked::Refused { number, line } = c {
@@ -96,9 +94,9 @@ fn hand_out(table: &[u8], out: &mut [u8]) -> Converted
 
 // A readable text to its table text.
 pub fn pack(text: &[u8], out: &mut [u8]) -> Converted
-    ensures { λ r. ⌜ (r ≡ packAnswer (packedEnd (now (text .entry))) (packedTable (now (text .entry))) (now (out .entry))) × (now (out .exit) ≡ packLent (packedEnd (now (text .entry))) (packedTable (now (text .entry))) (now (out .entry))) ⌝ }
+    ensures { λ r. ⌜ Packs (now (text .entry)) (now (out .entry)) (now (out .exit)) r ⌝ }
 {
-    let mut table = [0u8; 32768];
+    let mut table = [0u8; limits::MAX_TABLE_TEXT];
     let e = convert_lines(true, text, &mut table);
     match e {
         Ended::All(n) => hand_out(&table[..n], out),

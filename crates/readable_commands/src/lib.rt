@@ -26,13 +26,13 @@ fn answer(c: Converted, text: &[u8], made: &[u8]) {
 
 pub fn show_table(text: &[u8]) {
     // enough for any table (crates/readable_laws)
-    let mut out = [0u8; 43532];
+    let mut out = [0u8; limits::MAX_READABLE_TEXT];
     let c = readable::show(text, &mut out);
     answer(c, text, &out);
 }
 
 pub fn pack_table(text: &[u8]) {
-    let mut out = [0u8; 32768];
+    let mut out = [0u8; limits::MAX_TABLE_TEXT];
     let c = readable::pack(text, &mut out);
     answer(c, text, &out);
 }

@@ -9,10 +9,12 @@ use borrow.Author.Tests.{eq-eqb, eqb-true, lt-ltb, ltb-true, ltb-false, le-leb, 
 use lib.Dec.{eqb, leb, ltb}
 use lib.ListN.{length, drop, getD, length-drop}
 use lib.Seq.{drop-length}
+use Rattle.limits.specs.Limits.{maxTableText, maxRules, maxShortString, maxString}
 use Rattle.text.specs.Test.{_and_, _or_, if_then_else_, all, any}
 use Rattle.text.specs.Byte.{within, isDigit, isName, isPrint, isStar}
 use Rattle.text.specs.String.{Str, bytes, same, joined}
 use Rattle.text.specs.Frame.{got, Reader, _>>=_, ret, byte, run, string}
+use Rattle.text.specs.Refusal.{clear}
 use Rattle.text.proofs.Tests.{by, clash, both, and-l, and-r, or-false-l, or-false-r, and-left, and-right}
 use Rattle.text.proofs.Frames.{byte-got, byte-unread}
 use Rattle.text.proofs.Codec.{never-got, then-got, got-move}
@@ -192,9 +194,9 @@ plain-then (c ∷ xs) cs f at h r =
     let a = and-l (not (isLetter c) and isPrint c) _ h in
     part-then c (xs ++ cs) f at (c ∷ []) at (plain-part c f at (not-true (isLetter c) (and-l _ _ a))) (one-print c (and-r (not (isLetter c)) _ a)) (plain-then xs cs f at (and-r _ _ h) r)
 
-string-part : (f : Str) (at : ℕ) (v : Str) (u : ℕ) → string f at ≡ got v u → length v ≤ 64 → partOf shown 83 f at ≡ got (quoted v) u
+string-part : (f : Str) (at : ℕ) (v : Str) (u : ℕ) → string f at ≡ got v u → length v ≤ maxString → partOf shown 83 f at ≡ got (quoted v) u
 unfolding partOf shown shownString _>>=_ ret if_then_else_
-string-part f at v u e h = rw (e, le-leb (length v) 64 h)
+string-part f at v u e h = rw (e, le-leb (length v) maxString h)
 
 time-part : (f : Str) (at : ℕ) → length f - at ≡ 8 → partOf shown 84 f at ≡ got (hexText (drop at f)) (length f)
 unfolding partOf shown shownTime if_then_else_
@@ -236,7 +238,7 @@ code-told n k a b f at m u i e x y =
 -- ---- what a line that nothing refuses holds
 
 abbrev Well : Str → Type 0
-Well s = (length s ≤ 64) × (all isPrint s ≡ true)
+Well s = (length s ≤ maxString) × (all isPrint s ≡ true)
 
 unfoldable Fine : Entry → Type 0
 Fine (version v t) = Well v
@@ -244,9 +246,9 @@ Fine (group n) = Well n
 Fine (member m) = Well (m .group) × Well (m .user)
 Fine (rule r) = Well (r .subject) × Well (r .id) × Well (r .origin) × (goodPath (r .path) ≡ true)
 
-short : (s : Str) → unsizedShort s ≡ false → length s ≤ 64
+short : (s : Str) → unsizedShort s ≡ false → length s ≤ maxString
 unfolding unsizedShort
-short s h = let l : length s ≤ 32 = ltb-false 32 (length s) (or-false-r (eqb (length s) 0) _ h) in omega arith
+short s h = let l : length s ≤ maxShortString = ltb-false maxShortString (length s) (or-false-r (eqb (length s) 0) _ h) in omega arith
 
 prints : (s : Str) → stray s ≡ false → all isPrint s ≡ true
 unfolding stray
@@ -256,7 +258,7 @@ faultless : (a b c d : Bool) → a ≡ false → b ≡ false → c ≡ false →
 unfolding _or_
 faultless a b c d x y z w = rw (x, y, z, w)
 
-fine : (b : Earlier) (e : Entry) → refusal b (reads e) ≡ 255 → Fine e
+fine : (b : Earlier) (e : Entry) → refusal b (reads e) ≡ clear → Fine e
 unfolding Fine pastLimit strays misplaces repeats goodPath
 fine b (version v t) h = let c = refusal-clear b (version v t) h in (short v (c .1), prints v (c .2))
 fine b (group n) h = let c = refusal-clear b (group n) h in (sized n (or-false-l _ _ (c .1)), prints n (c .2))
@@ -271,13 +273,13 @@ fine b (rule r) h =
     let o = or-false-l _ _ (or-false-r (unsized (r .subject) or unsizedShort (r .id)) _ l) in
     let s = or-false-l _ _ (c .2) in
     let t = or-false-r (stray (r .subject)) _ s in
-    let ov = or-false-r ((unsized (r .subject) or unsizedShort (r .id)) or (ltb 32 (length (r .origin)) or leb 256 (length (b .ids)))) _ (c .1) in
+    let ov = or-false-r ((unsized (r .subject) or unsizedShort (r .id)) or (ltb maxShortString (length (r .origin)) or leb maxRules (length (b .ids)))) _ (c .1) in
     let sb = or-false-r (stray (r .subject) or (stray (r .id) or stray (r .origin))) _ (c .2) in
     let kt = or-false-r (any (same (r .id)) (b .ids)) _ (c .4) in
     let g : not (overLimit (r .path) or strayByte (r .path) or misplaced (r .path) or keyTwice (r .path)) ≡ true = faultless (overLimit (r .path)) (strayByte (r .path)) (misplaced (r .path)) (keyTwice (r .path)) ov sb (c .3) kt in (
       (sized (r .subject) (or-false-l _ _ si), prints (r .subject) (or-false-l _ _ s)),
       (short (r .id) (or-false-r (unsized (r .subject)) _ si), prints (r .id) (or-false-l _ _ t)),
-      ((let q : length (r .origin) ≤ 32 = ltb-false 32 (length (r .origin)) o in omega arith), prints (r .origin) (or-false-r (stray (r .id)) _ t)),
+      ((let q : length (r .origin) ≤ maxShortString = ltb-false maxShortString (length (r .origin)) o in omega arith), prints (r .origin) (or-false-r (stray (r .id)) _ t)),
       g,
     )
 
@@ -384,21 +386,21 @@ module _ (f : Str) (m : Small f) where
 
 -- ---- each line
 
-pub entry-told : (b : Earlier) (o : Option Entry) → refusal b (framed o) ≡ 255 → (e : Entry) × (o ≡ some e) × (refusal b (reads e) ≡ 255)
+pub entry-told : (b : Earlier) (o : Option Entry) → refusal b (framed o) ≡ clear → (e : Entry) × (o ≡ some e) × (refusal b (reads e) ≡ clear)
 unfolding framed refusal
-entry-told b none h = let z : _≡_ {A = ℕ} 3 255 = h in absurd (omega arith)
+entry-told b none h = let z : _≡_ {A = ℕ} 3 clear = h in absurd (omega arith)
 entry-told b (some e) h = (e, refl, h)
 
-pub frame-told : (b : Earlier) (o : Option Str) → refusal b (decoded o) ≡ 255 → (f : Str) × (o ≡ some f) × (refusal b (framed (entryOf f)) ≡ 255)
+pub frame-told : (b : Earlier) (o : Option Str) → refusal b (decoded o) ≡ clear → (f : Str) × (o ≡ some f) × (refusal b (framed (entryOf f)) ≡ clear)
 unfolding decoded refusal
-frame-told b none h = let z : _≡_ {A = ℕ} 2 255 = h in absurd (omega arith)
+frame-told b none h = let z : _≡_ {A = ℕ} 2 clear = h in absurd (omega arith)
 frame-told b (some f) h = (f, refl, h)
 
 shown-line : (l f s : Str) → frame l ≡ some f → shownFrame f ≡ some s → shownLine l ≡ some (s ++ (10 ∷ []))
 unfolding shownLine bind lined
 shown-line l f s e i = rw (e, i)
 
-pub line-shows : (b : Earlier) (l : Str) → refusal b (lineOf l) ≡ 255 → (r : Str) × (shownLine l ≡ some r)
+pub line-shows : (b : Earlier) (l : Str) → refusal b (lineOf l) ≡ clear → (r : Str) × (shownLine l ≡ some r)
 unfolding lineOf
 line-shows b l h =
     let a = frame-told b (frame l) h in
@@ -412,7 +414,7 @@ shows-all : (ls : List Str) (n : ℕ) (b : Earlier) → judge n b ls ≡ Accepte
 unfolding judge unless ending onward if_then_else_
 shows-all [] n b j room m at l e = let z : _≡_ {A = ℕ} 0 1 = cc in absurd (omega arith)
 shows-all (x ∷ ls) n b j room m at l e =
-    by (eqb (refusal b (lineOf x)) 255)
+    by (eqb (refusal b (lineOf x)) clear)
     (λ u. let r = line-shows b x (eqb-true _ _ u) in
     let j′ : judge (n + 1) (after b (lineOf x)) ls ≡ Accepted = rw u at j in
     by (leb (length (r .0)) (room - at))
@@ -424,7 +426,7 @@ shows-all (x ∷ ls) n b j room m at l e =
 pub accepted-shows : (t : Str) → check t ≡ Accepted → (room l : ℕ) → ending shownLine room 1 0 (lines t) ≡ ended.Unread l → ⊥
 unfolding check if_then_else_
 accepted-shows t e room l =
-    by (ltb 32768 (length t))
+    by (ltb maxTableText (length t))
     (λ u. let z : Refused 1 0 ≡ Accepted = rw u at e in let y : _≡_ {A = ℕ} 0 1 = cc in absurd (omega arith))
     (λ u. by (eqb (length t) 0)
     (λ v. let z : Refused 4 1 ≡ Accepted = rw (u, v) at e in let y : _≡_ {A = ℕ} 0 1 = cc in absurd (omega arith))

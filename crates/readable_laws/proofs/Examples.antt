@@ -25,5 +25,6 @@ unfolding shownLine bind lined frame nonempty pairs pair shownFrame printed whol
 member-line = refl
 
 rule-line : shownLine (bytes "04010101016701720001016101016b012a" ++ (10 ∷ [])) ≡ some (bytes "rule permit read group [g] id [r] origin [] /a[k=*]" ++ (10 ∷ []))
-unfolding shownLine bind lined frame nonempty pairs pair shownFrame printed whole formBy parts partOf shown shownString shownCode shownPath ofRest shownPlain rest quoted escaped joined string byte run times _>>=_ ret if_then_else_ all any twice _and_ _or_ textFor spells.readBytes spells.whole path element key goodPath overLimit elemOver keyOver unsized strayByte elemStray keyStray outsideName outsideValue misplaced elemMisplaced keyMisplaced halfWild keyTwice same pathText elemText keyText
+unfolding shownLine bind lined frame nonempty pairs pair shownFrame printed whole formBy parts partOf shown shownString shownCode shownPath ofRest shownPlain rest quoted escaped joined string byte run times _>>=_ ret if_then_else_
+    all any twice _and_ _or_ textFor spells.readBytes spells.whole path element key goodPath overLimit elemOver keyOver unsized strayByte elemStray keyStray outsideName outsideValue misplaced elemMisplaced keyMisplaced halfWild keyTwice same pathText elemText keyText
 rule-line = refl

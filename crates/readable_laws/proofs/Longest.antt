@@ -1,4 +1,4 @@
--- How long the readable text of an accepted table can be: at most 43,532 bytes. A byte of a frame is two digits of the table's text, so each line is compared with the
+-- How long the readable text of an accepted table can be: at most `maxReadableText` bytes. A byte of a frame is two digits of the table's text, so each line is compared with the
 -- readable line that it is shown as, and the limits on groups, members and rules bound by how much all readable lines together are longer.
 use mathlib.Core.Path.{_≡_, refl, sym, ap, _∙_}
 use mathlib.Core.Bool.{true, false}
@@ -9,9 +9,11 @@ use native.Mathlib.Omega.{arith}
 use borrow.Author.Tests.{eqb-true, ltb-true, ltb-false, le-leb, leb-false}
 use lib.Dec.{eqb, leb, ltb}
 use lib.ListN.{length, drop, getD, length-append, length-drop}
+use Rattle.limits.specs.Limits.{maxTableText, maxGroups, maxMembers, maxRules, maxShortString, maxString, maxReadableText}
 use Rattle.text.specs.Test.{_or_, if_then_else_}
 use Rattle.text.specs.String.{Str, bytes, joined}
 use Rattle.text.specs.Frame.{got, unread, _>>=_, ret, byte, run, string, stringBytes}
+use Rattle.text.specs.Refusal.{clear}
 use Rattle.text.proofs.Tests.{by, clash, or-false-l, or-false-r}
 use Rattle.path.specs.Faults.{unsized, overLimit}
 use Rattle.text.proofs.Codec.{never-got, then-got, got-move, byte-took, string-took}
@@ -63,7 +65,7 @@ string-longer f at w t e =
     let a = then-got (string f at) _ e in
     let k = string-took f at (a .0) (a .1) (a .2) in
     let l : length f - at ≡ length (a .0) + 1 + (length f - a .1) = sym (length-drop at f) ∙ ap length (k .same) ∙ length-append (stringBytes (a .0)) (drop (a .1) f) ∙ omega (arith, length-drop (a .1) f) in
-    by (leb (length (a .0)) 64)
+    by (leb (length (a .0)) maxString)
     (λ u. got-move (λ z q. Longer 0 z at q) (rw u at (a .3)) (omega (arith, l, k .fits, length-append (joined escaped (a .0)) (93 ∷ []), value-length (a .0))))
     (λ u. never-got refl (rw u at (a .3)))
 
@@ -187,32 +189,32 @@ line-longer l f r e i j k =
 
 -- by how much the readable lines that can still follow are longer
 unfoldable spare : Earlier → ℕ
-spare b = (if eqb (b .kind) 0 then 12 else 0) + 4 * (64 - length (b .groups)) + 6 * (512 - length (b .members)) + 29 * (256 - length (b .ids))
+spare b = (if eqb (b .kind) 0 then 12 else 0) + 4 * (maxGroups - length (b .groups)) + 6 * (maxMembers - length (b .members)) + 29 * (maxRules - length (b .ids))
 
-spends : (b : Earlier) (e : Entry) → refusal b (reads e) ≡ 255 → slack e + spare (with b e) ≤ spare b
+spends : (b : Earlier) (e : Entry) → refusal b (reads e) ≡ clear → slack e + spare (with b e) ≤ spare b
 unfolding slack spare with pastLimit kindOf outOfOrder if_then_else_ _or_
 spends b (version v t) h =
     let c = refusal-clear b (version v t) h in
     by (eqb (b .kind) 0) (λ u. rw u (omega arith)) (λ u. let z : (true or ltb 1 (b .kind)) ≡ false = rw u at (c .0) in clash refl z)
 spends b (group n) h =
     let c = refusal-clear b (group n) h in
-    let l : length (b .groups) < 64 = leb-false 64 _ (or-false-r (unsized n) _ (c .1)) in
+    let l : length (b .groups) < maxGroups = leb-false maxGroups _ (or-false-r (unsized n) _ (c .1)) in
     omega (arith, length-append (b .groups) (n ∷ []))
 spends b (member m) h =
     let c = refusal-clear b (member m) h in
-    let l : length (b .members) < 512 = leb-false 512 _ (or-false-r (unsized (m .group) or unsized (m .user)) _ (c .1)) in
+    let l : length (b .members) < maxMembers = leb-false maxMembers _ (or-false-r (unsized (m .group) or unsized (m .user)) _ (c .1)) in
     omega (arith, length-append (b .members) (m ∷ []))
 spends b (rule r) h =
     let c = refusal-clear b (rule r) h in
     let o = or-false-r (unsized (r .subject) or unsizedShort (r .id)) _ (or-false-l _ (overLimit (r .path)) (c .1)) in
-    let l : length (b .ids) < 256 = leb-false 256 _ (or-false-r (ltb 32 (length (r .origin))) _ o) in
+    let l : length (b .ids) < maxRules = leb-false maxRules _ (or-false-r (ltb maxShortString (length (r .origin))) _ o) in
     omega (arith, length-append (b .ids) (r .id ∷ []))
 
 after-with : (b : Earlier) (l f : Str) (e : Entry) → frame l ≡ some f → entryOf f ≡ some e → after b (lineOf l) ≡ with b e
 unfolding after lineOf decoded framed
 after-with b l f e i j = rw (i, j)
 
-line-spends : (b : Earlier) (l : Str) → refusal b (lineOf l) ≡ 255 → (r : Str) × (shownLine l ≡ some r) × (length r + spare (after b (lineOf l)) ≤ length l + spare b)
+line-spends : (b : Earlier) (l : Str) → refusal b (lineOf l) ≡ clear → (r : Str) × (shownLine l ≡ some r) × (length r + spare (after b (lineOf l)) ≤ length l + spare b)
 line-spends b l h =
     let a = frame-told b (frame l) (unfold lineOf in h) in
     let c = entry-told b (entryOf (a .0)) (a .2) in
@@ -225,7 +227,7 @@ fits-all : (ls : List Str) (n : ℕ) (b : Earlier) → judge n b ls ≡ Accepted
 unfolding judge unless ending onward if_then_else_
 fits-all [] n b j room m at h e = let z : _≡_ {A = ℕ} 0 1 = cc in absurd (omega arith)
 fits-all (l ∷ ls) n b j room m at h e =
-    by (eqb (refusal b (lineOf l)) 255)
+    by (eqb (refusal b (lineOf l)) clear)
     (λ u. let r = line-spends b l (eqb-true _ _ u) in
     let j′ : judge (n + 1) (after b (lineOf l)) ls ≡ Accepted = rw u at j in
     let y : length (joint (l ∷ ls)) ≡ length l + length (joint ls) = ap length (joint-cons l ls) ∙ length-append l (joint ls) in
@@ -233,15 +235,15 @@ fits-all (l ∷ ls) n b j room m at h e =
     fits-all ls (n + 1) (after b (lineOf l)) j′ room (m + 1) (at + length (r .0)) (omega (arith, r .2)) (rw (r .1, le-leb _ _ v) at e))
     (λ u. let z : Refused (refusal b (lineOf l)) n ≡ Accepted = rw u at j in let y : _≡_ {A = ℕ} 0 1 = cc in absurd (omega arith))
 
--- `show` of an accepted table never lacks room in 43,532 bytes
-pub accepted-fits : (t : Str) → check t ≡ Accepted → (room : ℕ) → 43532 ≤ room → ending shownLine room 1 0 (lines t) ≡ ended.Full → ⊥
+-- `show` of an accepted table never lacks this room
+pub accepted-fits : (t : Str) → check t ≡ Accepted → (room : ℕ) → maxReadableText ≤ room → ending shownLine room 1 0 (lines t) ≡ ended.Full → ⊥
 unfolding check if_then_else_
 accepted-fits t e room h =
-    by (ltb 32768 (length t))
+    by (ltb maxTableText (length t))
     (λ u. let z : Refused 1 0 ≡ Accepted = rw u at e in let y : _≡_ {A = ℕ} 0 1 = cc in absurd (omega arith))
     (λ u. by (eqb (length t) 0)
     (λ v. let z : Refused 4 1 ≡ Accepted = rw (u, v) at e in let y : _≡_ {A = ℕ} 0 1 = cc in absurd (omega arith))
-    (λ v. let l : length t ≤ 32768 = ltb-false _ _ u in
+    (λ v. let l : length t ≤ maxTableText = ltb-false _ _ u in
     let k : length (joint (lines t)) ≡ length t = ap length (lines-text t) in
-    let s : spare first ≡ 10764 = (unfold spare first if_then_else_ in refl) in
+    let s : spare first ≡ maxReadableText - maxTableText = (unfold spare first if_then_else_ in refl) in
     fits-all (lines t) 1 first (rw (u, v) at e) room 1 0 (omega arith)))

@@ -6,6 +6,7 @@ use native.Mathlib.Omega.{arith}
 use borrow.Author.Tests.{le-leb}
 use lib.Dec.{leb}
 use lib.ListN.{length, take}
+use Rattle.limits.specs.Limits.{maxReadableText}
 use Rattle.text.specs.Test.{if_then_else_}
 use Rattle.text.specs.String.{Str}
 use Rattle.text.specs.Fill.{put}
@@ -82,8 +83,8 @@ text-returns s out out′ n e h t i =
     let q : stored shownLine (length out′) 0 (lines t) ≡ s = ap (λ (z : Str). stored shownLine (length out′) 0 (lines z)) y ∙ r .1 in
     (rw (c, p), rw (c, q))
 
--- an accepted table is shown wherever there is room for 43,532 bytes
-pub accepted-answer : (t : Str) (out : List ℕ) → check t ≡ checked.Accepted → 43532 ≤ length out → (n : ℕ) × (showAnswer (check t) t out ≡ Length n)
+-- an accepted table is shown wherever there is this room
+pub accepted-answer : (t : Str) (out : List ℕ) → check t ≡ checked.Accepted → maxReadableText ≤ length out → (n : ℕ) × (showAnswer (check t) t out ≡ Length n)
 unfolding showAnswer
 accepted-answer t out c h = go (ending shownLine (length out) 1 0 (lines t)) refl
   where

@@ -9,6 +9,7 @@ use borrow.Author.Tests.{eq-eqb, ne-eqb, eqb-true, lt-ltb, ltb-true, le-leb, leb
 use lib.Dec.{eqb, leb, ltb}
 use lib.ListN.{length, take, drop, getD, length-append, length-drop, take-append-drop}
 use lib.Seq.{take-at, drop-at, drop-drop, drop-length}
+use Rattle.limits.specs.Limits.{maxString}
 use Rattle.text.specs.Test.{_and_, if_then_else_}
 use Rattle.text.specs.String.{Str, same, joined}
 use Rattle.text.specs.Frame.{got, unread, _>>=_, ret, byte, part, string, stringBytes}
@@ -42,35 +43,35 @@ value-few (suc n) s at v t e =
     let b = then-got (value n s (a .1)) _ (a .3) in
     got-move (λ x q. length x ≤ suc n) (b .3) (let h = value-few n s (a .1) (b .0) (b .1) (b .2) in omega arith))
 
-shown-gives : (v : Str) → length v ≤ 64 → (f : Str) (k : ℕ) (more : Str) → drop k f ≡ stringBytes v ++ more → Gives (shownString f k) f (quoted v) more
+shown-gives : (v : Str) → length v ≤ maxString → (f : Str) (k : ℕ) (more : Str) → drop k f ≡ stringBytes v ++ more → Gives (shownString f k) f (quoted v) more
 unfolding shownString _>>=_ ret if_then_else_
-shown-gives v h f k more i = then-gives (string f k) _ f v _ more more (string-gives f k v more i) (λ p j. (p, rw (le-leb (length v) 64 h), j))
+shown-gives v h f k more i = then-gives (string f k) _ f v _ more more (string-gives f k v more i) (λ p j. (p, rw (le-leb (length v) maxString h), j))
 
-packed-gives : (v : Str) → length v ≤ 64 → (s : Str) (k : ℕ) (more : Str) → drop k s ≡ quoted v ++ more → Gives (packedString s k) s (stringBytes v) more
+packed-gives : (v : Str) → length v ≤ maxString → (s : Str) (k : ℕ) (more : Str) → drop k s ≡ quoted v ++ more → Gives (packedString s k) s (stringBytes v) more
 unfolding packedString _>>=_ ret quoted
 packed-gives v h s k more i =
     let j : drop k s ≡ 91 ∷ (joined escaped v ++ 93 ∷ more) = i ∙ ap (λ (z : Str). 91 ∷ z) (append-assoc (joined escaped v) (93 ∷ []) more) in
     then-gives (literal 91 s k) _ s 91 _ (joined escaped v ++ 93 ∷ more) more (literal-gives s k 91 _ j)
-    (λ p l. then-gives (value 64 s p) _ s v _ more more (value-gives v 64 s p more h l) (λ t m. (t, refl, m)))
+    (λ p l. then-gives (value maxString s p) _ s v _ more more (value-gives v maxString s p more h l) (λ t m. (t, refl, m)))
 
-shown-took : (v : Str) (s : Str) (at p t : ℕ) (b : ℕ) → literal 91 s at ≡ got b p → value 64 s p ≡ got v t → Took s at (quoted v) t
+shown-took : (v : Str) (s : Str) (at p t : ℕ) (b : ℕ) → literal 91 s at ≡ got b p → value maxString s p ≡ got v t → Took s at (quoted v) t
 unfolding quoted
-shown-took v s at p t b e i = took-both s at p t (91 ∷ []) (joined escaped v ++ 93 ∷ []) (literal-took s at 91 b p (omega arith) e) (value-took 64 s p v t i)
+shown-took v s at p t b e i = took-both s at p t (91 ∷ []) (joined escaped v ++ 93 ∷ []) (literal-took s at 91 b p (omega arith) e) (value-took maxString s p v t i)
 
 module _ (P : Str → Type 0) where
   pub string-packed : Back P packedString shownString
   unfolding packedString _>>=_ ret
   string-packed s at b t x l e =
       let a = then-got (literal 91 s at) _ e in
-      let c = then-got (value 64 s (a .1)) _ (a .3) in
+      let c = then-got (value maxString s (a .1)) _ (a .3) in
       got-move (λ d u. (w : Str) × Took s at w u × ((f : Str) (k : ℕ) (more : Str) → drop k f ≡ d ++ more → Gives (shownString f k) f w more)) (c .3)
-      (quoted (c .0), shown-took (c .0) s at (a .1) (c .1) (a .0) (a .2) (c .2), shown-gives (c .0) (value-few 64 s (a .1) (c .0) (c .1) (c .2)))
+      (quoted (c .0), shown-took (c .0) s at (a .1) (c .1) (a .0) (a .2) (c .2), shown-gives (c .0) (value-few maxString s (a .1) (c .0) (c .1) (c .2)))
 
   pub string-shown : Back P shownString packedString
   unfolding shownString _>>=_ ret if_then_else_ unknown
   string-shown f at w t x l e =
       let a = then-got (string f at) _ e in
-      by (leb (length (a .0)) 64)
+      by (leb (length (a .0)) maxString)
       (λ u. got-move (λ d z. (b : Str) × Took f at b z × ((s : Str) (k : ℕ) (more : Str) → drop k s ≡ d ++ more → Gives (packedString s k) s b more)) (rw u at (a .3))
       (stringBytes (a .0), string-took f at (a .0) (a .1) (a .2), packed-gives (a .0) (leb-true _ _ u)))
       (λ u. never-got refl (rw u at (a .3)))

@@ -9,9 +9,11 @@ use borrow.Author.Tests.{ne-eqb, eqb-true, ltb-true, ltb-false, leb-true, le-leb
 use lib.Dec.{eqb, leb, ltb}
 use lib.ListN.{length, take, drop, getD, length-append, take-append-drop}
 use lib.Seq.{drop-cons, drop-length}
+use Rattle.limits.specs.Limits.{maxTableText}
 use Rattle.text.specs.Test.{if_then_else_, all}
 use Rattle.text.specs.Byte.{isPrint}
 use Rattle.text.specs.String.{Str, joined}
+use Rattle.text.specs.Refusal.{clear}
 use Rattle.text.proofs.Tests.{by, and-l, and-r, and-left}
 use Rattle.line.specs.Lines.{lines, onto, frame}
 use Rattle.table.specs.Refusal.{decoded, lineOf, Earlier, refusal, first, after}
@@ -135,12 +137,12 @@ module _ (g g′ : Str → Option Str) (Well : List Str → Type 0) (well-tail :
       )
 
 -- the readable text of a table packs to that table
-pub show-then-pack : (t : Str) (room n : ℕ) → length t ≤ 32768 → ending shownLine room 1 0 (lines t) ≡ ended.All n
+pub show-then-pack : (t : Str) (room n : ℕ) → length t ≤ maxTableText → ending shownLine room 1 0 (lines t) ≡ ended.All n
     → (packedEnd (stored shownLine room 0 (lines t)) ≡ ended.All (length t)) × (packedTable (stored shownLine room 0 (lines t)) ≡ t)
 unfolding packedEnd packedTable
 show-then-pack t room n h e =
     let k : length (joint (lines t)) ≡ length t = ap length (lines-text t) in
-    let r = lines-back shownLine packedLine (λ ls. Unit {0}) (λ l ls x. x) (λ l r more i x. (shown-first l r more i, line-show-pack l r i)) (lines t) room 1 0 n e _ 32768 1 0 (omega arith) in
+    let r = lines-back shownLine packedLine (λ ls. Unit {0}) (λ l ls x. x) (λ l r more i x. (shown-first l r more i, line-show-pack l r i)) (lines t) room 1 0 n e _ maxTableText 1 0 (omega arith) in
     let y : 0 + length (joint (lines t)) ≡ length t = omega arith in
     (r .0 ∙ ap ended.All y, r .1 ∙ lines-text t)
 
@@ -225,17 +227,17 @@ unfolding judge unless lineOf
 judge-framed [] n b e = no-line
 judge-framed (l ∷ ls) n b e = go (λ m c i. judge-framed ls m c i) (frame l) refl e
   where
-    go : ((m : ℕ) (c : Earlier) → judge m c ls ≡ Accepted → Framed ls) → (o : Option Str) → frame l ≡ o → (if eqb (refusal b (decoded o)) 255 then judge (n + 1) (after b (decoded o)) ls else Refused (refusal b (decoded o)) n) ≡ Accepted → Framed (l ∷ ls)
+    go : ((m : ℕ) (c : Earlier) → judge m c ls ≡ Accepted → Framed ls) → (o : Option Str) → frame l ≡ o → (if eqb (refusal b (decoded o)) clear then judge (n + 1) (after b (decoded o)) ls else Refused (refusal b (decoded o)) n) ≡ Accepted → Framed (l ∷ ls)
     go ih none j k = let z : Refused 2 n ≡ Accepted = (unfold decoded refusal if_then_else_ in k) in let y : _≡_ {A = ℕ} 0 1 = cc in absurd (omega arith)
     go ih (some f) j k =
-        by (eqb (refusal b (decoded (some f))) 255)
+        by (eqb (refusal b (decoded (some f))) clear)
         (λ u. a-line f j (ih (n + 1) (after b (decoded (some f))) (unfold if_then_else_ in rw u at k)))
         (λ u. let z : Refused (refusal b (decoded (some f))) n ≡ Accepted = (unfold if_then_else_ in rw u at k) in let y : _≡_ {A = ℕ} 0 1 = cc in absurd (omega arith))
 
 check-framed : (t : Str) → check t ≡ Accepted → Framed (lines t)
 unfolding check if_then_else_
 check-framed t e =
-    by (ltb 32768 (length t))
+    by (ltb maxTableText (length t))
     (λ u. let z : Refused 1 0 ≡ Accepted = rw u at e in let y : _≡_ {A = ℕ} 0 1 = cc in absurd (omega arith))
     (λ u. by (eqb (length t) 0)
     (λ v. let z : Refused 4 1 ≡ Accepted = rw (u, v) at e in let y : _≡_ {A = ℕ} 0 1 = cc in absurd (omega arith))
@@ -247,6 +249,6 @@ pub pack-then-show : (s : Str) (n room : ℕ) → packedEnd s ≡ ended.All n �
 unfolding packedEnd packedTable
 pack-then-show s n room e c h =
     let k : length (joint (lines s)) ≡ length s = ap length (lines-text s) in
-    let r = lines-back packedLine shownLine Framed framed-tail (λ r l more i x. let p = packed-first r l more i in (p, (let y = framed-head l (lines more) (rw p at x) in line-pack-show r l (y .0) i (y .1)))) (lines s) 32768 1 0 n e (check-framed _ c) room 1 0 (omega arith) in
+    let r = lines-back packedLine shownLine Framed framed-tail (λ r l more i x. let p = packed-first r l more i in (p, (let y = framed-head l (lines more) (rw p at x) in line-pack-show r l (y .0) i (y .1)))) (lines s) maxTableText 1 0 n e (check-framed _ c) room 1 0 (omega arith) in
     let y : 0 + length (joint (lines s)) ≡ length s = omega arith in
     (r .0 ∙ ap ended.All y, r .1 ∙ lines-text s)

@@ -9,6 +9,7 @@ use native.Mathlib.Omega.{arith}
 use borrow.Author.Tests.{eq-eqb, ne-eqb}
 use lib.ListN.{length, take, drop, getD, set, length-append, drop-of-length-le}
 use lib.Seq.{drop-cons}
+use Rattle.limits.specs.Limits.{maxReadableLine}
 use Rattle.text.specs.Test.{if_then_else_, all}
 use Rattle.text.specs.Byte.{isPrint}
 use Rattle.text.specs.String.{Str, bytes}
@@ -21,7 +22,7 @@ use Rattle.table.specs.Frame.{unknown, whole}
 use Rattle.readable_parts.specs.Parts.{Parts, partOf}
 use Rattle.readable_lines.specs.Form.{parts, formBy, printed, shownFrame, kindBy, packedFrame}
 use Rattle.readable_parts.specs.Steps.{longest, Puts, puts}
-use Rattle.readable_lines.specs.Steps.{partsBy, roomFor, Fills, fills}
+use Rattle.readable_lines.specs.Steps.{maxMadeFrame, partsBy, roomFor, Fills, fills}
 use Rattle.readable_parts.proofs.Stored.{put-to, put-not, front}
 
 -- ---- parts
@@ -128,19 +129,19 @@ module _ (p : Parts) (k : ℕ) (s : Str) (at : ℕ) where
   unfolding formBy if_then_else_ unknown
   kind-none a b c d = rw (ne-eqb k 1 a, ne-eqb k 2 b, ne-eqb k 3 c, ne-eqb k 4 d)
 
-pub room-version : roomFor (bytes "version S time T") ≤ 14000
+pub room-version : roomFor (bytes "version S time T") ≤ maxReadableLine
 unfolding roomFor longest if_then_else_
 room-version = omega arith
 
-pub room-group : roomFor (bytes "group S") ≤ 14000
+pub room-group : roomFor (bytes "group S") ≤ maxReadableLine
 unfolding roomFor longest if_then_else_
 room-group = omega arith
 
-pub room-member : roomFor (bytes "member S S") ≤ 14000
+pub room-member : roomFor (bytes "member S S") ≤ maxReadableLine
 unfolding roomFor longest if_then_else_
 room-member = omega arith
 
-pub room-rule : roomFor (bytes "rule A M K S id S origin S P") ≤ 14000
+pub room-rule : roomFor (bytes "rule A M K S id S origin S P") ≤ maxReadableLine
 unfolding roomFor longest if_then_else_
 room-rule = omega arith
 
@@ -154,7 +155,7 @@ module _ (f : Str) where
       go [] h = unfold shownFrame formBy if_then_else_ unknown whole printed in refl
       go (x ∷ g) h = absurd (omega arith)
 
-  module _ (d d′ : List ℕ) (r : Stored) (e : Puts 14000 (formBy (partsBy false) (getD f 0 0)) f 1 d 0 d′ r) where
+  module _ (d d′ : List ℕ) (r : Stored) (e : Puts maxReadableLine (formBy (partsBy false) (getD f 0 0)) f 1 d 0 d′ r) where
     pub frame-unread : r ≡ Unread → shownFrame f ≡ none
     unfolding shownFrame whole printed partsBy if_then_else_
     frame-unread g = rw (put-not e g)
@@ -175,7 +176,7 @@ module _ (f : Str) where
       unfolding shownFrame whole printed partsBy if_then_else_
       frame-is n b = let a = rw frame-front at b in rw (put-to e g .1, eq-eqb _ _ n, a)
 
-      pub frame-short : end ≤ 14000
+      pub frame-short : end ≤ maxReadableLine
       frame-short = let u = put-to e g in omega (arith, u .2 .ends, u .3)
 
       pub frame-fills : next ≡ length f → all isPrint (take end d′) ≡ true → Fills (shownFrame f) d d′ (To next end)
@@ -195,7 +196,7 @@ module _ (s : Str) where
       go [] h = unfold packedFrame all kindBy formBy if_then_else_ unknown whole in refl
       go (x ∷ g) h = absurd (omega arith)
 
-  module _ (a : all isPrint s ≡ true) (k : ℕ) (i : k ≡ kindBy (getD s 0 0)) (d d′ : List ℕ) (r : Stored) (e : Puts 14000 (formBy (partsBy true) k) s 0 d 1 d′ r) where
+  module _ (a : all isPrint s ≡ true) (k : ℕ) (i : k ≡ kindBy (getD s 0 0)) (d d′ : List ℕ) (r : Stored) (e : Puts maxReadableLine (formBy (partsBy true) k) s 0 d 1 d′ r) where
     pub line-unread : r ≡ Unread → packedFrame s ≡ none
     unfolding packedFrame whole partsBy if_then_else_
     line-unread g = rw (a, ← i, put-not e g)
@@ -209,7 +210,7 @@ module _ (s : Str) where
       unfolding packedFrame whole partsBy if_then_else_
       line-is n = rw (a, ← i, put-to e g .1, eq-eqb _ _ n)
 
-      pub line-fills : 16384 ≤ length d → next ≡ length s → Fills (packedFrame s) d (set d′ 0 k) (To next end)
+      pub line-fills : maxMadeFrame ≤ length d → next ≡ length s → Fills (packedFrame s) d (set d′ 0 k) (To next end)
       line-fills l n =
           let u = put-to e g in
           rw (line-is n) (fills (wrote-before d 0 k (u .0) d′ end (omega (arith, u .3)) (u .2)) (omega (arith, u .2 .ends, u .3)))

@@ -15,17 +15,17 @@ use Rattle.text.specs.Frame.{part}
 use Rattle.text.specs.Fill.{put, Wrote}
 use Rattle.text.proofs.Tests.{by}
 use Rattle.text.proofs.Filling.{wrote-long, wrote-more, wrote-byte}
+use Rattle.text_search.specs.Search.{until, is}
 use Rattle.line.specs.Lines.{lines, onto, digits, firstLine}
 use Rattle.line.specs.declared.Line.{Line}
 use Rattle.line.specs.declared.Line.the-variants.{Frame, Bad}
 use Rattle.line.proofs.FirstLine.{Read, line-read, line-unhex}
-use Rattle.path_text.specs.TextReader.{upTo}
 use Rattle.path_text.specs.declared.reader.Stored.{Stored}
 use Rattle.path_text.specs.declared.reader.Stored.the-variants.{To, Unread}
 use Rattle.readable_parts.specs.Parts.{hexText}
 use Rattle.readable_lines.specs.Form.{shownFrame, packedFrame}
 use Rattle.readable_lines.specs.Lines.{lined, unlined, shownLine, packedLine}
-use Rattle.readable_lines.specs.Steps.{Fills, Lays, lays, fails}
+use Rattle.readable_lines.specs.Steps.{maxMadeFrame, maxMadeLine, Fills, Lays, lays, fails}
 use Rattle.readable_parts.proofs.Stored.{front}
 use Rattle.readable_lines.proofs.Stored.{filled-to, filled-not}
 use Rattle.readable_parts.proofs.Digits.{hex-length}
@@ -33,8 +33,8 @@ use Rattle.readable_parts.proofs.Digits.{hex-length}
 -- ---- where a line ends
 
 -- a line with its LF, and the lines after it
-ended-line : (s : Str) → upTo 10 10 s < length s → lines s ≡ (take (upTo 10 10 s) s ++ (10 ∷ [])) ∷ lines (drop (suc (upTo 10 10 s)) s)
-unfolding lines onto upTo if_then_else_
+ended-line : (s : Str) → until (is 10) s < length s → lines s ≡ (take (until (is 10) s) s ++ (10 ∷ [])) ∷ lines (drop (suc (until (is 10) s)) s)
+unfolding lines onto until if_then_else_
 ended-line [] h = absurd (omega arith)
 ended-line (x ∷ s) h =
     by (eqb x 10)
@@ -42,14 +42,14 @@ ended-line (x ∷ s) h =
     (λ u. let h′ = rw u at h in let i = ended-line s (omega arith) in rw (u, i))
 
 -- no byte is an LF
-unended : (s : Str) → length s ≤ upTo 10 10 s → (i : ℕ) → i < length s → eqb (getD s i 0) 10 ≡ false
-unfolding upTo if_then_else_
+unended : (s : Str) → length s ≤ until (is 10) s → (i : ℕ) → i < length s → eqb (getD s i 0) 10 ≡ false
+unfolding until if_then_else_
 unended [] h i l = absurd (omega arith)
 unended (x ∷ s) h zero l = by (eqb x 10) (λ u. let h′ = rw u at h in absurd (omega arith)) (λ u. u)
 unended (x ∷ s) h (suc i) l = by (eqb x 10) (λ u. let h′ = rw u at h in absurd (omega arith)) (λ u. let h′ = rw u at h in unended s (omega arith) i (omega arith))
 
-unended-line : (s : Str) → 0 < length s → length s ≤ upTo 10 10 s → lines s ≡ s ∷ []
-unfolding lines onto upTo if_then_else_
+unended-line : (s : Str) → 0 < length s → length s ≤ until (is 10) s → lines s ≡ s ∷ []
+unfolding lines onto until if_then_else_
 unended-line [] z h = absurd (omega arith)
 unended-line (x ∷ []) z h = by (eqb x 10) (λ u. let h′ = rw u at h in absurd (omega arith)) (λ u. rw u)
 unended-line (x ∷ y ∷ s) z h =
@@ -62,7 +62,7 @@ unlined-line x =
     let l : length (x ++ (10 ∷ [])) - 1 ≡ length x = omega (arith, length-append x (10 ∷ [])) in
     rw (l, getD-append-seam x 10 [] 0, take-at x (10 ∷ []) (length x) refl)
 
-unlined-none : (s : Str) → 0 < length s → length s ≤ upTo 10 10 s → unlined s ≡ none
+unlined-none : (s : Str) → 0 < length s → length s ≤ until (is 10) s → unlined s ≡ none
 unfolding unlined if_then_else_
 unlined-none s z h = rw (unended s h (length s - 1) (omega arith))
 
@@ -92,8 +92,8 @@ module _ (text : Str) (from : ℕ) (i : from < length text) (r : Line) (e : r �
       unfolding lined
       show-unread h = fails (told .first) (is-shown none (filled-not f h))
 
-      module _ (n end : ℕ) (h : q ≡ To n end) (l : 32769 ≤ length d) where
-        pub show-room : (end < length d′) × (end < 32769)
+      module _ (n end : ℕ) (h : q ≡ To n end) (l : maxMadeLine ≤ length d) where
+        pub show-room : (end < length d′) × (end < maxMadeLine)
         show-room =
             let u = filled-to f h in
             let k : length d′ ≡ length d = wrote-long d 0 (u .0) d′ end (u .2) (omega (arith, u .2 .ends, u .3)) in
@@ -116,13 +116,13 @@ module _ (text : Str) (from : ℕ) (i : from < length text) (r : Line) (e : r �
 
 -- ---- a readable line
 
-module _ (text : Str) (from : ℕ) (i : from < length text) (stop : ℕ) (e : stop ≡ from + upTo 10 10 (drop from text)) where
+module _ (text : Str) (from : ℕ) (i : from < length text) (stop : ℕ) (e : stop ≡ from + until (is 10) (drop from text)) where
   pub pack-open : length text ≤ stop → {d d′ : List ℕ} → Lays packedLine text from d d′ Unread
   unfolding packedLine lined bind
   pack-open h =
       let s = drop from text in
       let z : 0 < length s = omega (arith, length-drop from text) in
-      let k : length s ≤ upTo 10 10 s = omega (arith, length-drop from text) in
+      let k : length s ≤ until (is 10) s = omega (arith, length-drop from text) in
       fails (unended-line s z k) (rw (unlined-none s z k))
 
   module _ (l : stop < length text) where
@@ -131,9 +131,9 @@ module _ (text : Str) (from : ℕ) (i : from < length text) (stop : ℕ) (e : st
 
     pack-first : lines (drop from text) ≡ (body ++ (10 ∷ [])) ∷ lines (drop (stop + 1) text)
     pack-first =
-        let k : stop - from ≡ upTo 10 10 (drop from text) = omega arith in
-        let m : from + suc (upTo 10 10 (drop from text)) ≡ stop + 1 = omega arith in
-        ended-line (drop from text) (omega (arith, length-drop from text)) ∙ rw (k, drop-drop (suc (upTo 10 10 (drop from text))) from text, m)
+        let k : stop - from ≡ until (is 10) (drop from text) = omega arith in
+        let m : from + suc (until (is 10) (drop from text)) ≡ stop + 1 = omega arith in
+        ended-line (drop from text) (omega (arith, length-drop from text)) ∙ rw (k, drop-drop (suc (until (is 10) (drop from text))) from text, m)
 
     is-packed : (o : Option Str) → packedFrame body ≡ o → packedLine (body ++ (10 ∷ [])) ≡ lined (Option·map hexText o)
     unfolding packedLine bind
@@ -144,15 +144,15 @@ module _ (text : Str) (from : ℕ) (i : from < length text) (stop : ℕ) (e : st
       unfolding lined
       pack-unread h = fails pack-first (is-packed none (filled-not f h))
 
-      module _ (n end : ℕ) (h : q ≡ To n end) (d : List ℕ) (w : 32769 ≤ length d) where
-        pub pack-end : end ≤ 14001
+      module _ (n end : ℕ) (h : q ≡ To n end) (d : List ℕ) (w : maxMadeLine ≤ length d) where
+        pub pack-end : end ≤ maxMadeFrame
         pack-end = filled-to f h .3
 
         pub pack-fits : 0 + length (hexText (take end b)) ≤ length d
         pack-fits = omega (arith, hex-length (take end b), length-take end b, pack-end)
 
         module _ (d′ : List ℕ) (close : ℕ) (v : Wrote d 0 (hexText (take end b)) d′ close) where
-          pub pack-room : (close < length d′) × (close < 32769)
+          pub pack-room : (close < length d′) × (close < maxMadeLine)
           pack-room =
               let k : length d′ ≡ length d = wrote-long d 0 (hexText (take end b)) d′ close v pack-fits in
               (omega (arith, v .ends, hex-length (take end b), length-take end b, pack-end), omega (arith, v .ends, hex-length (take end b), length-take end b, pack-end))

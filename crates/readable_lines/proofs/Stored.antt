@@ -10,9 +10,9 @@ use Rattle.text.specs.Fill.{Wrote}
 use Rattle.line.specs.Lines.{lines}
 use Rattle.path_text.specs.declared.reader.Stored.{Stored}
 use Rattle.path_text.specs.declared.reader.Stored.the-variants.{To, Unread}
-use Rattle.readable_lines.specs.Steps.{Fills, fills, nothing, Lays, lays, fails}
+use Rattle.readable_lines.specs.Steps.{maxMadeFrame, Fills, fills, nothing, Lays, lays, fails}
 
-pub filled-to : {o : Option Str} {d d′ : List ℕ} {q : Stored} {next end : ℕ} → Fills o d d′ q → q ≡ To next end → (w : Str) × (o ≡ some w) × Wrote d 0 w d′ end × (end ≤ 14001)
+pub filled-to : {o : Option Str} {d d′ : List ℕ} {q : Stored} {next end : ℕ} → Fills o d d′ q → q ≡ To next end → (w : Str) × (o ≡ some w) × Wrote d 0 w d′ end × (end ≤ maxMadeFrame)
 filled-to {end = end} (fills {w = w} {end = e} v b) h = let k : e ≡ end = cc in (w, refl, rw k at v, rw k at b)
 filled-to nothing h = let z : _≡_ {A = ℕ} 0 1 = cc in absurd (omega arith)
 

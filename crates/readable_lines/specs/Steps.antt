@@ -1,10 +1,11 @@
 -- The answers of the programs that convert line by line, said of what is read there.
-use Prim.Native.Nat.{ℕ, _+_, _≤_, _<_}
+use Prim.Native.Nat.{ℕ, _+_, _*_, _≤_, _<_}
 use mathlib.Core.Path.{_≡_}
 use mathlib.Core.Bool.{Bool}
 use mathlib.Core.List.{List, [], _∷_}
 use mathlib.Core.Option.{Option, none, some}
 use lib.ListN.{length, drop}
+use Rattle.limits.specs.Limits.{maxReadableLine}
 use Rattle.text.specs.Test.{if_then_else_}
 use Rattle.text.specs.String.{Str}
 use Rattle.text.specs.Fill.{Wrote}
@@ -13,6 +14,14 @@ use Rattle.path_text.specs.declared.reader.Stored.{Stored}
 use Rattle.path_text.specs.declared.reader.Stored.the-variants as stored
 use Rattle.readable_parts.specs.Parts.{Parts, shown, packed}
 use Rattle.readable_parts.specs.Steps.{longest}
+
+-- a frame that is made of a readable line: its kind byte, and its parts
+abbrev pub maxMadeFrame : ℕ
+maxMadeFrame = 1 + maxReadableLine
+
+-- and its line of the table: two digits a byte, and the LF
+abbrev pub maxMadeLine : ℕ
+maxMadeLine = 2 * maxMadeFrame + 1
 
 -- the readers for either direction
 unfoldable pub partsBy : Bool → Parts
@@ -23,10 +32,9 @@ unfoldable pub roomFor : Str → ℕ
 roomFor [] = 0
 roomFor (c ∷ cs) = longest c + roomFor cs
 
--- what there is fills the start of d, and nothing else does; where there is nothing, nothing is said of d. (The parts of no form take more than
--- 14,000 bytes, as `by_kind` shows; a frame has its kind byte too.)
+-- what there is, a frame or a line of either form, fills the start of d, and nothing else does; where there is nothing, nothing is said of d
 pub data Fills : Option Str → List ℕ → List ℕ → Stored → Type 0 where
-  fills : {w : Str} {d d′ : List ℕ} {next end : ℕ} → Wrote d 0 w d′ end → end ≤ 14001 → Fills (some w) d d′ (stored.To next end)
+  fills : {w : Str} {d d′ : List ℕ} {next end : ℕ} → Wrote d 0 w d′ end → end ≤ maxMadeFrame → Fills (some w) d d′ (stored.To next end)
   nothing : {d d′ : List ℕ} → Fills none d d′ stored.Unread
 
 -- the line of the text that starts at `from` was converted by g to the start of d, and the next one starts at `next`; or g does not convert it

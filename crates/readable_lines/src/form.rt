@@ -2,10 +2,11 @@
 ghost use mathlib.Core.Path.{_≡_};
 ghost use Prim.Native.Nat.{_+_, _≤_};
 ghost use lib.ListN.{length};
+ghost use Rattle.limits.specs.Limits.{maxReadableLine};
 ghost use Rattle.readable_parts.specs.Parts.{partOf};
 ghost use Rattle.readable_lines.specs.Form.{parts, formBy, shownFrame, kindBy, packedFrame};
 ghost use Rattle.readable_parts.specs.Steps.{longest, Puts};
-ghost use Rattle.readable_lines.specs.Steps.{partsBy, roomFor, Fills};
+ghost use Rattle.readable_lines.specs.Steps.{maxMadeFrame, partsBy, roomFor, Fills};
 use path_text::reader::Stored;
 
 // The part that c names, packed or shown.
@@ -29,7 +30,10 @@ fn convert_parts(
     to: usize,
 ) -> Stored
     requires { ⌜ (to + roomFor (now form) ≤ length (now out)) × (at ≤ length (now s)) ⌝ }
-    ensures { λ r. ⌜ Puts (roomFor (now (form .entry))) (parts (partsBy packing) (now (form .entry))) (now (s .entry)) at (now (out .entry)) to (now (out .exit)) r ⌝ }
+    ensures { λ r. ⌜
+        Puts (roomFor (now (form .entry))) (parts (partsBy packing) (now (form .entry)))
+        (now (s .entry)) at (now (out .entry)) to (now (out .exit)) r
+        ⌝ }
 {
     let mut p = at;
     let mut q = to;
@@ -46,10 +50,10 @@ fn convert_parts(
     Stored::To { next: p, end: q }
 }
 
-// The parts of a frame of that kind: no form takes more than 14,000 bytes.
+// The parts of a frame of that kind.
 fn by_kind(packing: bool, kind: u8, s: &[u8], at: usize, out: &mut [u8], to: usize) -> Stored
-    requires { ⌜ (to + 14000 ≤ length (now out)) × (at ≤ length (now s)) ⌝ }
-    ensures { λ r. ⌜ Puts 14000 (formBy (partsBy packing) kind) (now (s .entry)) at (now (out .entry)) to (now (out .exit)) r ⌝ }
+    requires { ⌜ (to + maxReadableLine ≤ length (now out)) × (at ≤ length (now s)) ⌝ }
+    ensures { λ r. ⌜ Puts maxReadableLine (formBy (partsBy packing) kind) (now (s .entry)) at (now (out .entry)) to (now (out .exit)) r ⌝ }
 {
     if kind == 1 {
         return convert_parts(packing, b"version S time T", s, at, out, to);
@@ -68,7 +72,7 @@ fn by_kind(packing: bool, kind: u8, s: &[u8], at: usize, out: &mut [u8], to: usi
 
 // The readable form of a frame, without its LF.
 pub fn show_frame(f: &[u8], out: &mut [u8]) -> Stored
-    requires { ⌜ 16384 ≤ length (now out) ⌝ }
+    requires { ⌜ maxMadeFrame ≤ length (now out) ⌝ }
     ensures { λ r. ⌜ Fills (shownFrame (now (f .entry))) (now (out .entry)) (now (out .exit)) r ⌝ }
 {
     if f.len() == 0 {
@@ -111,7 +115,7 @@ fn kind_by(b: u8) -> u8
 
 // The frame of a readable line, which is given without its LF.
 pub fn pack_frame(s: &[u8], out: &mut [u8]) -> Stored
-    requires { ⌜ 16384 ≤ length (now out) ⌝ }
+    requires { ⌜ maxMadeFrame ≤ length (now out) ⌝ }
     ensures { λ r. ⌜ Fills (packedFrame (now (s .entry))) (now (out .entry)) (now (out .exit)) r ⌝ }
 {
     if !text::string::all_print(s) {

@@ -3,19 +3,25 @@ ghost use mathlib.Core.Path.{_≡_};
 ghost use mathlib.Core.Bool.{false};
 ghost use Prim.Native.Nat.{_≤_, _<_};
 ghost use lib.ListN.{length};
+ghost use Rattle.limits.specs.Limits.{maxTableText};
 ghost use Rattle.readable_lines.specs.Lines.{shownLine, packedLine, lineBy};
-ghost use Rattle.readable_lines.specs.Steps.{Lays};
+ghost use Rattle.readable_lines.specs.Steps.{maxMadeLine, Lays};
 use line::Line;
 use path_text::reader::Stored;
 
 pub mod form;
 
+// The longest frame that is made of a readable line, and its line: `maxMadeFrame` and `maxMadeLine` of the definitions.
+const MAX_MADE_FRAME: usize = 1 + limits::MAX_READABLE_LINE;
+
+pub const MAX_MADE_LINE: usize = 2 * MAX_MADE_FRAME + 1;
+
 // The readable line of the table's line that starts at `from`.
 fn show_line(text: &[u8], from: usize, out: &mut [u8]) -> Stored
-    requires { ⌜ (from < length (now text)) × (length (now text) ≤ 32768) × (32769 ≤ length (now out)) ⌝ }
+    requires { ⌜ (from < length (now text)) × (length (now text) ≤ maxTableText) × (maxMadeLine ≤ length (now out)) ⌝ }
     ensures { λ r. ⌜ Lays shownLine (now (text .entry)) from (now (out .entry)) (now (out .exit)) r ⌝ }
 {
-    let mut frame = [0u8; 16384];
+    let mut frame = [0u8; limits::MAX_TABLE_BYTES];
     let l = line::read_line(text, from, &mut frame, 0);
     let Line::Frame { len, next } = l else {
         return Stored::Unread;
@@ -33,14 +39,14 @@ fn show_line(text: &[u8], from: usize, out: &mut [u8]) -> Stored
 
 // The table's line of the readable line that starts at `from`.
 fn pack_line(text: &[u8], from: usize, out: &mut [u8]) -> Stored
-    requires { ⌜ (from < length (now text)) × (32769 ≤ length (now out)) ⌝ }
+    requires { ⌜ (from < length (now text)) × (maxMadeLine ≤ length (now out)) ⌝ }
     ensures { λ r. ⌜ Lays packedLine (now (text .entry)) from (now (out .entry)) (now (out .exit)) r ⌝ }
 {
-    let stop = path_text::reader::find(text, from, b'\n', b'\n');
+    let stop = text_search::find(text, from, b'\n');
     if text.len() <= stop {
         return Stored::Unread;
     }
-    let mut frame = [0u8; 16384];
+    let mut frame = [0u8; MAX_MADE_FRAME];
     let s = crate::form::pack_frame(&text[from..stop], &mut frame);
     let Stored::To { next: _, end } = s else {
         return Stored::Unread;
@@ -55,7 +61,7 @@ fn pack_line(text: &[u8], from: usize, out: &mut [u8]) -> Stored
 
 // Either of the two: `packing` makes the table's line of a readable one.
 pub fn convert_line(packing: bool, text: &[u8], from: usize, out: &mut [u8]) -> Stored
-    requires { ⌜ (from < length (now text)) × (packing ≡ false → length (now text) ≤ 32768) × (32769 ≤ length (now out)) ⌝ }
+    requires { ⌜ (from < length (now text)) × (packing ≡ false → length (now text) ≤ maxTableText) × (maxMadeLine ≤ length (now out)) ⌝ }
     ensures { λ r. ⌜ Lays (lineBy packing) (now (text .entry)) from (now (out .entry)) (now (out .exit)) r ⌝ }
 {
     if packing {

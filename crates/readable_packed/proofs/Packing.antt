@@ -7,6 +7,7 @@ use Prim.Native.Nat.{ℕ, _+_, _-_, _≤_, _<_}
 use native.Mathlib.Omega.{arith}
 use borrow.Author.Tests.{eq-eqb, ne-eqb, lt-ltb, le-ltb, le-leb, lt-leb, leb-true}
 use lib.ListN.{length, take, drop, getD, set, length-append, length-drop, drop-of-length-le}
+use Rattle.limits.specs.Limits.{maxString, maxStringBytes, maxQuoted}
 use Rattle.text.specs.Test.{_and_, if_then_else_}
 use Rattle.text.specs.String.{Str, same}
 use Rattle.text.specs.Frame.{got, unread, _>>=_, ret, part, stringBytes}
@@ -36,14 +37,14 @@ module _ (s : Str) (at : ℕ) where
   pub string-past : length s ≤ at → packedString s at ≡ unread
   string-past h = string-unpacked (λ e. let i = inside s at 91 (omega arith) e in absurd (omega arith))
 
-  pub string-packs : {d : List ℕ} {to : ℕ} {d′ : List ℕ} {r : Stored} → getD s at 0 ≡ 91 → Stores 65 1 stringBytes (value 64) s (at + 1) d to d′ r → Puts 130 packedString s at d to d′ r
+  pub string-packs : {d : List ℕ} {to : ℕ} {d′ : List ℕ} {r : Stored} → getD s at 0 ≡ 91 → Stores maxStringBytes 1 stringBytes (value maxString) s (at + 1) d to d′ r → Puts maxQuoted packedString s at d to d′ r
   unfolding packedString _>>=_ literal if_then_else_ ret
   string-packs h (stores {a = v} {t = t} i w b) =
       let j : packedString s at ≡ got (stringBytes v) t = rw (eq-eqb _ _ h, i) in
       puts j w (omega (arith, b .few, w .ends)) (b .inside)
   string-packs h (nothing i) = stops (rw (eq-eqb _ _ h, i))
 
-pub value-fits : (s : Str) (at : ℕ) (d : List ℕ) (to : ℕ) → to + 130 ≤ length d → at < length s → Room 65 1 s (at + 1) d to
+pub value-fits : (s : Str) (at : ℕ) (d : List ℕ) (to : ℕ) → to + maxQuoted ≤ length d → at < length s → Room maxStringBytes 1 s (at + 1) d to
 value-fits s at d to h i = record { starts = omega arith; fits = λ n f g. omega arith }
 
 -- ---- the time

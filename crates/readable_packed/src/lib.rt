@@ -2,6 +2,7 @@
 ghost use mathlib.Core.Path.{_≡_};
 ghost use Prim.Native.Nat.{_+_, _≤_};
 ghost use lib.ListN.{length};
+ghost use Rattle.limits.specs.Limits.{maxQuoted};
 ghost use Rattle.readable_parts.specs.Parts.{packed, partOf, standsAt, packedString, packedTime, packedCode};
 ghost use Rattle.readable_parts.specs.Steps.{Puts, longest};
 use line::Line;
@@ -9,8 +10,8 @@ use path_text::reader::Stored;
 
 // In brackets.
 fn string(s: &[u8], at: usize, out: &mut [u8], to: usize) -> Stored
-    requires { ⌜ (to + 130 ≤ length (now out)) × (at ≤ length (now s)) ⌝ }
-    ensures { λ r. ⌜ Puts 130 packedString (now (s .entry)) at (now (out .entry)) to (now (out .exit)) r ⌝ }
+    requires { ⌜ (to + maxQuoted ≤ length (now out)) × (at ≤ length (now s)) ⌝ }
+    ensures { λ r. ⌜ Puts maxQuoted packedString (now (s .entry)) at (now (out .entry)) to (now (out .exit)) r ⌝ }
 {
     if s.len() <= at {
         return Stored::Unread;

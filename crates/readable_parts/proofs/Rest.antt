@@ -9,6 +9,7 @@ use borrow.Author.Tests.{lt-ltb, le-ltb, le-leb, leb-true}
 use lib.Dec.{leb}
 use lib.ListN.{length, take, drop, length-drop, drop-of-length-le}
 use lib.Seq.{take-all, drop-drop}
+use Rattle.limits.specs.Limits.{maxPathText}
 use Rattle.text.specs.Test.{if_then_else_}
 use Rattle.text.specs.String.{Str}
 use Rattle.text.specs.Frame.{unread}
@@ -97,6 +98,6 @@ module _ (g : Str → Option Str) (s : Str) (at : ℕ) (i : at < length s) where
           ap (λ (z : List ℕ). take to d ++ (z ++ drop (length d - to) (drop to d))) (j ∙ a .4) ∙ part-put d to (a .0) (omega arith) in
           puts {to = to} {end = to + n} (rest-is (some (a .0)) (a .1)) (record { ends = omega (arith, a .2); same = k }) (b (from s at) (a .0) (a .1)) (omega arith)
 
-pub path-bound : (pack : Bool) (t w : Str) → pathFor pack t ≡ some w → length w ≤ 13520
+pub path-bound : (pack : Bool) (t w : Str) → pathFor pack t ≡ some w → length w ≤ maxPathText
 path-bound true t w e = omega (arith, bytes-bound t w e)
 path-bound false t w e = text-bound t w e

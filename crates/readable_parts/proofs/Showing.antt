@@ -5,6 +5,7 @@ use Prim.Native.Nat.{ℕ, _+_, _-_, _≤_, _<_}
 use native.Mathlib.Omega.{arith}
 use borrow.Author.Tests.{eq-eqb, ne-eqb, le-leb, lt-leb}
 use lib.ListN.{length, drop, getD, set, length-append, length-drop}
+use Rattle.limits.specs.Limits.{maxString, maxPathText, maxQuoted}
 use Rattle.text.specs.Test.{if_then_else_}
 use Rattle.text.specs.String.{Str, joined}
 use Rattle.text.specs.Frame.{got, unread, Reader, _>>=_, ret, part, string, endOf}
@@ -25,7 +26,7 @@ use Rattle.readable_parts.proofs.Digits.{hex-length}
 -- ---- which part it is
 
 module _ (p : Parts) (c : ℕ) where
-  pub is-string : c ≡ 83 → (partOf p c ≡ p .string) × (longest c ≡ 130)
+  pub is-string : c ≡ 83 → (partOf p c ≡ p .string) × (longest c ≡ maxQuoted)
   unfolding partOf longest if_then_else_
   is-string e = (rw e, rw e)
 
@@ -33,7 +34,7 @@ module _ (p : Parts) (c : ℕ) where
   unfolding partOf longest if_then_else_
   is-time e = (rw e, rw e)
 
-  pub is-path : c ≡ 80 → (partOf p c ≡ p .path) × (longest c ≡ 13520)
+  pub is-path : c ≡ 80 → (partOf p c ≡ p .path) × (longest c ≡ maxPathText)
   unfolding partOf longest if_then_else_
   is-path e = (rw e, rw e)
 
@@ -66,16 +67,16 @@ module _ (f : Str) (at : ℕ) (r : End) (e : r ≡ endOf (string f at)) where
   string-unshown g = rw (string-misses f at r e g)
 
   module _ (t : ℕ) (g : r ≡ ends.At t) where
-    pub long-unshown : 64 < length (part f (at + 1) t) → shownString f at ≡ unread
+    pub long-unshown : maxString < length (part f (at + 1) t) → shownString f at ≡ unread
     unfolding shownString _>>=_ if_then_else_ unknown
     long-unshown h = rw (string-ends f at r e t g .0, lt-leb _ _ h)
 
-    pub string-shown : length (part f (at + 1) t) ≤ 64 → shownString f at ≡ got (quoted (part f (at + 1) t)) t
+    pub string-shown : length (part f (at + 1) t) ≤ maxString → shownString f at ≡ got (quoted (part f (at + 1) t)) t
     unfolding shownString _>>=_ if_then_else_ ret
     string-shown h = rw (string-ends f at r e t g .0, le-leb _ _ h)
 
-module _ (d : List ℕ) (to : ℕ) (s : Str) (h : to + 130 ≤ length d) (l : length s ≤ 64) where
-  pub quoted-length : length (quoted s) ≤ 130
+module _ (d : List ℕ) (to : ℕ) (s : Str) (h : to + maxQuoted ≤ length d) (l : length s ≤ maxString) where
+  pub quoted-length : length (quoted s) ≤ maxQuoted
   unfolding quoted
   quoted-length = omega (arith, length-append (joined escaped s) (93 ∷ []), value-length s)
 
@@ -102,7 +103,7 @@ module _ (d : List ℕ) (to : ℕ) (s : Str) (h : to + 130 ≤ length d) (l : le
     pub closed-long : length (set d′ close 93) ≡ length d
     closed-long = closed .long
 
-    pub string-puts : (f : Str) (at t : ℕ) → shownString f at ≡ got (quoted s) t → t ≤ length f → Puts 130 shownString f at d to (set d′ close 93) (To t (close + 1))
+    pub string-puts : (f : Str) (at t : ℕ) → shownString f at ≡ got (quoted s) t → t ≤ length f → Puts maxQuoted shownString f at d to (set d′ close 93) (To t (close + 1))
     string-puts f at t e i = puts e (wrote d to (quoted s) _ _ closed) quoted-length i
 
 -- ---- the time

@@ -6,6 +6,7 @@ use mathlib.Core.List.{List, [], _∷_, _++_}
 use mathlib.Core.Option.{Option, none, some}
 use lib.Dec.{eqb, leb, ltb}
 use lib.ListN.{length, drop, getD}
+use Rattle.limits.specs.Limits.{maxString}
 use Rattle.text.specs.Test.{_and_, if_then_else_}
 use Rattle.text.specs.String.{Str, bytes, same, joined}
 use Rattle.text.specs.Frame.{Parsed, got, unread, Reader, _>>=_, ret, byte, part, string, stringBytes}
@@ -64,11 +65,11 @@ hexPair b = hexDigit (b / 16) ∷ hexDigit (b % 16) ∷ []
 unfoldable pub hexText : Str → Str
 hexText f = joined hexPair f
 
--- no string of a table is longer than 64 bytes
+-- no string of a table is longer
 unfoldable pub shownString : Reader Str
 shownString = do
   s ← string
-  if leb (length s) 64 then ret (quoted s) else unknown
+  if leb (length s) maxString then ret (quoted s) else unknown
 
 -- 8 bytes, with which the frame ends
 unfoldable pub shownTime : Reader Str
@@ -95,7 +96,7 @@ shown = record { string = shownString; time = shownTime; path = shownPath; code 
 unfoldable pub packedString : Reader Str
 packedString = do
   b ← literal 91
-  v ← value 64
+  v ← value maxString
   ret (stringBytes v)
 
 -- the frame of a single hex line

@@ -6,6 +6,7 @@ use mathlib.Core.List.{List}
 use mathlib.Core.Option.{Option}
 use lib.Dec.{eqb}
 use lib.ListN.{length}
+use Rattle.limits.specs.Limits.{maxPathText, maxQuoted}
 use Rattle.text.specs.Test.{if_then_else_}
 use Rattle.text.specs.String.{Str}
 use Rattle.text.specs.Frame.{got, unread, Reader}
@@ -14,12 +15,12 @@ use Rattle.path_text.specs.Calls.{bytesFor, textFor}
 use Rattle.path_text.specs.declared.reader.Stored.{Stored}
 use Rattle.path_text.specs.declared.reader.Stored.the-variants as stored
 
--- the longest that a part can be, as text or in a frame: 64 bytes escaped, in brackets; 16 digits; the longest path text; `permit`
+-- the longest that a part can be, as text or in a frame: a string in brackets, escaped; 16 digits; the longest path text; `permit`
 unfoldable pub longest : ℕ → ℕ
 longest c =
-    if eqb c 83 then 130
+    if eqb c 83 then maxQuoted
     else if eqb c 84 then 16
-    else if eqb c 80 then 13520
+    else if eqb c 80 then maxPathText
     else if eqb c 65 then 6
     else if eqb c 77 then 6
     else if eqb c 75 then 6

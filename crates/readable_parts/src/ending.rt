@@ -1,15 +1,15 @@
 // The path with which a frame or a line ends. `pack` says which: of path text its bytes are made, or of path bytes their text.
-ghost use mathlib.Core.Path.{_≡_};
 ghost use Prim.Native.Nat.{_+_, _≤_};
 ghost use lib.ListN.{length};
-ghost use Rattle.path_text.specs.Calls.{answer, lent};
+ghost use Rattle.limits.specs.Limits.{maxPathText};
+ghost use Rattle.path_text.specs.Calls.{Delivers};
 ghost use Rattle.readable_parts.specs.Parts.{ofRest};
 ghost use Rattle.readable_parts.specs.Steps.{Puts, pathFor};
 use path_text::Filled;
 use path_text::reader::Stored;
 
 fn convert(pack: bool, s: &[u8], out: &mut [u8]) -> Filled
-    ensures { λ r. ⌜ (r ≡ answer (now (out .entry)) (pathFor pack (now (s .entry)))) × (now (out .exit) ≡ lent (now (out .entry)) (pathFor pack (now (s .entry)))) ⌝ }
+    ensures { λ r. ⌜ Delivers (now (out .entry)) (pathFor pack (now (s .entry))) (now (out .exit)) r ⌝ }
 {
     if pack {
         return path_text::reader::read_text(s, out);
@@ -18,8 +18,8 @@ fn convert(pack: bool, s: &[u8], out: &mut [u8]) -> Filled
 }
 
 pub fn path(pack: bool, s: &[u8], at: usize, out: &mut [u8], to: usize) -> Stored
-    requires { ⌜ to + 13520 ≤ length (now out) ⌝ }
-    ensures { λ r. ⌜ Puts 13520 (ofRest (pathFor pack)) (now (s .entry)) at (now (out .entry)) to (now (out .exit)) r ⌝ }
+    requires { ⌜ to + maxPathText ≤ length (now out) ⌝ }
+    ensures { λ r. ⌜ Puts maxPathText (ofRest (pathFor pack)) (now (s .entry)) at (now (out .entry)) to (now (out .exit)) r ⌝ }
 {
     if s.len() <= at {
         return Stored::Unread;

@@ -1,6 +1,7 @@
 // The parts of a frame, as text: each function stores the text of the part at `at` of f into out from `to` on.
 ghost use Prim.Native.Nat.{_+_, _≤_};
 ghost use lib.ListN.{length};
+ghost use Rattle.limits.specs.Limits.{maxQuoted};
 ghost use Rattle.readable_parts.specs.Parts.{shown, partOf, shownString, shownTime, shownCode};
 ghost use Rattle.readable_parts.specs.Steps.{Puts, longest};
 use path_text::reader::Stored;
@@ -8,8 +9,8 @@ use text::frame::End;
 
 // In brackets.
 fn string(f: &[u8], at: usize, out: &mut [u8], to: usize) -> Stored
-    requires { ⌜ to + 130 ≤ length (now out) ⌝ }
-    ensures { λ r. ⌜ Puts 130 shownString (now (f .entry)) at (now (out .entry)) to (now (out .exit)) r ⌝ }
+    requires { ⌜ to + maxQuoted ≤ length (now out) ⌝ }
+    ensures { λ r. ⌜ Puts maxQuoted shownString (now (f .entry)) at (now (out .entry)) to (now (out .exit)) r ⌝ }
 {
     let e = text::frame::string_end(f, at);
     let End::At(end) = e else {
@@ -17,7 +18,7 @@ fn string(f: &[u8], at: usize, out: &mut [u8], to: usize) -> Stored
     };
     let start = at + 1;
     let s = &f[start..end];
-    if 64 < s.len() {
+    if limits::MAX_STRING < s.len() {
         return Stored::Unread;
     }
     out[to] = b'[';

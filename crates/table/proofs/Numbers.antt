@@ -11,7 +11,7 @@ use Rattle.text.specs.Byte.{isPrint}
 use Rattle.text.specs.String.{Str}
 use Rattle.text.specs.Refusal.{_when_else_, clear}
 use Rattle.text.proofs.Tests.{or-false-l, or-is}
-use Rattle.path.specs.Faults.{unsized, overLimit, strayByte, misplaced, keyTwice, grade, pathRefusal}
+use Rattle.path.specs.Faults.{unsized, overLimit, strayByte, misplaced, keyTwice, leastRefusal, pathRefusal}
 use Rattle.table.specs.Table.{Rule}
 use Rattle.table.specs.Frame.{Entry, rule}
 use Rattle.table.specs.Refusal.{Earlier, reads, outOfOrder, kindOf, pastLimit, strays, misplaces, repeats, unlisted, refusal, stray, unsizedShort}
@@ -59,9 +59,9 @@ merged-plain false false false nine = refl
 -- ---- a rule
 
 -- the number of the path joins those of the rest
-merged-path : (a b d n over str mis two : Bool) → merged (grade over str mis two) a b d n
+merged-path : (a b d n over str mis two : Bool) → merged (leastRefusal over str mis two) a b d n
     ≡ (5 when (a or over) else 6 when (b or str) else 7 when mis else 8 when (d or two) else 9 when n else clear)
-unfolding merged grade if_then_else_ _or_
+unfolding merged leastRefusal if_then_else_ _or_
 merged-path true b d n over str mis two = refl
 merged-path false b d n true str mis two = refl
 merged-path false true d n false true mis two = refl

@@ -110,7 +110,11 @@ pub fn read_rule(f: &[u8]) -> RuleFrame
         return RuleFrame::Unread;
     };
     let p = path_frame::read_path(f, origin);
-    let Walk::To { fault, next } = p else {
+    let Walk::To {
+        refusal: fault,
+        next,
+    } = p
+    else {
         return RuleFrame::Unread;
     };
     if next != f.len() {

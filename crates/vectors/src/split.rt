@@ -7,7 +7,9 @@ pub fn up_to(line: &[u8], from: usize, stop: u8) -> usize
     requires { ⌜ from ≤ length (now line) ⌝ }
     ensures { λ r. ⌜ (from ≤ r) × (r ≤ length (now (line .entry))) ⌝ }
 {
-    path_text::reader::find(line, from, stop, b'\n')
+    let end = text_search::find(line, from, b'\n');
+    let found = text_search::find(line, from, stop);
+    if found < end { found } else { end }
 }
 
 // Past the byte at `at`, if there is one.

@@ -11,6 +11,7 @@ use Rattle.path_frame.proofs.Walks.{has-turn, has-nameless, has-valuele
 use Rattle.path_frame.proofs.has_key.Statement.{statement}
 use Rattle.path_frame.proofs.has_key.Tie as tie
 
+-- `found` tells of the keys passed: with the `left` keys from p on it gives the answer for all.
 abbrev Inv-loop : tie.InvT-loop
 Inv-loop f at count name found₀ p₀ left₀ found p left = hasName false name (times count key f at) ≡ hasName found name (times left key f p)
 

@@ -10,6 +10,7 @@ use Rattle.path_frame.proofs.Walks.{twice-found, twice-turn, twice-name
 use Rattle.path_frame.proofs.has_twice.Statement.{statement}
 use Rattle.path_frame.proofs.has_twice.Tie as tie
 
+-- No key passed has a name that comes again, so the `left` keys from p on decide.
 abbrev Inv-loop : tie.InvT-loop
 Inv-loop f at count p₀ left₀ p left = twiceIn (times count key f at) ≡ twiceIn (times left key f p)
 

@@ -3,7 +3,7 @@ use borrow.Author.Needs.{needs}
 use native.Mathlib.Omega.{arith}
 use mathlib.Core.Path.{sym}
 use Rattle.text.proofs.Frames.{string-ends}
-use Rattle.path_frame.proofs.Walks.{element-nameless, element-countless, element-keyless, element-graded}
+use Rattle.path_frame.proofs.Walks.{element-nameless, element-countless, element-keyless, element-judged}
 use Rattle.path_frame.proofs.read_element.Statement.{statement}
 use Rattle.path_frame.proofs.read_element.Tie as tie
 
@@ -68,29 +68,29 @@ add-start c =
     let at-string-end = c .before .before .before .before .before .before .before .before .before .string-end in
     let t = string-ends _ _ _ (at-string-end .ensures) _ (at-n .given .1) in omega (arith, t .1, t .2)
 
-sub-elem-name-fault : tie.Need-sub-elem-name-fault
-sub-elem-name-fault c =
+sub-elem-name-refusal : tie.Need-sub-elem-name-refusal
+sub-elem-name-refusal c =
     let at-n = c .before .before .before .before .before .before .before .n in
     let at-string-end = c .before .before .before .before .before .before .before .before .before .string-end in
     string-ends _ _ _ (at-string-end .ensures) _ (at-n .given .1) .1
 
-part-elem-name-fault-start : tie.Need-part-elem-name-fault-start
-part-elem-name-fault-start c =
+part-elem-name-refusal-start : tie.Need-part-elem-name-refusal-start
+part-elem-name-refusal-start c =
     let at-n = c .before .before .before .before .before .before .before .n in
     let at-string-end = c .before .before .before .before .before .before .before .before .before .string-end in
     string-ends _ _ _ (at-string-end .ensures) _ (at-n .given .1) .1
 
-part-elem-name-fault-end : tie.Need-part-elem-name-fault-end
-part-elem-name-fault-end c =
+part-elem-name-refusal-end : tie.Need-part-elem-name-refusal-end
+part-elem-name-refusal-end c =
     let at-n = c .before .before .before .before .before .before .before .n in
     let at-string-end = c .before .before .before .before .before .before .before .before .before .string-end in
     string-ends _ _ _ (at-string-end .ensures) _ (at-n .given .1) .2
 
-elem-name-fault-requires : tie.Need-elem-name-fault-requires
-elem-name-fault-requires c κs = search needs
+elem-name-refusal-requires : tie.Need-elem-name-refusal-requires
+elem-name-refusal-requires c κs = search needs
 
-grade-requires : tie.Need-grade-requires
-grade-requires c κs = search needs
+least-refusal-requires : tie.Need-least-refusal-requires
+least-refusal-requires c κs = search needs
 
 smaller-requires : tie.Need-smaller-requires
 smaller-requires c κs = search needs
@@ -102,8 +102,8 @@ returns-4 : tie.Need-returns-4
 returns-4 c =
     let at-smaller2 = c .smaller2 in
     let at-smaller = c .before .smaller in
-    let at-grade = c .before .before .grade in
-    let at-elem-name-fault = c .before .before .before .elem-name-fault in
+    let at-least-refusal = c .before .before .least-refusal in
+    let at-elem-name-refusal = c .before .before .before .elem-name-refusal in
     let at-keys = c .before .before .before .before .before .before .keys in
     let at-read-keys = c .before .before .before .before .before .before .before .before .read-keys in
     let at-if1 = c .before .before .before .before .before .before .before .before .before .before .if1 in
@@ -111,7 +111,7 @@ returns-4 c =
     let at-string-end = c .before .before .before .before .before .before .before .before .before .before .before .before .before .before .string-end in
     let at-start = c .before .before .before .before .before .before .before .before .before .before .before .before .before .before .before .before in
     rw (at-smaller2 .ensures, at-smaller .ensures)
-    (sym (element-graded (at-start .args .f .now) (at-start .args .at) _ (at-string-end .ensures) _ (at-n .given .1) (at-if1 .left) _ (at-read-keys .ensures) _ _ _ _ (at-keys .given .1) (at-elem-name-fault .ensures) (at-grade .ensures)))
+    (sym (element-judged (at-start .args .f .now) (at-start .args .at) _ (at-string-end .ensures) _ (at-n .given .1) (at-if1 .left) _ (at-read-keys .ensures) _ _ _ _ (at-keys .given .1) (at-elem-name-refusal .ensures) (at-least-refusal .ensures)))
 
 pub read-element-spec : {M : Type 1} → statement M
 read-element-spec =
@@ -130,11 +130,11 @@ read-element-spec =
     enum-told-2
     returns-3
     add-start
-    sub-elem-name-fault
-    part-elem-name-fault-start
-    part-elem-name-fault-end
-    elem-name-fault-requires
-    grade-requires
+    sub-elem-name-refusal
+    part-elem-name-refusal-start
+    part-elem-name-refusal-end
+    elem-name-refusal-requires
+    least-refusal-requires
     smaller-requires
     smaller-requires-2
     returns-4)

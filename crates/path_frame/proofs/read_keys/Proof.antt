@@ -5,19 +5,21 @@ use mathlib.Core.Path.{_≡_, sym, _∙_}
 use Prim.Native.Nat.{_≤_}
 use native.Mathlib.Nat.{min-le-left}
 use Rattle.text.specs.Frame.{times}
+use Rattle.text.specs.Refusal.{clear}
 use Rattle.text.proofs.Frames.{string-ends}
 use Rattle.path.specs.Bytes.{key}
-use Rattle.path.specs.Walk.{keysGrade}
+use Rattle.path.specs.Walk.{keysRefusal}
 use Rattle.path_frame.specs.Walked.{walked}
 use Rattle.path_frame.proofs.Walks.{lowered, keys-start, keys-turn, keys-nameless, keys-valueless, keys-done}
 use Rattle.path_frame.proofs.read_keys.Statement.{statement}
 use Rattle.path_frame.proofs.read_keys.Tie as tie
 
+-- `refusal` is the smallest number of the keys passed: lowered by it, the `left` keys from p on get the number of all.
 abbrev Inv-loop : tie.InvT-loop
-Inv-loop f at count fault₀ p₀ left₀ fault p left = (fault ≤ 255) × (walked keysGrade (times count key f at) ≡ walked (lowered fault keysGrade) (times left key f p))
+Inv-loop f at count refusal₀ p₀ left₀ refusal p left = (refusal ≤ clear) × (walked keysRefusal (times count key f at) ≡ walked (lowered refusal keysRefusal) (times left key f p))
 
 abbrev μ-loop : tie.MeasureT-loop
-μ-loop f at count fault₀ p₀ left₀ fault p left = left
+μ-loop f at count refusal₀ p₀ left₀ refusal p left = left
 
 loop-holds : tie.Need-loop-holds Inv-loop μ-loop
 loop-holds c = (omega arith, keys-start _)
@@ -38,7 +40,7 @@ returns c =
     let at-loop-test = c .before .before .before .loop-test in
     let at-loop = c .before .before .before .before .loop in
     let at-start = c .before .before .before .before .before .before in
-    sym (at-loop .inv .1 ∙ keys-nameless (at-start .args .f .now) (at-loop .p) _ (at-string-end .ensures) (at-loop .fault) (at-loop .left) (at-loop-test .taken) (at-enum-told .given .1))
+    sym (at-loop .inv .1 ∙ keys-nameless (at-start .args .f .now) (at-loop .p) _ (at-string-end .ensures) (at-loop .refusal) (at-loop .left) (at-loop-test .taken) (at-enum-told .given .1))
 
 string-end-requires-2 : tie.Need-string-end-requires-2 Inv-loop μ-loop
 string-end-requires-2 c κs = search needs
@@ -58,7 +60,7 @@ returns-2 c =
     let at-loop-test = c .before .before .before .before .before .before .before .loop-test in
     let at-loop = c .before .before .before .before .before .before .before .before .loop in
     let at-start = c .before .before .before .before .before .before .before .before .before .before in
-    sym (at-loop .inv .1 ∙ keys-valueless (at-start .args .f .now) (at-loop .p) _ (at-string-end .ensures) (at-loop .fault) (at-loop .left) _ _ (at-loop-test .taken) (at-n .given .1) (at-string-end2 .ensures) (at-enum-told2 .given .1))
+    sym (at-loop .inv .1 ∙ keys-valueless (at-start .args .f .now) (at-loop .p) _ (at-string-end .ensures) (at-loop .refusal) (at-loop .left) _ _ (at-loop-test .taken) (at-n .given .1) (at-string-end2 .ensures) (at-enum-told2 .given .1))
 
 add-start : tie.Need-add-start Inv-loop μ-loop
 add-start c =
@@ -114,8 +116,8 @@ sub-left c = search needs
 has-key-requires : tie.Need-has-key-requires Inv-loop μ-loop
 has-key-requires c κs = search needs
 
-key-fault-requires : tie.Need-key-fault-requires Inv-loop μ-loop
-key-fault-requires c κs = search needs
+key-refusal-requires : tie.Need-key-refusal-requires Inv-loop μ-loop
+key-refusal-requires c κs = search needs
 
 smaller-requires : tie.Need-smaller-requires Inv-loop μ-loop
 smaller-requires c κs = search needs
@@ -126,7 +128,7 @@ loop-less c = search needs
 loop-again : tie.Need-loop-again Inv-loop μ-loop
 loop-again c =
     let at-smaller = c .smaller in
-    let at-key-fault = c .before .key-fault in
+    let at-key-refusal = c .before .key-refusal in
     let at-has-key = c .before .before .has-key in
     let at-v = c .before .before .before .before .before .before .v in
     let at-string-end2 = c .before .before .before .before .before .before .before .before .string-end2 in
@@ -135,8 +137,9 @@ loop-again c =
     let at-loop-test = c .before .before .before .before .before .before .before .before .before .before .before .before .before .loop-test in
     let at-loop = c .before .before .before .before .before .before .before .before .before .before .before .before .before .before .loop in
     let at-start = c .before .before .before .before .before .before .before .before .before .before .before .before .before .before .before .before in (
-      rw (at-smaller .ensures) (omega (arith, min-le-left (at-loop .fault) (at-key-fault .result), at-loop .inv .0)),
-      at-loop .inv .1 ∙ rw (at-smaller .ensures) (keys-turn (at-start .args .f .now) (at-loop .p) _ (at-string-end .ensures) (at-loop .fault) (at-loop .left) _ _ _ _ _ (at-loop-test .taken) (at-n .given .1) (at-string-end2 .ensures) (at-v .given .1) (at-has-key .ensures) (at-key-fault .ensures)),
+      rw (at-smaller .ensures) (omega (arith, min-le-left (at-loop .refusal) (at-key-refusal .result), at-loop .inv .0)),
+      at-loop .inv .1 ∙ rw (at-smaller .ensures) (keys-turn (at-start .args .f .now) (at-loop .p) _ (at-string-end .ensures) (at-loop .refusal) (at-loop .left) _ _ _ _ _
+          (at-loop-test .taken) (at-n .given .1) (at-string-end2 .ensures) (at-v .given .1) (at-has-key .ensures) (at-key-refusal .ensures)),
     )
 
 returns-3 : tie.Need-returns-3 Inv-loop μ-loop
@@ -144,7 +147,7 @@ returns-3 c =
     let at-loop-test = c .loop-test in
     let at-loop = c .before .loop in
     let at-start = c .before .before .before in
-    sym (at-loop .inv .1 ∙ keys-done (at-start .args .f .now) (at-loop .p) (at-loop .fault) (at-loop .left) (at-loop .inv .0) (at-loop-test .left))
+    sym (at-loop .inv .1 ∙ keys-done (at-start .args .f .now) (at-loop .p) (at-loop .refusal) (at-loop .left) (at-loop .inv .0) (at-loop-test .left))
 
 pub read-keys-spec : {M : Type 1} → statement M
 read-keys-spec =
@@ -171,7 +174,7 @@ read-keys-spec =
     part-value-end
     sub-left
     has-key-requires
-    key-fault-requires
+    key-refusal-requires
     smaller-requires
     loop-less
     loop-again

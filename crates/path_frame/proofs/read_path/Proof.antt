@@ -2,7 +2,7 @@
 use borrow.Author.Needs.{needs}
 use native.Mathlib.Omega.{arith}
 use mathlib.Core.Path.{sym}
-use Rattle.path_frame.proofs.Walks.{path-countless, path-unread, path-graded}
+use Rattle.path_frame.proofs.Walks.{path-countless, path-unread, path-judged}
 use Rattle.path_frame.proofs.read_path.Statement.{statement}
 use Rattle.path_frame.proofs.read_path.Tie as tie
 
@@ -41,8 +41,8 @@ returns-2 c =
     let at-start = c .before .before .before .before .before .before in
     sym (path-unread (at-start .args .f .now) (at-start .args .at) (at-if1 .left) _ (at-read-elements .ensures) (at-enum-told .given .1))
 
-grade-requires : tie.Need-grade-requires
-grade-requires c κs = search needs
+least-refusal-requires : tie.Need-least-refusal-requires
+least-refusal-requires c κs = search needs
 
 smaller-requires : tie.Need-smaller-requires
 smaller-requires c κs = search needs
@@ -50,12 +50,12 @@ smaller-requires c κs = search needs
 returns-3 : tie.Need-returns-3
 returns-3 c =
     let at-smaller = c .smaller in
-    let at-grade = c .before .grade in
+    let at-least-refusal = c .before .least-refusal in
     let at-elements = c .before .before .before .elements in
     let at-read-elements = c .before .before .before .before .before .read-elements in
     let at-if1 = c .before .before .before .before .before .before .before .if1 in
     let at-start = c .before .before .before .before .before .before .before .before .before in
-    rw (at-smaller .ensures) (sym (path-graded (at-start .args .f .now) (at-start .args .at) (at-if1 .left) _ (at-read-elements .ensures) _ _ _ (at-elements .given .1) (at-grade .ensures)))
+    rw (at-smaller .ensures) (sym (path-judged (at-start .args .f .now) (at-start .args .at) (at-if1 .left) _ (at-read-elements .ensures) _ _ _ (at-elements .given .1) (at-least-refusal .ensures)))
 
 pub read-path-spec : {M : Type 1} → statement M
 read-path-spec =
@@ -69,6 +69,6 @@ read-path-spec =
     enum-known-elements
     enum-told
     returns-2
-    grade-requires
+    least-refusal-requires
     smaller-requires
     returns-3)

@@ -6,6 +6,7 @@ use mathlib.Core.Bool.{true}
 use lib.ListN.{length-take, length-replicate}
 use lib.Seq.{length-take-le}
 use Prim.Native.Nat.{ℕ}
+use Rattle.limits.specs.Limits.{maxPathText}
 use Rattle.path_text.proofs.Answers.{unfit, filled}
 use Rattle.path_write.proofs.Texts.{text-good, text-fits}
 use Rattle.path_write.proofs.write_apart.Statement.{statement}
@@ -17,7 +18,7 @@ slice-aggregate-write-path c = search needs
 write-path-requires : tie.Need-write-path-requires
 write-path-requires c κs =
     let at-start = c .before .before .before in
-    text-fits (at-start .args .f .now) true (at-start .pre) refl
+    let h = text-fits (at-start .args .f .now) true (at-start .pre) refl in record { reads = h .0; room = omega (arith, h .1) }
 
 returns : tie.Need-returns
 returns c =
@@ -30,13 +31,13 @@ array-share-prefix-text : tie.Need-array-share-prefix-text
 array-share-prefix-text c =
     let at-write-path = c .before .before .write-path in
     let at-start = c .before .before .before .before .before .before in
-    let h = text-fits (at-start .args .f .now) true (at-start .pre) refl in omega (arith, h .1, at-write-path .ensures .ends, at-write-path .kept .1 .0, length-replicate {A = ℕ} 13520 0)
+    let h = text-fits (at-start .args .f .now) true (at-start .pre) refl in omega (arith, h .1, at-write-path .ensures .ends, at-write-path .kept .1 .0, length-replicate {A = ℕ} maxPathText 0)
 
 slice-aggregate-copy : tie.Need-slice-aggregate-copy
 slice-aggregate-copy c =
     let at-write-path = c .before .before .before .write-path in
     let at-start = c .before .before .before .before .before .before .before in
-    sym (length-take-le _ _ (let h = text-fits (at-start .args .f .now) true (at-start .pre) refl in omega (arith, h .1, at-write-path .ensures .ends, at-write-path .kept .1 .0, length-replicate {A = ℕ} 13520 0)))
+    sym (length-take-le _ _ (let h = text-fits (at-start .args .f .now) true (at-start .pre) refl in omega (arith, h .1, at-write-path .ensures .ends, at-write-path .kept .1 .0, length-replicate {A = ℕ} maxPathText 0)))
 
 copy-requires : tie.Need-copy-requires
 copy-requires c κs = simp length-take (omega arith)

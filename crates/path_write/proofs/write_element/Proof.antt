@@ -2,12 +2,8 @@
 use borrow.Author.Needs.{needs}
 use native.Mathlib.Omega.{arith}
 use mathlib.Core.Path.{_∙_}
-use Prim.Native.Nat.{_+_}
-use lib.ListN.{getD}
-use Rattle.text.specs.Frame.{times}
 use Rattle.text.proofs.Frames.{string-ends}
 use Rattle.text.proofs.Filling.{fill-byte, wrote}
-use Rattle.path.specs.Bytes.{key, element}
 use Rattle.path_write.proofs.Writing.{element-is, element-named, element-counted, elem-read, elem-ends, elem-start, elem-room, keys-room, elem-wrote}
 use Rattle.path_write.proofs.write_element.Statement.{statement}
 use Rattle.path_write.proofs.write_element.Tie as tie
@@ -26,7 +22,7 @@ returns c =
     let at-enum-told = c .enum-told in
     let at-string-end = c .before .before .string-end in
     let at-start = c .before .before .before .before .before in
-    element-named _ _ _ (at-string-end .ensures) (at-start .pre .0) (at-enum-told .given .1)
+    element-named _ _ _ (at-string-end .ensures) (at-start .pre .reads) (at-enum-told .given .1)
 
 returns-2 : tie.Need-returns-2
 returns-2 c =
@@ -34,7 +30,7 @@ returns-2 c =
     let at-n = c .before .before .n in
     let at-string-end = c .before .before .before .before .string-end in
     let at-start = c .before .before .before .before .before .before .before in
-    element-counted _ _ _ (at-string-end .ensures) (at-start .pre .0) _ (at-n .given .1) (at-if1 .taken)
+    element-counted _ _ _ (at-string-end .ensures) (at-start .pre .reads) _ (at-n .given .1) (at-if1 .taken)
 
 shared-slice-read-count : tie.Need-shared-slice-read-count
 shared-slice-read-count c = search needs
@@ -75,7 +71,8 @@ slice-write-out c =
     let at-n = c .before .before .before .before .n in
     let at-string-end = c .before .before .before .before .before .before .string-end in
     let at-start = c .before .before .before .before .before .before .before .before .before in
-    fill-byte _ _ _ _ _ _ _ (elem-start (at-start .args .out .now) (at-start .args .to) _ (times (getD (at-start .args .f .now) (at-n .given .0 .0) 0) key (at-start .args .f .now) (at-n .given .0 .0 + 1)) (element (at-start .args .f .now) (at-start .args .from)) (element-is _ _ _ (at-string-end .ensures) _ (at-n .given .1) (at-if1 .left)) (at-start .pre))
+    let is = element-is _ _ _ (at-string-end .ensures) _ (at-n .given .1) (at-if1 .left) in
+    fill-byte _ _ _ _ _ _ _ (elem-start is (at-start .pre))
 
 add-copy : tie.Need-add-copy
 add-copy c = search needs
@@ -86,7 +83,8 @@ copy-requires c κs =
     let at-n = c .before .before .before .before .before .n in
     let at-string-end = c .before .before .before .before .before .before .before .string-end in
     let at-start = c .before .before .before .before .before .before .before .before .before .before in
-    elem-room (at-start .args .out .now) (at-start .args .to) _ (times (getD (at-start .args .f .now) (at-n .given .0 .0) 0) key (at-start .args .f .now) (at-n .given .0 .0 + 1)) (element (at-start .args .f .now) (at-start .args .from)) (element-is _ _ _ (at-string-end .ensures) _ (at-n .given .1) (at-if1 .left)) (at-start .pre)
+    let is = element-is _ _ _ (at-string-end .ensures) _ (at-n .given .1) (at-if1 .left) in
+    elem-room is (at-start .pre)
 
 add-write-keys : tie.Need-add-write-keys
 add-write-keys c = search needs
@@ -104,7 +102,8 @@ write-keys-requires c κs =
     let at-n = c .before .before .before .before .before .before .before .before .before .n in
     let at-string-end = c .before .before .before .before .before .before .before .before .before .before .before .string-end in
     let at-start = c .before .before .before .before .before .before .before .before .before .before .before .before .before .before in
-    (elem-read (at-start .args .out .now) (at-start .args .to) _ (times (getD (at-start .args .f .now) (at-n .given .0 .0) 0) key (at-start .args .f .now) (at-n .given .0 .0 + 1)) (element (at-start .args .f .now) (at-start .args .from)) (element-is _ _ _ (at-string-end .ensures) _ (at-n .given .1) (at-if1 .left)) (at-start .pre), keys-room (at-start .args .out .now) (at-start .args .to) _ (times (getD (at-start .args .f .now) (at-n .given .0 .0) 0) key (at-start .args .f .now) (at-n .given .0 .0 + 1)) (element (at-start .args .f .now) (at-start .args .from)) (element-is _ _ _ (at-string-end .ensures) _ (at-n .given .1) (at-if1 .left)) (at-start .pre) _ (at-copy .ensures))
+    let is = element-is _ _ _ (at-string-end .ensures) _ (at-n .given .1) (at-if1 .left) in
+    record { reads = elem-read is (at-start .pre); room = keys-room is (at-start .pre) _ (at-copy .ensures) }
 
 same-length : tie.Need-same-length
 same-length c =
@@ -114,7 +113,8 @@ same-length c =
     let at-n = c .before .before .before .before .before .before .before .before .before .before .before .before .n in
     let at-string-end = c .before .before .before .before .before .before .before .before .before .before .before .before .before .before .string-end in
     let at-start = c .before .before .before .before .before .before .before .before .before .before .before .before .before .before .before .before .before in
-    elem-wrote (at-start .args .out .now) (at-start .args .to) _ (times (getD (at-start .args .f .now) (at-n .given .0 .0) 0) key (at-start .args .f .now) (at-n .given .0 .0 + 1)) (element (at-start .args .f .now) (at-start .args .from)) (element-is _ _ _ (at-string-end .ensures) _ (at-n .given .1) (at-if1 .left)) (at-start .pre) _ (at-copy .ensures) _ _ (at-write-keys .ensures .1) .long
+    let is = element-is _ _ _ (at-string-end .ensures) _ (at-n .given .1) (at-if1 .left) in
+    elem-wrote is (at-start .pre) _ (at-copy .ensures) _ _ (at-write-keys .ensures .wrote) .long
 
 returns-3 : tie.Need-returns-3
 returns-3 c =
@@ -124,7 +124,11 @@ returns-3 c =
     let at-n = c .before .before .before .before .before .before .before .before .before .before .before .before .n in
     let at-string-end = c .before .before .before .before .before .before .before .before .before .before .before .before .before .before .string-end in
     let at-start = c .before .before .before .before .before .before .before .before .before .before .before .before .before .before .before .before .before in
-    (at-write-keys .ensures .0 ∙ elem-ends (at-start .args .out .now) (at-start .args .to) _ (times (getD (at-start .args .f .now) (at-n .given .0 .0) 0) key (at-start .args .f .now) (at-n .given .0 .0 + 1)) (element (at-start .args .f .now) (at-start .args .from)) (element-is _ _ _ (at-string-end .ensures) _ (at-n .given .1) (at-if1 .left)) (at-start .pre), wrote _ _ _ _ _ (elem-wrote (at-start .args .out .now) (at-start .args .to) _ (times (getD (at-start .args .f .now) (at-n .given .0 .0) 0) key (at-start .args .f .now) (at-n .given .0 .0 + 1)) (element (at-start .args .f .now) (at-start .args .from)) (element-is _ _ _ (at-string-end .ensures) _ (at-n .given .1) (at-if1 .left)) (at-start .pre) _ (at-copy .ensures) _ _ (at-write-keys .ensures .1)))
+    let is = element-is _ _ _ (at-string-end .ensures) _ (at-n .given .1) (at-if1 .left) in
+    record {
+      next = at-write-keys .ensures .next ∙ elem-ends is (at-start .pre);
+      wrote = wrote _ _ _ _ _ (elem-wrote is (at-start .pre) _ (at-copy .ensures) _ _ (at-write-keys .ensures .wrote));
+    }
 
 pub write-element-spec : {M : Type 1} → statement M
 write-element-spec =

@@ -9,6 +9,7 @@ use Rattle.path_write.proofs.Writing.{Writing, writing-start, elems-roo
 use Rattle.path_write.proofs.write_elements.Statement.{statement}
 use Rattle.path_write.proofs.write_elements.Tie as tie
 
+-- The elements passed are written, up to q in `out`; the `left` elements from p on are still to be, and there is room for them.
 abbrev Inv-loop : tie.InvT-loop
 Inv-loop f from count out₀ to p₀ q₀ left₀ out p q left = Writing elemText out₀ to (written (joined elemText) (times count element f from)) (endAt (times count element f from)) (times left element f p) out q
 
@@ -18,7 +19,7 @@ abbrev μ-loop : tie.MeasureT-loop
 loop-holds : tie.Need-loop-holds Inv-loop μ-loop
 loop-holds c =
     let at-start = c .before .before in
-    writing-start elemText _ _ _ (at-start .pre .0) (at-start .pre .1)
+    writing-start elemText _ _ _ (at-start .pre)
 
 write-element-requires : tie.Need-write-element-requires Inv-loop μ-loop
 write-element-requires c κs =
@@ -39,7 +40,7 @@ loop-again c =
     let at-loop-test = c .before .before .before .before .loop-test in
     let at-loop = c .before .before .before .before .before .loop in
     let at-start = c .before .before .before .before .before .before .before .before in
-    elems-turn _ _ _ _ (at-start .args .f .now) (at-loop .p) _ _ (at-loop .left) (at-loop .inv) (at-loop-test .taken) _ _ _ (at-write-element .ensures)
+    elems-turn _ _ _ _ (at-start .args .f .now) (at-loop .p) _ _ (at-loop .left) (at-loop .inv) (at-loop-test .taken) _ _ (at-write-element .ensures)
 
 same-length : tie.Need-same-length Inv-loop μ-loop
 same-length c =
@@ -51,7 +52,8 @@ returns c =
     let at-loop-test = c .loop-test in
     let at-loop = c .before .loop in
     let at-start = c .before .before .before .before in
-    elems-done _ _ _ _ (at-start .args .f .now) (at-loop .p) _ _ (at-loop .left) (at-loop .inv) (at-loop-test .left)
+    let d = elems-done _ _ _ _ (at-start .args .f .now) (at-loop .p) _ _ (at-loop .left) (at-loop .inv) (at-loop-test .left) in
+    record { next = d .0; wrote = d .1 }
 
 pub write-elements-spec : {M : Type 1} → statement M
 write-elements-spec =

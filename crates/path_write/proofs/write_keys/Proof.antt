@@ -13,6 +13,7 @@ use Rattle.path_write.proofs.Writing.{Writing, writing-start, writing-n
 use Rattle.path_write.proofs.write_keys.Statement.{statement}
 use Rattle.path_write.proofs.write_keys.Tie as tie
 
+-- The keys passed are written, up to q in `out`; the `left` keys from p on are still to be, and there is room for them.
 abbrev Inv-loop : tie.InvT-loop
 Inv-loop f from count out₀ to p₀ q₀ left₀ out p q left = Writing keyText out₀ to (written (joined keyText) (times count key f from)) (endAt (times count key f from)) (times left key f p) out q
 
@@ -22,7 +23,7 @@ abbrev μ-loop : tie.MeasureT-loop
 loop-holds : tie.Need-loop-holds Inv-loop μ-loop
 loop-holds c =
     let at-start = c .before .before in
-    writing-start keyText _ _ _ (at-start .pre .0) (at-start .pre .1)
+    writing-start keyText _ _ _ (at-start .pre)
 
 string-end-requires : tie.Need-string-end-requires Inv-loop μ-loop
 string-end-requires c κs = search needs
@@ -127,7 +128,8 @@ write-key-requires c κs =
     let at-loop-test = c .before .before .before .before .before .before .before .before .before .before .before .loop-test in
     let at-loop = c .before .before .before .before .before .before .before .before .before .before .before .before .loop in
     let at-start = c .before .before .before .before .before .before .before .before .before .before .before .before .before .before .before in
-    writing-room _ _ _ _ _ _ _ _ (at-loop .inv) _ (times (at-loop .left - 1) key (at-start .args .f .now) (at-v .given .0 .0)) (times-turn key (at-start .args .f .now) (at-loop .p) (at-loop .left) _ _ (at-loop-test .taken) (key-got _ _ _ (at-string-end .ensures) _ _ _ (at-n .given .1) (at-string-end2 .ensures) (at-v .given .1)))
+    writing-room _ _ _ _ _ _ _ _ (at-loop .inv) _ (times (at-loop .left - 1) key (at-start .args .f .now) (at-v .given .0 .0))
+    (times-turn key (at-start .args .f .now) (at-loop .p) (at-loop .left) _ _ (at-loop-test .taken) (key-got _ _ _ (at-string-end .ensures) _ _ _ (at-n .given .1) (at-string-end2 .ensures) (at-v .given .1)))
 
 sub-left : tie.Need-sub-left Inv-loop μ-loop
 sub-left c = search needs
@@ -156,7 +158,8 @@ returns-3 : tie.Need-returns-3 Inv-loop μ-loop
 returns-3 c =
     let at-loop-test = c .loop-test in
     let at-loop = c .before .loop in
-    writing-done _ _ _ _ _ _ _ _ (at-loop .inv) _ (times-done key _ _ _ (at-loop-test .left))
+    let d = writing-done _ _ _ _ _ _ _ _ (at-loop .inv) _ (times-done key _ _ _ (at-loop-test .left)) in
+    record { next = d .0; wrote = d .1 }
 
 pub write-keys-spec : {M : Type 1} → statement M
 write-keys-spec =

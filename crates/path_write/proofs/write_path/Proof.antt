@@ -52,7 +52,7 @@ returns-3 c =
     let at-if2 = c .before .before .before .before .if2 in
     let at-if1 = c .before .before .before .before .before .before .if1 in
     let at-start = c .before .before .before .before .before .before .before .before .before in
-    more-wrote (at-start .args .out .now) (at-start .args .f .now) (at-start .pre) (omega (arith, at-if1 .left)) (at-if2 .left) _ _ (at-write-elements .ensures .1)
+    more-wrote (at-start .args .out .now) (at-start .args .f .now) (at-start .pre) (omega (arith, at-if1 .left)) (at-if2 .left) _ _ (at-write-elements .ensures .wrote)
 
 pub write-path-spec : {M : Type 1} → statement M
 write-path-spec =

@@ -1,6 +1,7 @@
 -- `write_text` answers and leaves what the definitions say: the text is stored where it is asked for if there is surely room, and is made apart otherwise.
 use borrow.Author.Needs.{needs}
 use borrow.Author.Tests.{not-true, not-false}
+use native.Mathlib.Omega.{arith}
 use mathlib.Core.Path.{sym, _∙_}
 use Rattle.path_text.proofs.Answers.{refused, stored-there}
 use Rattle.path_write.proofs.Texts.{text-bad, text-good, text-fits, text-room}
@@ -23,7 +24,10 @@ write-path-requires c κs =
     let at-if1 = c .before .before .if1 in
     let at-is-path = c .before .before .before .is-path in
     let at-start = c .before .before .before .before .before .before in
-    (text-fits (at-start .args .f .now) _ (at-is-path .ensures) (not-false _ (at-if1 .left)) .0, text-room (at-start .args .f .now) _ (at-is-path .ensures) (at-start .args .out .now) (not-false _ (at-if1 .left)) (at-if2 .taken))
+    record {
+      reads = text-fits (at-start .args .f .now) _ (at-is-path .ensures) (not-false _ (at-if1 .left)) .0;
+      room = omega (arith, text-room (at-start .args .f .now) _ (at-is-path .ensures) (at-start .args .out .now) (not-false _ (at-if1 .left)) (at-if2 .taken));
+    }
 
 same-length : tie.Need-same-length
 same-length c = search needs

@@ -10,6 +10,7 @@ use Rattle.path_write.proofs.Writing.{value-room, value-turn, value-don
 use Rattle.path_write.proofs.write_value.Statement.{statement}
 use Rattle.path_write.proofs.write_value.Tie as tie
 
+-- The bytes before i are written, up to p in `out`; those from i on are still to be.
 abbrev Inv-loop : tie.InvT-loop
 Inv-loop v out₀ at p₀ i₀ out p i = (i ≤ length v) × Pending out₀ at (joined escaped v) out p (joined escaped (drop i v))
 

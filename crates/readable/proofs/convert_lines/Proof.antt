@@ -6,13 +6,15 @@ use Prim.Native.Nat.{_-_}
 use lib.ListN.{length, length-take}
 use lib.Seq.{length-take-le}
 use Rattle.readable_lines.specs.Lines.{lineBy}
+use Rattle.readable_lines.specs.Steps.{maxMadeLine}
 use Rattle.readable_lines.proofs.Stored.{laid-to, laid-not}
 use Rattle.readable.proofs.Laying.{Laying, laying-start, laying-long, laying-stop, laying-full, laying-turn, laying-done}
 use Rattle.readable.proofs.convert_lines.Statement.{statement}
 use Rattle.readable.proofs.convert_lines.Tie as tie
 
+-- The lines before `from` are laid into `out` up to `at`, and `number` counts the line at `from`; `piece` keeps its length.
 abbrev Inv-loop : tie.InvT-loop
-Inv-loop packing text out₀ piece₀ from₀ at₀ number₀ out piece from at number = Laying (lineBy packing) text out₀ from at number out × (length piece ≡ 32769)
+Inv-loop packing text out₀ piece₀ from₀ at₀ number₀ out piece from at number = Laying (lineBy packing) text out₀ from at number out × (length piece ≡ maxMadeLine)
 
 abbrev μ-loop : tie.MeasureT-loop
 μ-loop packing text out₀ piece₀ from₀ at₀ number₀ out piece from at number = length text - from

@@ -1,7 +1,7 @@
 -- `is_line` is safe: the LF that is found lies within the text.
 use borrow.Author.Needs.{needs}
 use native.Mathlib.Omega.{arith}
-use Rattle.path_text.proofs.Reading.{name-high}
+use Rattle.text_search.proofs.Searching.{found-high}
 use Rattle.console.proofs.lines.is_line.Statement.{statement}
 use Rattle.console.proofs.lines.is_line.Tie as tie
 
@@ -15,7 +15,7 @@ part-is-same-start : tie.Need-part-is-same-start
 part-is-same-start c = search needs
 
 part-is-same-end : tie.Need-part-is-same-end
-part-is-same-end c = name-high _ _ _ _ _ (omega arith) (c .find .ensures)
+part-is-same-end c = found-high _ _ _ _ (omega arith) (c .find .ensures)
 
 is-same-requires : tie.Need-is-same-requires
 is-same-requires c κs = search needs

@@ -1,7 +1,7 @@
 -- `quote_at` is safe: the LF that is found lies within the text.
 use borrow.Author.Needs.{needs}
 use native.Mathlib.Omega.{arith}
-use Rattle.path_text.proofs.Reading.{name-high}
+use Rattle.text_search.proofs.Searching.{found-high}
 use Rattle.console.proofs.lines.quote_at.Statement.{statement}
 use Rattle.console.proofs.lines.quote_at.Tie as tie
 
@@ -15,7 +15,7 @@ part-quote-start : tie.Need-part-quote-start
 part-quote-start c = search needs
 
 part-quote-end : tie.Need-part-quote-end
-part-quote-end c = name-high _ _ _ _ _ (omega arith) (c .find .ensures)
+part-quote-end c = found-high _ _ _ _ (omega arith) (c .find .ensures)
 
 quote-requires : tie.Need-quote-requires
 quote-requires c κs = search needs

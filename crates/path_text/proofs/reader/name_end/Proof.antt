@@ -1,15 +1,17 @@
 -- `name_end` equals its definition: the bytes passed belong to the name.
 use borrow.Author.Needs.{needs}
 use native.Mathlib.Omega.{arith}
-use borrow.Author.Tests.{not-true, not-false}
-use mathlib.Core.Path.{_≡_, refl, sym, _∙_}
+use mathlib.Core.Path.{_≡_, refl, sym, ap, _∙_}
+use mathlib.Core.Bool.{not}
 use Prim.Native.Nat.{_+_, _-_, _≤_}
 use lib.ListN.{length, drop}
+use Rattle.text_search.proofs.Searching.{found, passed, ran-out}
+use Rattle.path.specs.Walk.{noName}
 use Rattle.path_text.specs.Steps.{nameRun}
-use Rattle.path_text.proofs.Judging.{run-stops, run-goes, run-out}
 use Rattle.path_text.proofs.reader.name_end.Statement.{statement}
 use Rattle.path_text.proofs.reader.name_end.Tie as tie
 
+-- What stands from `at` up to i are bytes of names, so the name ends where the rest from i on does.
 abbrev Inv-loop : tie.InvT-loop
 Inv-loop text at i₀ i = (at ≤ i) × (i ≤ length text) × (at + nameRun (drop at text) ≡ i + nameRun (drop i text))
 
@@ -34,7 +36,7 @@ returns c =
     let at-loop-test = c .before .before .before .loop-test in
     let at-loop = c .before .before .before .before .loop in
     let at-start = c .before .before .before .before .before .before in
-    omega (arith, run-stops (at-start .args .text .now) (at-loop .i) (at-loop-test .taken) (sym (at-is-name .ensures) ∙ not-true _ (at-if1 .taken)), at-loop .inv .2)
+    omega (arith, found noName (at-start .args .text .now) (at-loop .i) (at-loop-test .taken) (ap not (sym (at-is-name .ensures)) ∙ at-if1 .taken), at-loop .inv .2)
 
 add-i : tie.Need-add-i Inv-loop μ-loop
 add-i c = search needs
@@ -49,14 +51,14 @@ loop-again c =
     let at-loop-test = c .before .before .before .loop-test in
     let at-loop = c .before .before .before .before .loop in
     let at-start = c .before .before .before .before .before .before in
-    (omega arith, omega arith, omega (arith, run-goes (at-start .args .text .now) (at-loop .i) (at-loop-test .taken) (sym (at-is-name .ensures) ∙ not-false _ (at-if1 .left)), at-loop .inv .2))
+    (omega arith, omega arith, omega (arith, passed noName (at-start .args .text .now) (at-loop .i) (at-loop-test .taken) (ap not (sym (at-is-name .ensures)) ∙ at-if1 .left), at-loop .inv .2))
 
 returns-2 : tie.Need-returns-2 Inv-loop μ-loop
 returns-2 c =
     let at-loop-test = c .loop-test in
     let at-loop = c .before .loop in
     let at-start = c .before .before .before in
-    omega (arith, run-out (at-start .args .text .now) (at-loop .i) (at-loop-test .left), at-loop .inv .2)
+    omega (arith, ran-out noName (at-start .args .text .now) (at-loop .i) (at-loop-test .left), at-loop .inv .2)
 
 pub name-end-spec : {M : Type 1} → statement M
 name-end-spec =

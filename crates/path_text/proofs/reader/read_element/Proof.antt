@@ -2,7 +2,8 @@
 use borrow.Author.Needs.{needs}
 use native.Mathlib.Omega.{arith}
 use mathlib.Core.Path.{refl}
-use Rattle.path.specs.Walk.{nameGrade, good}
+use Rattle.limits.specs.Limits.{maxStringBytes, maxKeysBytes}
+use Rattle.path.specs.Walk.{nameRefusal, good}
 use Rattle.path_text.specs.Steps.{nothing}
 use Rattle.path_text.proofs.Storing.{stored-to, stored-not, string-longer, room-less, room-end, room-then}
 use Rattle.path_text.proofs.Judging.{pass-got, element-misnamed, element-dots, element-stores}
@@ -12,7 +13,7 @@ use Rattle.path_text.proofs.reader.read_element.Tie as tie
 read-name-requires : tie.Need-read-name-requires
 read-name-requires c κs =
     let at-start = c .before .before .before in
-    (room-less _ _ _ _ _ _ (at-start .pre) 65 1 (omega arith) (omega arith), refl, refl)
+    (room-less _ _ _ _ _ _ (at-start .pre) maxStringBytes 1 (omega arith) (omega arith), refl, refl)
 
 enum-known-n : tie.Need-enum-known-n
 enum-known-n c = search needs
@@ -63,7 +64,7 @@ returns-2 c =
     let at-n = c .before .before .before .before .n in
     let at-read-name = c .before .before .before .before .before .before .before .before .read-name in
     let u = stored-to (at-read-name .ensures) (at-n .given .1) in
-    let g = pass-got (good nameGrade) _ (u .1) in
+    let g = pass-got (good nameRefusal) _ (u .1) in
     nothing (element-dots _ _ _ _ _ (g .0) (at-is-dots .ensures) (at-if1 .taken))
 
 read-keys-requires : tie.Need-read-keys-requires
@@ -72,7 +73,7 @@ read-keys-requires c κs =
     let at-read-name = c .before .before .before .before .before .before .before .before .before .read-name in
     let at-start = c .before .before .before .before .before .before .before .before .before .before .before .before .before in
     let u = stored-to (at-read-name .ensures) (at-n .given .1) in
-    room-then _ _ _ _ _ _ (at-start .pre) 65 1 _ _ (u .3) (omega (arith, u .2 .ends)) 521 1 _ _ _ (u .2) (omega arith) (omega arith) (omega arith) (omega arith) (u .3 .inside)
+    room-then _ _ _ _ _ _ (at-start .pre) maxStringBytes 1 _ _ (u .3) (omega (arith, u .2 .ends)) maxKeysBytes 1 _ _ _ (u .2) (omega arith) (omega arith) (omega arith) (omega arith) (u .3 .inside)
 
 same-length-3 : tie.Need-same-length-3
 same-length-3 c = search needs
@@ -86,8 +87,8 @@ returns-3 c =
     let at-read-name = c .before .before .before .before .before .before .before .before .before .before .before .before .read-name in
     let at-start = c .before .before .before .before .before .before .before .before .before .before .before .before .before .before .before .before in
     let u = stored-to (at-read-name .ensures) (at-n .given .1) in
-    let g = pass-got (good nameGrade) _ (u .1) in
-    element-stores _ _ _ _ (g .0) (g .1) _ (at-is-dots .ensures) (at-if1 .left) _ _ _ _ _ _ (u .2) (u .3) (room-end _ _ _ _ _ _ (at-start .pre) 65 1 _ _ (u .3) (omega (arith, u .2 .ends)) (omega arith) (omega arith)) (at-read-keys .ensures)
+    let g = pass-got (good nameRefusal) _ (u .1) in
+    element-stores _ _ _ _ (g .0) (g .1) _ (at-is-dots .ensures) (at-if1 .left) _ _ _ _ _ _ (u .2) (u .3) (room-end _ _ _ _ _ _ (at-start .pre) maxStringBytes 1 _ _ (u .3) (omega (arith, u .2 .ends)) (omega arith) (omega arith)) (at-read-keys .ensures)
 
 pub read-element-spec : {M : Type 1} → statement M
 read-element-spec =

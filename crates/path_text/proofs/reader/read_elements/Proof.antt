@@ -1,7 +1,8 @@
 -- `read_elements` stores the elements, and then their count.
 use borrow.Author.Needs.{needs}
 use native.Mathlib.Omega.{arith}
-use Rattle.path_text.specs.Steps.{goodElement, Within, stores, nothing}
+use Rattle.limits.specs.Limits.{maxElements, maxElemBytes, maxPathBytes}
+use Rattle.path_text.specs.Steps.{maxGrowth, goodElement, Within, stores, nothing}
 use Rattle.path_text.proofs.Storing.{Storing, storing-start, storing-long, storing-from, storing-none, storing-done, storing-turn, stored-to, stored-not, within-after, within-less, room-byte, room-end, room-after}
 use Prim.Native.Nat.{_*_, _-_, _≤_}
 use lib.ListN.{length-set}
@@ -11,8 +12,9 @@ use Rattle.path_text.proofs.Reading.{some-left, next-inside, each-turn,
 use Rattle.path_text.proofs.reader.read_elements.Statement.{statement}
 use Rattle.path_text.proofs.reader.read_elements.Tie as tie
 
+-- The elements read so far, one for each that is no longer `left`, stand in `out` after the count, up to q; what is read from p on completes them.
 abbrev Inv-loop : tie.InvT-loop
-Inv-loop text out₀ p₀ q₀ left₀ out p q left = Storing elemBytes out₀ 1 (each 47 16 goodElement text 0) (16 - left) out q (each 47 left goodElement text p) × (left ≤ 16) × Within (9377 - 586 * left) (17 - left) text 0 p 0 q
+Inv-loop text out₀ p₀ q₀ left₀ out p q left = Storing elemBytes out₀ 1 (each 47 maxElements goodElement text 0) (maxElements - left) out q (each 47 left goodElement text p) × (left ≤ maxElements) × Within (maxPathBytes - maxElemBytes * left) (maxGrowth - left) text 0 p 0 q
 
 abbrev μ-loop : tie.MeasureT-loop
 μ-loop text out₀ p₀ q₀ left₀ out p q left = left
@@ -41,7 +43,7 @@ read-element-requires c κs =
     let at-start = c .before .before .before .before .before .before in
     let i = next-inside 47 (at-loop .left) (at-start .args .text .now) (at-loop .p) _ (at-byte-at .ensures) (at-if1 .taken) (omega arith) in
     let z = some-left 47 (at-loop .left) (at-start .args .text .now) (at-loop .p) _ (at-byte-at .ensures) (at-if1 .taken) in
-    room-after _ _ _ _ _ _ (at-start .pre) _ _ _ _ (at-loop .inv .2) (omega (arith, storing-from _ _ _ _ _ _ _ _ (at-loop .inv .0))) 586 2 _ _ (storing-long _ _ _ _ _ _ _ _ (at-loop .inv .0)) (omega (arith, z, at-loop .inv .1)) (omega (arith, z, at-loop .inv .1)) (omega (arith, i))
+    room-after _ _ _ _ _ _ (at-start .pre) _ _ _ _ (at-loop .inv .2) (omega (arith, storing-from _ _ _ _ _ _ _ _ (at-loop .inv .0))) maxElemBytes 2 _ _ (storing-long _ _ _ _ _ _ _ _ (at-loop .inv .0)) (omega (arith, z, at-loop .inv .1)) (omega (arith, z, at-loop .inv .1)) (omega (arith, i))
 
 enum-known-e : tie.Need-enum-known-e Inv-loop μ-loop
 enum-known-e c = search needs
@@ -93,8 +95,9 @@ loop-again c =
     let z = some-left 47 (at-loop .left) (at-start .args .text .now) (at-loop .p) _ (at-byte-at .ensures) (at-if1 .taken) in
     let l = storing-long _ _ _ _ _ _ _ _ (at-loop .inv .0) in
     let o = storing-from _ _ _ _ _ _ _ _ (at-loop .inv .0) in
-    let w = within-after (9377 - 586 * at-loop .left) (17 - at-loop .left) 586 2 (9377 - 586 * (at-loop .left - 1)) (17 - (at-loop .left - 1)) _ _ _ _ _ _ _ _ (at-loop .inv .2) (u .3) (omega (arith, z, at-loop .inv .1)) (omega (arith, z, at-loop .inv .1)) in
-    let f = room-end _ _ _ _ _ _ (at-start .pre) (9377 - 586 * (at-loop .left - 1)) (17 - (at-loop .left - 1)) _ _ w (omega (arith, u .2 .ends)) (omega arith) (omega arith) in (
+    let w = within-after (maxPathBytes - maxElemBytes * at-loop .left) (maxGrowth - at-loop .left) maxElemBytes 2 (maxPathBytes - maxElemBytes * (at-loop .left - 1))
+    (maxGrowth - (at-loop .left - 1)) _ _ _ _ _ _ _ _ (at-loop .inv .2) (u .3) (omega (arith, z, at-loop .inv .1)) (omega (arith, z, at-loop .inv .1)) in
+    let f = room-end _ _ _ _ _ _ (at-start .pre) (maxPathBytes - maxElemBytes * (at-loop .left - 1)) (maxGrowth - (at-loop .left - 1)) _ _ w (omega (arith, u .2 .ends)) (omega arith) (omega arith) in (
       storing-turn _ _ _ _ _ _ _ _ (at-loop .inv .0) (u .0) _ _ _ _ (each-turn 47 (at-loop .left) (at-start .args .text .now) (at-loop .p) _ (at-byte-at .ensures) (at-if1 .taken) goodElement (u .0) _ (u .1)) (u .2)
           (omega (arith, u .2 .ends, f)) (omega (arith, z, at-loop .inv .1)),
       omega (arith, at-loop .inv .1),

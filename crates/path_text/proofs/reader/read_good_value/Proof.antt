@@ -1,7 +1,7 @@
 -- `read_good_value` stores the value, where it is good.
 use borrow.Author.Needs.{needs}
 use native.Mathlib.Omega.{arith}
-use Rattle.path.specs.Walk.{valueGrade, good}
+use Rattle.path.specs.Walk.{valueRefusal, good}
 use Rattle.path_text.specs.Steps.{nothing}
 use Rattle.path_text.proofs.Storing.{stored-not}
 use Rattle.path_text.proofs.Judging.{pass-none, value-starts, value-ends, value-bad, value-stores}
@@ -26,7 +26,7 @@ returns : tie.Need-returns
 returns c =
     let at-enum-told = c .enum-told in
     let at-read-value = c .before .before .before .before .read-value in
-    nothing (pass-none (good valueGrade) (stored-not (at-read-value .ensures) (at-enum-told .given .1)))
+    nothing (pass-none (good valueRefusal) (stored-not (at-read-value .ensures) (at-enum-told .given .1)))
 
 add-start : tie.Need-add-start
 add-start c =
@@ -35,29 +35,29 @@ add-start c =
     let at-start = c .before .before .before .before .before .before .before .before .before in
     omega (arith, value-starts (at-start .pre) (at-read-value .ensures) (at-v .given .1), value-ends (at-start .pre) (at-read-value .ensures) (at-v .given .1))
 
-sub-value-fault : tie.Need-sub-value-fault
-sub-value-fault c =
+sub-value-refusal : tie.Need-sub-value-refusal
+sub-value-refusal c =
     let at-v = c .before .v in
     let at-read-value = c .before .before .before .before .before .read-value in
     let at-start = c .before .before .before .before .before .before .before .before .before in
     value-starts (at-start .pre) (at-read-value .ensures) (at-v .given .1)
 
-part-value-fault-start : tie.Need-part-value-fault-start
-part-value-fault-start c =
+part-value-refusal-start : tie.Need-part-value-refusal-start
+part-value-refusal-start c =
     let at-v = c .before .before .v in
     let at-read-value = c .before .before .before .before .before .before .read-value in
     let at-start = c .before .before .before .before .before .before .before .before .before .before in
     value-starts (at-start .pre) (at-read-value .ensures) (at-v .given .1)
 
-part-value-fault-end : tie.Need-part-value-fault-end
-part-value-fault-end c =
+part-value-refusal-end : tie.Need-part-value-refusal-end
+part-value-refusal-end c =
     let at-v = c .before .before .v in
     let at-read-value = c .before .before .before .before .before .before .read-value in
     let at-start = c .before .before .before .before .before .before .before .before .before .before in
     value-ends (at-start .pre) (at-read-value .ensures) (at-v .given .1)
 
-value-fault-requires : tie.Need-value-fault-requires
-value-fault-requires c κs = search needs
+value-refusal-requires : tie.Need-value-refusal-requires
+value-refusal-requires c κs = search needs
 
 same-length-2 : tie.Need-same-length-2
 same-length-2 c = search needs
@@ -65,11 +65,11 @@ same-length-2 c = search needs
 returns-2 : tie.Need-returns-2
 returns-2 c =
     let at-if1 = c .if1 in
-    let at-value-fault = c .before .value-fault in
+    let at-value-refusal = c .before .value-refusal in
     let at-v = c .before .before .before .before .before .v in
     let at-read-value = c .before .before .before .before .before .before .before .before .before .read-value in
     let at-start = c .before .before .before .before .before .before .before .before .before .before .before .before .before in
-    value-bad (at-start .pre) (at-read-value .ensures) (at-v .given .1) _ (at-value-fault .ensures) (at-if1 .taken)
+    value-bad (at-start .pre) (at-read-value .ensures) (at-v .given .1) _ (at-value-refusal .ensures) (at-if1 .taken)
 
 same-length-3 : tie.Need-same-length-3
 same-length-3 c = search needs
@@ -77,11 +77,11 @@ same-length-3 c = search needs
 returns-3 : tie.Need-returns-3
 returns-3 c =
     let at-if1 = c .if1 in
-    let at-value-fault = c .before .value-fault in
+    let at-value-refusal = c .before .value-refusal in
     let at-v = c .before .before .before .before .before .v in
     let at-read-value = c .before .before .before .before .before .before .before .before .before .read-value in
     let at-start = c .before .before .before .before .before .before .before .before .before .before .before .before .before in
-    value-stores (at-start .pre) (at-read-value .ensures) (at-v .given .1) _ (at-value-fault .ensures) (at-if1 .left)
+    value-stores (at-start .pre) (at-read-value .ensures) (at-v .given .1) _ (at-value-refusal .ensures) (at-if1 .left)
 
 pub read-good-value-spec : {M : Type 1} → statement M
 read-good-value-spec =
@@ -93,10 +93,10 @@ read-good-value-spec =
     same-length
     returns
     add-start
-    sub-value-fault
-    part-value-fault-start
-    part-value-fault-end
-    value-fault-requires
+    sub-value-refusal
+    part-value-refusal-start
+    part-value-refusal-end
+    value-refusal-requires
     same-length-2
     returns-2
     same-length-3

@@ -2,6 +2,7 @@
 use borrow.Author.Needs.{needs}
 use native.Mathlib.Omega.{arith}
 use mathlib.Core.Path.{refl, sym, _∙_}
+use Rattle.limits.specs.Limits.{maxStringBytes}
 use Rattle.path_text.specs.Steps.{nothing}
 use Rattle.path_text.proofs.Sound.{inside}
 use Rattle.path_text.proofs.Storing.{stored-to, stored-not, room-less, room-end, room-then}
@@ -12,7 +13,7 @@ use Rattle.path_text.proofs.reader.read_key.Tie as tie
 read-name-requires : tie.Need-read-name-requires
 read-name-requires c κs =
     let at-start = c .before .before .before in
-    (room-less _ _ _ _ _ _ (at-start .pre) 65 1 (omega arith) (omega arith), refl, refl)
+    (room-less _ _ _ _ _ _ (at-start .pre) maxStringBytes 1 (omega arith) (omega arith), refl, refl)
 
 enum-known-n : tie.Need-enum-known-n
 enum-known-n c = search needs
@@ -59,7 +60,7 @@ read-good-value-requires c κs =
     let at-read-name = c .before .before .before .before .before .before .before .before .read-name in
     let at-start = c .before .before .before .before .before .before .before .before .before .before .before .before in
     let u = stored-to (at-read-name .ensures) (at-n .given .1) in
-    room-then _ _ _ _ _ _ (at-start .pre) 65 1 _ _ (u .3) (omega (arith, u .2 .ends)) 65 1 _ _ _ (u .2) (omega arith) (omega arith) (omega arith) (omega arith)
+    room-then _ _ _ _ _ _ (at-start .pre) maxStringBytes 1 _ _ (u .3) (omega (arith, u .2 .ends)) maxStringBytes 1 _ _ _ (u .2) (omega arith) (omega arith) (omega arith) (omega arith)
     (omega (arith, inside (at-start .args .text .now) (at-n .given .0 .0) 61 (omega arith) (sym (at-byte-at .ensures) ∙ at-if1 .left)))
 
 same-length-3 : tie.Need-same-length-3
@@ -74,7 +75,7 @@ returns-3 c =
     let at-read-name = c .before .before .before .before .before .before .before .before .before .before .before .read-name in
     let at-start = c .before .before .before .before .before .before .before .before .before .before .before .before .before .before .before in
     let u = stored-to (at-read-name .ensures) (at-n .given .1) in
-    key-stores _ _ _ _ (u .1) (sym (at-byte-at .ensures) ∙ at-if1 .left) _ _ _ _ _ _ (u .2) (u .3) (room-end _ _ _ _ _ _ (at-start .pre) 65 1 _ _ (u .3) (omega (arith, u .2 .ends)) (omega arith) (omega arith)) (at-read-good-value .ensures)
+    key-stores _ _ _ _ (u .1) (sym (at-byte-at .ensures) ∙ at-if1 .left) _ _ _ _ _ _ (u .2) (u .3) (room-end _ _ _ _ _ _ (at-start .pre) maxStringBytes 1 _ _ (u .3) (omega (arith, u .2 .ends)) (omega arith) (omega arith)) (at-read-good-value .ensures)
 
 pub read-key-spec : {M : Type 1} → statement M
 read-key-spec =

@@ -5,6 +5,7 @@ use mathlib.Core.Path.{sym, ap, _∙_}
 use mathlib.Core.Bool.{not}
 use Prim.Native.Nat.{_+_, _*_, _-_, _≤_}
 use lib.ListN.{length-set}
+use Rattle.limits.specs.Limits.{maxKeys, maxKeyBytes, maxKeysBytes}
 use Rattle.path.specs.Bytes.{keyBytes}
 use Rattle.path_text.specs.TextReader.{each}
 use Rattle.path_text.specs.Steps.{goodKey, distinct, Within, stores, nothing}
@@ -14,8 +15,9 @@ use Rattle.path_text.proofs.Judging.{pass-good, pass-bad, pass-none, ke
 use Rattle.path_text.proofs.reader.read_keys.Statement.{statement}
 use Rattle.path_text.proofs.reader.read_keys.Tie as tie
 
+-- The keys read so far, one for each that is no longer `left`, stand in `out` after the count, up to q; what is read from p on completes them.
 abbrev Inv-loop : tie.InvT-loop
-Inv-loop text at out₀ to start p₀ q₀ left₀ out p q left = Storing keyBytes out₀ (to + 1) (each 91 4 goodKey text at) (4 - left) out q (each 91 left goodKey text p) × (left ≤ 4) × Within (521 - 130 * left) 1 text at p to q
+Inv-loop text at out₀ to start p₀ q₀ left₀ out p q left = Storing keyBytes out₀ (to + 1) (each 91 maxKeys goodKey text at) (maxKeys - left) out q (each 91 left goodKey text p) × (left ≤ maxKeys) × Within (maxKeysBytes - maxKeyBytes * left) 1 text at p to q
 
 abbrev μ-loop : tie.MeasureT-loop
 μ-loop text at out₀ to start p₀ q₀ left₀ out p q left = left
@@ -49,7 +51,7 @@ read-key-requires c κs =
     let at-start = c .before .before .before .before .before .before in
     let i = next-inside 91 (at-loop .left) (at-start .args .text .now) (at-loop .p) _ (at-byte-at .ensures) (at-if1 .taken) (omega arith) in
     let z = some-left 91 (at-loop .left) (at-start .args .text .now) (at-loop .p) _ (at-byte-at .ensures) (at-if1 .taken) in
-    room-after _ _ _ _ _ _ (at-start .pre) _ _ _ _ (at-loop .inv .2) (omega (arith, storing-from _ _ _ _ _ _ _ _ (at-loop .inv .0))) 130 1 _ _ (storing-long _ _ _ _ _ _ _ _ (at-loop .inv .0)) (omega (arith, z, at-loop .inv .1)) (omega (arith, z, at-loop .inv .1)) (omega (arith, i))
+    room-after _ _ _ _ _ _ (at-start .pre) _ _ _ _ (at-loop .inv .2) (omega (arith, storing-from _ _ _ _ _ _ _ _ (at-loop .inv .0))) maxKeyBytes 1 _ _ (storing-long _ _ _ _ _ _ _ _ (at-loop .inv .0)) (omega (arith, z, at-loop .inv .1)) (omega (arith, z, at-loop .inv .1)) (omega (arith, i))
 
 enum-known-k : tie.Need-enum-known-k Inv-loop μ-loop
 enum-known-k c = search needs
@@ -101,8 +103,8 @@ loop-again c =
     let z = some-left 91 (at-loop .left) (at-start .args .text .now) (at-loop .p) _ (at-byte-at .ensures) (at-if1 .taken) in
     let l = storing-long _ _ _ _ _ _ _ _ (at-loop .inv .0) in
     let o = storing-from _ _ _ _ _ _ _ _ (at-loop .inv .0) in
-    let w = within-after (521 - 130 * at-loop .left) 1 130 1 (521 - 130 * (at-loop .left - 1)) 1 _ _ _ _ _ _ _ _ (at-loop .inv .2) (u .3) (omega (arith, z, at-loop .inv .1)) (omega (arith, z, at-loop .inv .1)) in
-    let f = room-end _ _ _ _ _ _ (at-start .pre) (521 - 130 * (at-loop .left - 1)) 1 _ _ w (omega (arith, u .2 .ends)) (omega arith) (omega arith) in (
+    let w = within-after (maxKeysBytes - maxKeyBytes * at-loop .left) 1 maxKeyBytes 1 (maxKeysBytes - maxKeyBytes * (at-loop .left - 1)) 1 _ _ _ _ _ _ _ _ (at-loop .inv .2) (u .3) (omega (arith, z, at-loop .inv .1)) (omega (arith, z, at-loop .inv .1)) in
+    let f = room-end _ _ _ _ _ _ (at-start .pre) (maxKeysBytes - maxKeyBytes * (at-loop .left - 1)) 1 _ _ w (omega (arith, u .2 .ends)) (omega arith) (omega arith) in (
       storing-turn _ _ _ _ _ _ _ _ (at-loop .inv .0) (u .0) _ _ _ _ (each-turn 91 (at-loop .left) (at-start .args .text .now) (at-loop .p) _ (at-byte-at .ensures) (at-if1 .taken) goodKey (u .0) _ (u .1)) (u .2)
           (omega (arith, u .2 .ends, f)) (omega (arith, z, at-loop .inv .1)),
       omega (arith, at-loop .inv .1),
@@ -145,7 +147,8 @@ returns-2 c =
     let at-byte-at = c .before .before .before .before .before .byte-at in
     let at-loop = c .before .before .before .before .before .before .loop in
     let at-start = c .before .before .before .before .before .before .before .before .before in
-    nothing (pass-bad distinct (storing-done _ _ _ _ _ _ _ _ (at-loop .inv .0) _ (each-done 91 (at-loop .left) (at-start .args .text .now) (at-loop .p) _ (at-byte-at .ensures) (at-if1 .left) goodKey)) (ap not (sym (keys-twice _ _ _ _ _ _ _ (at-loop .inv .0 .wrote) (at-loop .inv .0 .room) (at-loop .inv .0 .count) (at-has-twice .ensures)) ∙ at-if2 .taken)))
+    nothing (pass-bad distinct (storing-done _ _ _ _ _ _ _ _ (at-loop .inv .0) _ (each-done 91 (at-loop .left) (at-start .args .text .now) (at-loop .p) _ (at-byte-at .ensures) (at-if1 .left) goodKey))
+    (ap not (sym (keys-twice _ _ _ _ _ _ _ (at-loop .inv .0 .wrote) (at-loop .inv .0 .room) (at-loop .inv .0 .count) (at-has-twice .ensures)) ∙ at-if2 .taken)))
 
 cast-out : tie.Need-cast-out Inv-loop μ-loop
 cast-out c = omega arith
@@ -169,7 +172,8 @@ returns-3 c =
     let at-byte-at = c .before .before .before .before .before .byte-at in
     let at-loop = c .before .before .before .before .before .before .loop in
     let at-start = c .before .before .before .before .before .before .before .before .before in
-    stores (pass-good distinct (storing-done _ _ _ _ _ _ _ _ (at-loop .inv .0) _ (each-done 91 (at-loop .left) (at-start .args .text .now) (at-loop .p) _ (at-byte-at .ensures) (at-if1 .left) goodKey)) (ap not (sym (keys-twice _ _ _ _ _ _ _ (at-loop .inv .0 .wrote) (at-loop .inv .0 .room) (at-loop .inv .0 .count) (at-has-twice .ensures)) ∙ at-if2 .left)))
+    stores (pass-good distinct (storing-done _ _ _ _ _ _ _ _ (at-loop .inv .0) _ (each-done 91 (at-loop .left) (at-start .args .text .now) (at-loop .p) _ (at-byte-at .ensures) (at-if1 .left) goodKey))
+    (ap not (sym (keys-twice _ _ _ _ _ _ _ (at-loop .inv .0 .wrote) (at-loop .inv .0 .room) (at-loop .inv .0 .count) (at-has-twice .ensures)) ∙ at-if2 .left)))
     (wrote-counted keyBytes _ _ _ _ _ _ (at-loop .inv .0 .count) (at-loop .inv .0 .room) (at-loop .inv .0 .wrote)) (within-less _ _ _ _ _ _ _ _ _ (at-loop .inv .2) (omega arith) (omega arith))
 
 pub read-keys-spec : {M : Type 1} → statement M

@@ -4,7 +4,7 @@ use native.Mathlib.Omega.{arith}
 use Prim.Native.Nat.{_-_}
 use lib.ListN.{length-set}
 use Rattle.text.proofs.Filling.{wrote-long}
-use Rattle.path.specs.Walk.{nameGrade, good}
+use Rattle.path.specs.Walk.{nameRefusal, good}
 use Rattle.path_text.specs.Steps.{stores, nothing}
 use Rattle.path_text.proofs.Storing.{room-byte}
 use Rattle.path_text.proofs.Reading.{name-within, name-room, name-low, name-high, name-got, wrote-string, string-fits, part-length}
@@ -40,7 +40,8 @@ returns-2 c =
     let at-byte-at = c .before .before .byte-at in
     let at-name-end = c .before .before .before .name-end in
     let at-start = c .before .before .before .before .before .before in
-    nothing (name-unsized _ _ (at-start .pre .1) (at-start .pre .2) _ _ _ _ (at-start .pre .0 .starts) (at-name-end .ensures) (at-byte-at .ensures) (name-ends _ _ (at-start .pre .1) (at-start .pre .2) _ _ _ _ (at-start .pre .0 .starts) (at-name-end .ensures) (at-byte-at .ensures) (at-if1 .left)) (at-if2 .taken))
+    nothing (name-unsized _ _ (at-start .pre .1) (at-start .pre .2) _ _ _ _ (at-start .pre .0 .starts) (at-name-end .ensures) (at-byte-at .ensures)
+    (name-ends _ _ (at-start .pre .1) (at-start .pre .2) _ _ _ _ (at-start .pre .0 .starts) (at-name-end .ensures) (at-byte-at .ensures) (at-if1 .left)) (at-if2 .taken))
 
 cast-out : tie.Need-cast-out
 cast-out c =
@@ -130,7 +131,7 @@ returns-3 c =
     let l = part-length (at-start .args .text .now) (at-start .args .at) (at-name-end .result) (name-low _ _ _ _ _ (at-start .pre .0 .starts) e) (name-high _ _ _ _ _ (at-start .pre .0 .starts) e) in
     let r = name-room _ _ _ _ _ (at-start .pre .0 .starts) e _ f _ (at-start .pre .0) in
     let g = name-clear _ _ (at-start .pre .1) (at-start .pre .2) _ _ _ _ (at-start .pre .0 .starts) (at-name-end .ensures) (at-byte-at .ensures) e (at-if2 .left) in
-    stores (pass-good (good nameGrade) (name-got _ _ _ _ _ (at-start .pre .0 .starts) e f) g) (wrote-string (at-start .args .out .now) (at-start .args .to) _ _ _ l r (at-copy .ensures)) (name-within _ _ _ _ _ (at-start .pre .0 .starts) e _ f)
+    stores (pass-good (good nameRefusal) (name-got _ _ _ _ _ (at-start .pre .0 .starts) e f) g) (wrote-string (at-start .args .out .now) (at-start .args .to) _ _ _ l r (at-copy .ensures)) (name-within _ _ _ _ _ (at-start .pre .0 .starts) e _ f)
 
 pub read-name-spec : {M : Type 1} → statement M
 read-name-spec =

@@ -1,6 +1,7 @@
 -- `read_plain` stores the bytes of the value, one after another.
 use borrow.Author.Needs.{needs}
 use native.Mathlib.Omega.{arith}
+use Rattle.limits.specs.Limits.{maxString}
 use Rattle.path_text.specs.Steps.{Within, stores, nothing}
 use Rattle.path_text.proofs.Storing.{storing-from, room-start, Storing, storing-start, storing-long, storing-none, storing-done, storing-turn}
 use Rattle.path_text.proofs.Reading.{byte-inside, plain-turn, plain-room, plain-end, single, wrote-plain, end-inside, value-end, value-stop, value-full, value-turn}
@@ -11,8 +12,9 @@ use Rattle.path_text.proofs.Sound.{inside}
 use Rattle.path_text.proofs.reader.read_plain.Statement.{statement}
 use Rattle.path_text.proofs.reader.read_plain.Tie as tie
 
+-- The bytes read so far, one for each that is no longer `left`, stand in `out` from `to` up to q; what is read from p on completes the value.
 abbrev Inv-loop : tie.InvT-loop
-Inv-loop text at out₀ to p₀ q₀ left₀ out p q left = Storing single out₀ to (value 64 text at) (64 - left) out q (value left text p) × (left ≤ 64) × Within (64 - left) 0 text at p to q
+Inv-loop text at out₀ to p₀ q₀ left₀ out p q left = Storing single out₀ to (value maxString text at) (maxString - left) out q (value left text p) × (left ≤ maxString) × Within (maxString - left) 0 text at p to q
 
 abbrev μ-loop : tie.MeasureT-loop
 μ-loop text at out₀ to p₀ q₀ left₀ out p q left = left

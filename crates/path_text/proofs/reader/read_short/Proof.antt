@@ -1,4 +1,4 @@
--- `read_short`: there is room apart for 17 bytes more than the text has.
+-- `read_short`: there is room apart for all the bytes that a text of this length can give.
 use borrow.Author.Needs.{needs}
 use native.Mathlib.Omega.{arith}
 use Rattle.path_text.proofs.reader.read_short.Statement.{statement}

@@ -10,6 +10,7 @@ use Rattle.readable_lines.proofs.Converting.{Going, going-start, going-
 use Rattle.readable_lines.proofs.form.convert_parts.Statement.{statement}
 use Rattle.readable_lines.proofs.form.convert_parts.Tie as tie
 
+-- The parts of the form before i are converted: read up to p, stored up to q. Those from i on, read from p on, complete the line.
 abbrev Inv-loop : tie.InvT-loop
 Inv-loop packing form s at out₀ to p₀ q₀ i₀ out p q i = (i ≤ length form) × Going (partsBy packing) form s at out₀ to i p out q
 

@@ -10,6 +10,7 @@ use Rattle.readable_parts.proofs.Digits.{pair-room, second-room, pair-t
 use Rattle.readable_parts.proofs.hex.write_hex.Statement.{statement}
 use Rattle.readable_parts.proofs.hex.write_hex.Tie as tie
 
+-- The digits of the bytes before i are written, up to p in `out`; those of the bytes from i on are still to be.
 abbrev Inv-loop : tie.InvT-loop
 Inv-loop f out₀ at p₀ i₀ out p i = (i ≤ length f) × Pending out₀ at (hexText f) out p (joined hexPair (drop i f))
 

@@ -155,7 +155,8 @@ returns-7 c =
     let at-if2 = c .before .before .before .before .if2 in
     let at-if1 = c .before .before .before .before .before .if1 in
     let at-start = c .before .before .before .before .before .before .before .before in
-    put-as shown _ (is-plain shown _ (at-if1 .left) (at-if2 .left) (at-if3 .left) (at-if4 .left) (at-if5 .left) (at-if6 .left)) (plain-puts _ _ _ _ _ (omega (arith, at-start .pre .0, (is-plain shown _ (at-if1 .left) (at-if2 .left) (at-if3 .left) (at-if4 .left) (at-if5 .left) (at-if6 .left)) .1)) (at-start .pre .1))
+    let is = is-plain shown _ (at-if1 .left) (at-if2 .left) (at-if3 .left) (at-if4 .left) (at-if5 .left) (at-if6 .left) in
+    put-as shown _ is (plain-puts _ _ _ _ _ (omega (arith, at-start .pre .0, is .1)) (at-start .pre .1))
 
 pub part-spec : {M : Type 1} → statement M
 part-spec =

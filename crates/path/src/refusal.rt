@@ -1,4 +1,4 @@
-// What the strings of a path may not hold: refusal numbers 5 to 8, the smallest first, and 255 for none.
+// What the strings of a path may not hold: refusal numbers 5 to 8, the smallest first, and `limits::CLEAR` for none.
 ghost use mathlib.Core.Path.{_≡_};
 ghost use mathlib.Core.Bool.{true};
 ghost use mathlib.Core.List.{[], _∷_};
@@ -7,7 +7,7 @@ ghost use Rattle.text.specs.Byte.{isName, isStar};
 ghost use Rattle.text.specs.Test.{all, any, if_then_else_};
 ghost use Rattle.text.specs.String.{bytes, same};
 ghost use Rattle.path.specs.Faults.{outsideName, outsideValue};
-ghost use Rattle.path.specs.Walk.{nameGrade, elemNameGrade, valueGrade};
+ghost use Rattle.path.specs.Walk.{nameRefusal, elemNameRefusal, valueRefusal};
 
 // The smaller of two numbers.
 pub fn smaller(a: u8, b: u8) -> u8
@@ -17,8 +17,8 @@ pub fn smaller(a: u8, b: u8) -> u8
 }
 
 // The smallest number whose flag is set.
-pub fn grade(five: bool, six: bool, seven: bool, eight: bool) -> u8
-    ensures { λ r. ⌜ r ≡ Rattle.path.specs.Faults.grade five six seven eight ⌝ }
+pub fn least_refusal(five: bool, six: bool, seven: bool, eight: bool) -> u8
+    ensures { λ r. ⌜ r ≡ Rattle.path.specs.Faults.leastRefusal five six seven eight ⌝ }
 {
     if five {
         return 5;
@@ -32,11 +32,11 @@ pub fn grade(five: bool, six: bool, seven: bool, eight: bool) -> u8
     if eight {
         return 8;
     }
-    255
+    limits::CLEAR
 }
 
 // What a string holds.
-pub struct Seen {
+struct Seen {
     // A byte outside its set.
     pub stray: bool,
     // A *.
@@ -68,7 +68,7 @@ fn scan(s: &[u8], name: bool) -> Seen
 fn is_unsized(n: usize) -> bool
     ensures { λ r. ⌜ r ≡ Rattle.path.specs.Walk.unsizedBy n ⌝ }
 {
-    (n == 0) | (64 < n)
+    (n == 0) | (limits::MAX_STRING < n)
 }
 
 // The same as `text::byte::is_name`. Most bytes of names are small letters, which one test tells.
@@ -116,35 +116,35 @@ pub fn is_dots(s: &[u8]) -> bool
 }
 
 // The number of a key's name.
-pub fn name_fault(s: &[u8]) -> u8
-    ensures { λ r. ⌜ r ≡ nameGrade (now (s .entry)) ⌝ }
+pub fn name_refusal(s: &[u8]) -> u8
+    ensures { λ r. ⌜ r ≡ nameRefusal (now (s .entry)) ⌝ }
 {
     if is_plain(s) {
-        return grade(is_unsized(s.len()), false, false, false);
+        return least_refusal(is_unsized(s.len()), false, false, false);
     }
     let seen = scan(s, true);
-    grade(is_unsized(s.len()), seen.stray, seen.star, false)
+    least_refusal(is_unsized(s.len()), seen.stray, seen.star, false)
 }
 
 // The number of an element's name.
-pub fn elem_name_fault(s: &[u8]) -> u8
-    ensures { λ r. ⌜ r ≡ elemNameGrade (now (s .entry)) ⌝ }
+pub fn elem_name_refusal(s: &[u8]) -> u8
+    ensures { λ r. ⌜ r ≡ elemNameRefusal (now (s .entry)) ⌝ }
 {
     let dots = is_dots(s);
     if is_plain(s) {
-        return grade(is_unsized(s.len()), false, dots, false);
+        return least_refusal(is_unsized(s.len()), false, dots, false);
     }
     let seen = scan(s, true);
-    grade(is_unsized(s.len()), seen.stray, seen.star | dots, false)
+    least_refusal(is_unsized(s.len()), seen.stray, seen.star | dots, false)
 }
 
 // The number of a value.
-pub fn value_fault(s: &[u8]) -> u8
-    ensures { λ r. ⌜ r ≡ valueGrade (now (s .entry)) ⌝ }
+pub fn value_refusal(s: &[u8]) -> u8
+    ensures { λ r. ⌜ r ≡ valueRefusal (now (s .entry)) ⌝ }
 {
     let seen = scan(s, false);
     let wildcard = is_byte(s, b'*');
-    grade(
+    least_refusal(
         is_unsized(s.len()),
         seen.stray,
         seen.star & !wildcard,

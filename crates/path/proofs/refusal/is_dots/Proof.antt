@@ -1,8 +1,8 @@
 -- `is_dots` equals its definition: the length decides, and then the bytes.
 use borrow.Author.Needs.{needs}
 use Rattle.path.proofs.Classes.{dots-not, dots-are}
-use Rattle.path.proofs.fault.is_dots.Statement.{statement}
-use Rattle.path.proofs.fault.is_dots.Tie as tie
+use Rattle.path.proofs.refusal.is_dots.Statement.{statement}
+use Rattle.path.proofs.refusal.is_dots.Tie as tie
 
 returns : tie.Need-returns
 returns c = dots-not _ (c .if1 .taken)

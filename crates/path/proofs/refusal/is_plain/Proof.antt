@@ -8,9 +8,10 @@ use borrow.Author.Tests.{not-true, not-false}
 use Rattle.text.specs.Byte.{isName}
 use Rattle.text.specs.Test.{all}
 use Rattle.text.proofs.Scans.{all-pass, all-fail, all-end}
-use Rattle.path.proofs.fault.is_plain.Statement.{statement}
-use Rattle.path.proofs.fault.is_plain.Tie as tie
+use Rattle.path.proofs.refusal.is_plain.Statement.{statement}
+use Rattle.path.proofs.refusal.is_plain.Tie as tie
 
+-- What stands before i are bytes of names, so the rest decides.
 abbrev Inv-loop : tie.InvT-loop
 Inv-loop s i₀ i = (i ≤ length s) × (all isName s ≡ all isName (drop i s))
 

@@ -9,9 +9,10 @@ use Rattle.text.specs.Byte.{isStar}
 use Rattle.text.proofs.Scans.{any-turn, any-end}
 use Rattle.path.specs.Faults.{outsideName, outsideValue}
 use Rattle.path.proofs.Classes.{outside}
-use Rattle.path.proofs.fault.scan.Statement.{statement}
-use Rattle.path.proofs.fault.scan.Tie as tie
+use Rattle.path.proofs.refusal.scan.Statement.{statement}
+use Rattle.path.proofs.refusal.scan.Tie as tie
 
+-- `stray` and `star` tell of the bytes before i: each with the rest gives the answer for the whole string.
 abbrev Inv-loop : tie.InvT-loop
 Inv-loop s name stray₀ star₀ i₀ stray star i = (i ≤ length s) × (any (if name then outsideName else outsideValue) s ≡ (stray or any (if name then outsideName else outsideValue) (drop i s))) × (any isStar s ≡ (star or any isStar (drop i s)))
 

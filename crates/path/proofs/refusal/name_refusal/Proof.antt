@@ -1,12 +1,12 @@
--- `name_fault` equals its definition.
+-- `name_refusal` equals its definition.
 use borrow.Author.Needs.{needs}
 use mathlib.Core.Path.{sym, _∙_}
 use mathlib.Core.Bool.{false}
 use Rattle.text.specs.Test.{if_then_else_}
-use Rattle.path.proofs.Grades.{plain-seen}
-use Rattle.path.proofs.Classes.{name-graded}
-use Rattle.path.proofs.fault.name_fault.Statement.{statement}
-use Rattle.path.proofs.fault.name_fault.Tie as tie
+use Rattle.path.proofs.Refusals.{plain-seen}
+use Rattle.path.proofs.Classes.{name-judged}
+use Rattle.path.proofs.refusal.name_refusal.Statement.{statement}
+use Rattle.path.proofs.refusal.name_refusal.Tie as tie
 
 is-plain-requires : tie.Need-is-plain-requires
 is-plain-requires c κs = search needs
@@ -14,18 +14,18 @@ is-plain-requires c κs = search needs
 is-unsized-requires : tie.Need-is-unsized-requires
 is-unsized-requires c κs = search needs
 
-grade-requires : tie.Need-grade-requires
-grade-requires c κs = search needs
+least-refusal-requires : tie.Need-least-refusal-requires
+least-refusal-requires c κs = search needs
 
 returns : tie.Need-returns
 returns c =
-    let at-grade = c .grade in
+    let at-least-refusal = c .least-refusal in
     let at-is-unsized = c .before .is-unsized in
     let at-if1 = c .before .before .if1 in
     let at-is-plain = c .before .before .before .is-plain in
     let at-start = c .before .before .before .before .before in
     let p = plain-seen (at-start .args .s .now) (sym (at-is-plain .ensures) ∙ at-if1 .taken) in
-    name-graded _ _ _ false false (at-is-unsized .ensures) (at-grade .ensures) (p .0) (p .1)
+    name-judged _ _ _ false false (at-is-unsized .ensures) (at-least-refusal .ensures) (p .0) (p .1)
 
 scan-requires : tie.Need-scan-requires
 scan-requires c κs = search needs
@@ -33,26 +33,26 @@ scan-requires c κs = search needs
 is-unsized-requires-2 : tie.Need-is-unsized-requires-2
 is-unsized-requires-2 c κs = search needs
 
-grade-requires-2 : tie.Need-grade-requires-2
-grade-requires-2 c κs = search needs
+least-refusal-requires-2 : tie.Need-least-refusal-requires-2
+least-refusal-requires-2 c κs = search needs
 
 returns-2 : tie.Need-returns-2
 unfolding if_then_else_
 returns-2 c =
-    let at-grade2 = c .grade2 in
+    let at-least-refusal2 = c .least-refusal2 in
     let at-is-unsized2 = c .before .is-unsized2 in
     let at-scan = c .before .before .scan in
-    name-graded _ _ _ _ _ (at-is-unsized2 .ensures) (at-grade2 .ensures) (at-scan .ensures .0) (at-scan .ensures .1)
+    name-judged _ _ _ _ _ (at-is-unsized2 .ensures) (at-least-refusal2 .ensures) (at-scan .ensures .0) (at-scan .ensures .1)
 
-pub name-fault-spec : {M : Type 1} → statement M
-name-fault-spec =
+pub name-refusal-spec : {M : Type 1} → statement M
+name-refusal-spec =
     tie.close
     (tie.spec
     is-plain-requires
     is-unsized-requires
-    grade-requires
+    least-refusal-requires
     returns
     scan-requires
     is-unsized-requires-2
-    grade-requires-2
+    least-refusal-requires-2
     returns-2)

@@ -1,8 +1,8 @@
 -- `is_name` equals its definition.
 use borrow.Author.Needs.{needs}
 use Rattle.path.proofs.Classes.{small-letter}
-use Rattle.path.proofs.fault.is_name.Statement.{statement}
-use Rattle.path.proofs.fault.is_name.Tie as tie
+use Rattle.path.proofs.refusal.is_name.Statement.{statement}
+use Rattle.path.proofs.refusal.is_name.Tie as tie
 
 returns : tie.Need-returns
 returns c =

@@ -1,8 +1,8 @@
 -- `is_byte` equals its definition: the length decides, and then the byte.
 use borrow.Author.Needs.{needs}
 use Rattle.path.proofs.Classes.{byte-not, byte-is}
-use Rattle.path.proofs.fault.is_byte.Statement.{statement}
-use Rattle.path.proofs.fault.is_byte.Tie as tie
+use Rattle.path.proofs.refusal.is_byte.Statement.{statement}
+use Rattle.path.proofs.refusal.is_byte.Tie as tie
 
 returns : tie.Need-returns
 returns c = byte-not _ _ (c .if1 .taken)

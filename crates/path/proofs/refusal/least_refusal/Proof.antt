@@ -1,24 +1,24 @@
--- `grade` equals its definition.
+-- `leastRefusal` equals its definition.
 use Rattle.text.specs.Test.{if_then_else_}
-use Rattle.path.specs.Faults.{grade}
-use Rattle.path.proofs.fault.grade.Statement.{statement}
-use Rattle.path.proofs.fault.grade.Tie as tie
+use Rattle.path.specs.Faults.{leastRefusal}
+use Rattle.path.proofs.refusal.least_refusal.Statement.{statement}
+use Rattle.path.proofs.refusal.least_refusal.Tie as tie
 
 returns : tie.Need-returns
-unfolding grade if_then_else_
+unfolding leastRefusal if_then_else_
 returns c =
     let at-if1 = c .if1 in
     rw (at-if1 .taken)
 
 returns-2 : tie.Need-returns-2
-unfolding grade if_then_else_
+unfolding leastRefusal if_then_else_
 returns-2 c =
     let at-if2 = c .if2 in
     let at-if1 = c .before .if1 in
     rw (at-if1 .left, at-if2 .taken)
 
 returns-3 : tie.Need-returns-3
-unfolding grade if_then_else_
+unfolding leastRefusal if_then_else_
 returns-3 c =
     let at-if3 = c .if3 in
     let at-if2 = c .before .if2 in
@@ -26,7 +26,7 @@ returns-3 c =
     rw (at-if1 .left, at-if2 .left, at-if3 .taken)
 
 returns-4 : tie.Need-returns-4
-unfolding grade if_then_else_
+unfolding leastRefusal if_then_else_
 returns-4 c =
     let at-if4 = c .if4 in
     let at-if3 = c .before .if3 in
@@ -35,7 +35,7 @@ returns-4 c =
     rw (at-if1 .left, at-if2 .left, at-if3 .left, at-if4 .taken)
 
 returns-5 : tie.Need-returns-5
-unfolding grade if_then_else_
+unfolding leastRefusal if_then_else_
 returns-5 c =
     let at-if4 = c .if4 in
     let at-if3 = c .before .if3 in
@@ -43,5 +43,5 @@ returns-5 c =
     let at-if1 = c .before .before .before .if1 in
     rw (at-if1 .left, at-if2 .left, at-if3 .left, at-if4 .left)
 
-pub grade-spec : {M : Type 1} → statement M
-grade-spec = tie.close (tie.spec returns returns-2 returns-3 returns-4 returns-5)
+pub least-refusal-spec : {M : Type 1} → statement M
+least-refusal-spec = tie.close (tie.spec returns returns-2 returns-3 returns-4 returns-5)
