@@ -8,6 +8,7 @@ use native.Mathlib.Omega.{arith}
 use lib.ListN.{length, drop}
 use lib.Dec.{eqb}
 use borrow.Author.Tests.{eq-eqb, ne-eqb}
+use Rattle.limits.specs.Limits.{maxDepth}
 use Rattle.json.specs.declared.scan.Next.{Next}
 use Rattle.json.specs.declared.scan.Next.the-variants.{At, Bad}
 use Rattle.json.specs.Scan.{whiteAt}
@@ -39,8 +40,8 @@ whole s Bad o r = sym (ap answered (binds-none (λ r. atLast (r .0) (r .1)) r) �
 pub recognises : (s : List ℕ) → isJson s ≡ answered (parse s)
 unfolding isJson parse
 recognises s =
-    whole s (valueAt 16 s (whiteAt s 0)) (readValue 16 (skip white s))
-    (subst (λ (y : List ℕ). Same (skip white) s (valueAt 16 s (whiteAt s 0)) (readValue 16 y)) (ws-drop s 0 (omega arith)) (value-same s (string-same s) (scalar-same s) 16 (whiteAt s 0) (ws-within s 0 (omega arith))))
+    whole s (valueAt maxDepth s (whiteAt s 0)) (readValue maxDepth (skip white s))
+    (subst (λ (y : List ℕ). Same (skip white) s (valueAt maxDepth s (whiteAt s 0)) (readValue maxDepth y)) (ws-drop s 0 (omega arith)) (value-same s (string-same s) (scalar-same s) maxDepth (whiteAt s 0) (ws-within s 0 (omega arith))))
 
 -- what was answered
 pub there : {A : Type 0} (o : Option A) → answered o ≡ true → (a : A) × (o ≡ some a)

@@ -1,2 +1,5 @@
+pub mod literal;
+pub mod number;
 pub mod scan;
+pub mod string;
 pub mod value;

@@ -22,7 +22,7 @@ use Rattle.verdict.specs.Join.{conflict, clashes, agrees, agree, meld, join}
 use Rattle.verdict.specs.Order.{definites, better, earlier, prefer, candidate, choose}
 use Rattle.verdict.specs.Verdict.{concerns, applies, matches, decider, action, permits, fits, opposes, word, answer, tree}
 use Rattle.verdict_text.specs.Calls.{badMode, badOrigin, unspelled, requestRefusal, spelled, request, decidedBy, pathAnswer, pathVerdict, spread, treeAnswer, treeVerdict}
-use Rattle.policy.specs.Text.{empty, begins, ends}
+use Rattle.text_affix.specs.Affix.{empty, begins, ends}
 use Rattle.rpc.specs.Pattern as pattern
 use Rattle.promises.specs.Examples.{Example, examples}
 

@@ -4,6 +4,7 @@ use mathlib.Core.Bool.{false}
 use mathlib.Core.List.{List, [], _∷_, _++_, append-nil}
 use mathlib.Core.Option.{some}
 use Prim.Native.Nat.{ℕ}
+use Rattle.limits.specs.Limits.{maxDepth}
 use Rattle.rfc8259.specs.Json.{Json}
 use Rattle.rfc8259.specs.Grammar.{white, Ws, Text, json}
 use Rattle.rfc8259.specs.Parser.{skip, readValue, atEnd, parse}
@@ -24,9 +25,9 @@ glue-text s u k v w t p q r = let o : w ++ t ≡ w = ap (λ (x : List ℕ). w ++
 pub parse-sound : (s : List ℕ) (j : Json) → parse s ≡ some j → Text s j
 unfolding parse
 parse-sound s j e =
-    let b = bound (readValue 16 (skip white s)) (λ r. atEnd (r .0) (r .1)) e in
+    let b = bound (readValue maxDepth (skip white s)) (λ r. atEnd (r .0) (r .1)) e in
     let u = skip-sound white s in
-    let x = value-read 16 .sound (skip white s) (b .0) (b .1) in
+    let x = value-read maxDepth .sound (skip white s) (b .0) (b .1) in
     let f = ended (b .0 .0) j (b .0 .1) (b .2) in
     subst₂ Text (glue-text s (u .0) (skip white s) (x .0) (x .1) (b .0 .1) (u .2) (x .4) (f .0)) (f .1) (json (u .1) (x .2) (x .3))
 
@@ -41,7 +42,7 @@ ws-free {v} m = ap (starts numeric) (sym (append-nil v)) ∙ ws-stops m [] refl
 pub parse-complete : {s : List ℕ} {j : Json} → Text s j → parse s ≡ some j
 unfolding parse atEnd
 parse-complete (json {u} {s} {v} {j} m x n) =
-    rw (skip-star white m (s ++ v)) (binds (λ r. atEnd (r .0) (r .1)) (value-read 16 .complete s j x v (ws-free n)) ∙ rw (ws-gone n))
+    rw (skip-star white m (s ++ v)) (binds (λ r. atEnd (r .0) (r .1)) (value-read maxDepth .complete s j x v (ws-free n)) ∙ rw (ws-gone n))
 
 -- a text stands for one tree at most
 pub unambiguous : {s : List ℕ} {j k : Json} → Text s j → Text s k → j ≡ k

@@ -2,7 +2,7 @@
 use mathlib.Core.Path.{_≡_, refl, sym, ap, _∙_, subst}
 use mathlib.Core.Bool.{true, false}
 use mathlib.Core.List.{List, [], _∷_, _++_, append-assoc}
-use mathlib.Core.Option.{some}
+use mathlib.Core.Option.{some, bind}
 use Prim.Native.Nat.{ℕ, _≤_}
 use native.Mathlib.Omega.{arith}
 use borrow.Author.Tests.{eqb-true, ne-eqb}
@@ -106,7 +106,7 @@ number-complete v m t n =
     ap readScalar (ap (skip white) e ∙ skip-stop white (c ∷ (w ++ t)) (number-dark c (f .3) (f .4))) ∙ scalar-number c (w ++ t) (f .3) (f .4) ∙ binds (spaced jnumber) (ap readNumber (sym e) ∙ number-read .complete v m t n)
 
 scalar-complete : (v : List ℕ) (j : Json) → Scalar v j → (t : List ℕ) → starts numeric t ≡ false → readScalar (skip white (v ++ t)) ≡ some (j, skip white t)
-unfolding readScalar skip white readWord _>>=_ _or_
+unfolding readScalar skip white readWord bind _or_
 scalar-complete v j false-text t n = refl
 scalar-complete v j null-text t n = refl
 scalar-complete v j true-text t n = refl

@@ -9,8 +9,8 @@ use lib.Seq.{take-all}
 use borrow.Author.Tests.{eq-eqb, ne-eqb}
 use Rattle.text.specs.Test.{if_then_else_}
 use Rattle.text.specs.String.{Str, same}
-use Rattle.policy.specs.Text.{empty, begins, ends, starFirst, starLast}
-use Rattle.policy.proofs.Strings.{front}
+use Rattle.text_affix.specs.Affix.{empty, begins, ends, starFirst, starLast}
+use Rattle.text_affix.proofs.Affixes.{front}
 use Rattle.rpc.specs.Pattern.{matches}
 
 module _ (p v : Str) where

@@ -5,7 +5,7 @@ use lib.Dec.{eqb}
 use lib.ListN.{length, take, drop}
 use Rattle.text.specs.Test.{if_then_else_}
 use Rattle.text.specs.String.{Str, same}
-use Rattle.policy.specs.Text.{empty, begins, ends, starFirst, starLast}
+use Rattle.text_affix.specs.Affix.{empty, begins, ends, starFirst, starLast}
 
 -- the pattern p matches the value v
 unfoldable pub matches : Str → Str → Bool

@@ -9,7 +9,8 @@ use Rattle.text.specs.Test.{_and_, _or_, if_then_else_, all, only}
 use Rattle.text.specs.Byte.{isPrint}
 use Rattle.text.specs.String.{Str, same}
 use Rattle.text.specs.Refusal.{_when_else_, clear}
-use Rattle.policy.specs.Text.{empty, isHeaderByte}
+use Rattle.text_affix.specs.Affix.{empty}
+use Rattle.policy.specs.Text.{isHeaderByte}
 
 -- a header line
 pub record Line : Type 0 where

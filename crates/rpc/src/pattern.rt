@@ -7,15 +7,15 @@ pub fn is_match(p: &[u8], v: &[u8]) -> bool
     ensures { λ r. ⌜ r ≡ matches (now (p .entry)) (now (v .entry)) ⌝ }
 {
     let n = p.len();
-    if policy::string::has_star_first(p) {
+    if text_affix::has_star_first(p) {
         if n == 1 {
             return v.len() != 0;
         }
-        return policy::string::ends_with(&p[1..n], v);
+        return text_affix::ends_with(&p[1..n], v);
     }
-    if policy::string::has_star_last(p) {
+    if text_affix::has_star_last(p) {
         let k = n - 1;
-        return policy::string::starts_with(&p[0..k], v);
+        return text_affix::starts_with(&p[0..k], v);
     }
     text::string::is_same(p, v)
 }

@@ -16,7 +16,7 @@ use Rattle.text.specs.Fill.{put, Wrote}
 use Rattle.text.proofs.Tests.{by, clash}
 use Rattle.text.proofs.Frames.{no-part}
 use Rattle.text.proofs.Filling.{wrote-long}
-use Rattle.policy.specs.Text.{empty}
+use Rattle.text_affix.specs.Affix.{empty}
 use Rattle.rpc.specs.Request.{Line, longer, cutAt, lineOf, cons, linesOf, headersOf, readable, badHeaders, joined, valuesOf, headerValue}
 use Rattle.rpc.specs.Call.{written}
 use Rattle.rpc_request.specs.Steps.{cutHere, Cut, commaed, lineValue}

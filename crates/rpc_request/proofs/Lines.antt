@@ -16,7 +16,8 @@ use Rattle.text.specs.String.{Str}
 use Rattle.text.specs.Frame.{part}
 use Rattle.text.proofs.Tests.{by, clash, or-false-l, or-false-r}
 use Rattle.text.proofs.Frames.{no-part}
-use Rattle.policy.specs.Text.{empty, isHeaderByte}
+use Rattle.text_affix.specs.Affix.{empty}
+use Rattle.policy.specs.Text.{isHeaderByte}
 use Rattle.rpc.specs.Request.{Line, longer, cutAt, lineOf, cons, lineThen, linesOf, headersOf, readable, badText, badHeaders}
 use Rattle.rpc_request.specs.Steps.{cutHere, Cut}
 

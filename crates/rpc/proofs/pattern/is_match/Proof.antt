@@ -3,7 +3,7 @@ use borrow.Author.Needs.{needs}
 use native.Mathlib.Omega.{arith}
 use mathlib.Core.Path.{refl, sym, _∙_}
 use denote.Ref.{now}
-use Rattle.policy.proofs.Strings.{first-inside, last-inside}
+use Rattle.text_affix.proofs.Affixes.{first-inside, last-inside}
 use Rattle.rpc.proofs.Patterns.{match-any, match-suffix, match-prefix, match-exact}
 use Rattle.rpc.proofs.pattern.is_match.Statement.{statement}
 use Rattle.rpc.proofs.pattern.is_match.Tie as tie
