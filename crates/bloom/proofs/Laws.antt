@@ -12,7 +12,7 @@ use Rattle.text.specs.String.{same}
 use Rattle.text.proofs.Tests.{clash, by, and-l, and-r, or-l, or-r, or-cases, same→≡}
 use Rattle.path.specs.Path.{Key, Elem, Path}
 use Rattle.verdict.specs.Cover.{wild, given, definite, sameKey, holds, meets, covers}
-use Rattle.verdict.specs.Join.{meetsBoth, coversBoth}
+use Rattle.verdict.specs.Pair.{meetsBoth, coversBoth}
 use Rattle.bloom.specs.declared.Filter.{Filter}
 use Rattle.hash.specs.declared.Seed.{Seed}
 use Rattle.hash.specs.Mix.{mix}

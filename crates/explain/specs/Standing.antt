@@ -7,7 +7,7 @@ use Rattle.text.specs.Test.{if_then_else_}
 use Rattle.table.specs.Table.{Rule}
 use Rattle.table.specs.declared.Checked.{Checked}
 use Rattle.table.specs.declared.Checked.the-variants as checked
-use Rattle.verdict.specs.Order.{definites, unless}
+use Rattle.verdict.specs.Order.{definites, oneUnless}
 use Rattle.explain.specs.declared.Standing.{Standing}
 use Rattle.explain.specs.declared.Place.{Place}
 use Rattle.explain.specs.declared.Place.the-variants.{Stands, Missing}
@@ -38,6 +38,6 @@ unfoldable pub stepOf : Standing → Standing → Step
 stepOf a b =
     decides (a .elements) (b .elements) step.Elements
     (decides (a .keys) (b .keys) step.Keys
-    (decides (unless (a .group)) (unless (b .group)) step.Subject
-    (decides (unless (a .permit)) (unless (b .permit)) step.Action
+    (decides (oneUnless (a .group)) (oneUnless (b .group)) step.Subject
+    (decides (oneUnless (a .permit)) (oneUnless (b .permit)) step.Action
     step.Id)))

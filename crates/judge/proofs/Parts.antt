@@ -14,7 +14,8 @@ use Rattle.text.proofs.Order.{more-same, more-other}
 use Rattle.path.specs.Path.{Path}
 use Rattle.table.specs.Table.{Rule}
 use Rattle.verdict.specs.Cover.{covers}
-use Rattle.verdict.specs.Order.{definites, better, earlier, rankBy, rank}
+use Rattle.verdict.specs.Order.{definites, better, earlier}
+use Rattle.verdict.specs.Rank.{rankBy, rank}
 use Rattle.verdict.proofs.Order.{better-rank, unless-small}
 use Rattle.place.specs.Place.{strEnd, strIn, elemsEnd, elemsIn, pathEnd}
 use Rattle.place.proofs.Cursor.{str-grows, path-room, length-elems}

@@ -10,7 +10,8 @@ use Rattle.text.specs.Test.{_and_, _or_, if_then_else_}
 use Rattle.path.specs.Path.{Path}
 use Rattle.table.specs.Table.{Rule}
 use Rattle.verdict.specs.Cover.{covers}
-use Rattle.verdict.specs.Order.{Numbered, rank}
+use Rattle.verdict.specs.Order.{Numbered}
+use Rattle.verdict.specs.Rank.{rank}
 use Rattle.judge.specs.Rules.{ruleIn, ruleEnd}
 use Rattle.judge.specs.declared.best.Best.{Best}
 

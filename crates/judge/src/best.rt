@@ -2,7 +2,8 @@
 ghost use mathlib.Core.Path.{_≡_};
 ghost use Prim.Native.Nat.{suc, _≤_, _<_};
 ghost use lib.ListN.{length};
-ghost use Rattle.verdict.specs.Order.{better, earlier, rank};
+ghost use Rattle.verdict.specs.Order.{better, earlier};
+ghost use Rattle.verdict.specs.Rank.{rank};
 ghost use Rattle.verdict.specs.Verdict.{action};
 ghost use Rattle.judge.specs.Rules.{ruleIn, ruleEnd};
 ghost use Rattle.judge.specs.Best.{held, Sound, Ranked, wins};

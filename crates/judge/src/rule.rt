@@ -3,14 +3,15 @@ ghost use mathlib.Core.Path.{_≡_};
 ghost use Prim.Native.Nat.{_≤_, _<_};
 ghost use lib.ListN.{length};
 ghost use Rattle.verdict.specs.Cover.{wild, given};
-ghost use Rattle.verdict.specs.Order.{unless, definites, rank};
+ghost use Rattle.verdict.specs.Order.{oneUnless, definites};
+ghost use Rattle.verdict.specs.Rank.{rank};
 ghost use Rattle.place.specs.Place.{keyEnd, keyIn, keysEnd, keysIn, elemsEnd, elemsIn};
 ghost use Rattle.judge.specs.Rules.{idAt, pathAt, ruleIn, ruleEnd};
 
 // 1 for a definite key, 0 for a wildcard.
 fn count_key(f: &[u8], at: usize) -> usize
     requires { ⌜ keyEnd (now f) at ≤ length (now f) ⌝ }
-    ensures { λ r. ⌜ r ≡ unless (wild (keyIn (now (f .entry)) at)) ⌝ }
+    ensures { λ r. ⌜ r ≡ oneUnless (wild (keyIn (now (f .entry)) at)) ⌝ }
 {
     if compare::key::is_star(f, place::str_end(f, at)) {
         return 0;

@@ -14,8 +14,9 @@ use Rattle.text.proofs.Tests.{clash, and-l, and-r, both}
 use Rattle.text.proofs.Order.{more-other}
 use Rattle.path.specs.Path.{Path}
 use Rattle.table.specs.Table.{Rule}
-use Rattle.verdict.specs.Join.{coversBoth}
-use Rattle.verdict.specs.Order.{better, Numbered, choose, rank}
+use Rattle.verdict.specs.Pair.{coversBoth}
+use Rattle.verdict.specs.Order.{better, Numbered, choose}
+use Rattle.verdict.specs.Rank.{rank}
 use Rattle.verdict.specs.Verdict.{action}
 use Rattle.verdict.proofs.Order.{better-order, better-rank, rank-permit}
 use Rattle.verdict.proofs.Choose.{Chosen, chosen}

@@ -9,7 +9,7 @@ use native.Mathlib.Omega.{arith}
 use lib.ListN.{getD}
 use Rattle.text.proofs.Tests.{clash}
 use Rattle.path.specs.Path.{Path}
-use Rattle.verdict.specs.Join.{coversBoth}
+use Rattle.verdict.specs.Pair.{coversBoth}
 use Rattle.place.specs.Place.{pathIn}
 use Rattle.tree.specs.Tree.{Packed, Below, Heaviest}
 

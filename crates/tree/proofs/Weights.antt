@@ -11,7 +11,7 @@ use Rattle.text.proofs.Tests.{by}
 use Rattle.path.specs.Path.{Path}
 use Rattle.table.specs.Table.{Rule}
 use Rattle.verdict.specs.Join.{agree}
-use Rattle.verdict.specs.Order.{rank}
+use Rattle.verdict.specs.Rank.{rank}
 use Rattle.place.specs.Place.{elemsIn, pathEnd}
 use Rattle.judge.specs.Rules.{pathAt, ruleIn, Laid}
 use Rattle.judge.proofs.Parts.{path-in, path-bounds}

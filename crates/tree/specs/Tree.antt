@@ -7,8 +7,10 @@ use lib.ListN.{length, getD}
 use Rattle.text.specs.Test.{_and_, if_then_else_}
 use Rattle.path.specs.Path.{Path}
 use Rattle.table.specs.Table.{Rule}
-use Rattle.verdict.specs.Join.{agree, coversBoth}
-use Rattle.verdict.specs.Order.{better, choose, rank}
+use Rattle.verdict.specs.Join.{agree}
+use Rattle.verdict.specs.Pair.{coversBoth}
+use Rattle.verdict.specs.Order.{better, choose}
+use Rattle.verdict.specs.Rank.{rank}
 use Rattle.verdict.specs.Verdict.{action}
 use Rattle.place.specs.Place.{pathIn, pathEnd}
 use Rattle.bloom.specs.declared.Filter.{Filter}

@@ -2,7 +2,7 @@
 ghost use mathlib.Core.Path.{_≡_};
 ghost use Prim.Native.Nat.{_+_, _*_, _≤_, _<_};
 ghost use lib.ListN.{length, getD};
-ghost use Rattle.verdict.specs.Join.{coversBoth};
+ghost use Rattle.verdict.specs.Pair.{coversBoth};
 ghost use Rattle.place.specs.Place.{elemsEnd, elemsIn, pathEnd, pathIn};
 ghost use Rattle.hash.specs.declared.Seed.{Seed};
 ghost use Rattle.bloom.specs.Bloom.{beyond};

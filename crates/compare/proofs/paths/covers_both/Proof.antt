@@ -4,7 +4,7 @@ use mathlib.Core.Path.{_≡_, refl, sym, _∙_}
 use Prim.Native.Nat.{_≤_}
 use borrow.Author.Tests.{not-true, not-false}
 use lib.ListN.{length}
-use Rattle.verdict.specs.Join.{coversBoth}
+use Rattle.verdict.specs.Pair.{coversBoth}
 use Rattle.place.specs.Place.{elemsEnd, elemsIn}
 use Rattle.place.proofs.Cursor.{elems-room, elems-again}
 use Rattle.compare.proofs.Elems.{both-end, both-path, both-rule, both-fail, both-turn}

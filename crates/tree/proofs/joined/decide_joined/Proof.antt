@@ -3,7 +3,7 @@ use mathlib.Core.Path.{_≡_, sym, _∙_}
 use mathlib.Core.Bool.{false}
 use Prim.Native.Nat.{ℕ, _%_, _<_}
 use lib.ListN.{getD}
-use Rattle.verdict.specs.Join.{coversBoth}
+use Rattle.verdict.specs.Pair.{coversBoth}
 use Rattle.place.specs.Place.{elemsIn, pathIn}
 use Rattle.tree.proofs.Walk.{below-less, at-below, past-start, past-next, found}
 use Rattle.tree.proofs.Deciding.{own-join}
