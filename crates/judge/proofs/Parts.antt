@@ -15,7 +15,7 @@ use Rattle.path.specs.Path.{Path}
 use Rattle.table.specs.Table.{Rule}
 use Rattle.verdict.specs.Cover.{covers}
 use Rattle.verdict.specs.Order.{definites, better, earlier}
-use Rattle.verdict.specs.Rank.{rankBy, rank}
+use Rattle.verdict.specs.Rank.{topRank, rankBy, rank}
 use Rattle.verdict.proofs.Order.{better-rank, unless-small}
 use Rattle.place.specs.Place.{strEnd, strIn, elemsEnd, elemsIn, pathEnd}
 use Rattle.place.proofs.Cursor.{str-grows, path-room, length-elems}
@@ -68,7 +68,7 @@ module _ (f : List ℕ) where
   pub count-below : (s a k : ℕ) → ruleEnd f s ≤ length f → Short f → a ≡ pathAt f s → k ≡ definites (elemsIn (getD f a 0) f (a + 1)) → k < 65536
   count-below s a k h l i e = let b = path-bounds s a h i in let d = few-keys f (getD f a 0) (a + 1) in omega arith
 
-  pub rank-small : (s a : ℕ) → ruleEnd f s ≤ length f → Short f → a ≡ pathAt f s → getD f a 0 < 65536 → rank (ruleIn f s) < 17179869184
+  pub rank-small : (s a : ℕ) → ruleEnd f s ≤ length f → Short f → a ≡ pathAt f s → getD f a 0 < 65536 → rank (ruleIn f s) < topRank
   unfolding rank rankBy
   rank-small s a h l i c =
       let e = count-in s a i in

@@ -8,7 +8,8 @@ use native.Mathlib.Nat.{add-zero}
 use native.Mathlib.Decide.{decLt}
 use native.Mathlib.Omega.{arith}
 use borrow.Author.Tests.{lt-ltb}
-use lib.ListN.{length, getD}
+use lib.ListN.{getD}
+use Rattle.limits.specs.Limits.{maxRules}
 use Rattle.text.specs.Test.{_and_, _∈_}
 use Rattle.text.proofs.Tests.{clash, and-l, and-r, both}
 use Rattle.text.proofs.Order.{more-other}
@@ -22,7 +23,7 @@ use Rattle.verdict.proofs.Order.{better-order, better-rank, rank-permit}
 use Rattle.verdict.proofs.Choose.{Chosen, chosen}
 use Rattle.verdict.proofs.Paths.{covers-both, covers-join-left}
 use Rattle.place.specs.Place.{pathIn}
-use Rattle.judge.specs.Rules.{ruleIn, rulesIn, Laid}
+use Rattle.judge.specs.Rules.{ruleIn, rulesIn, Placed}
 use Rattle.judge.proofs.Parts.{path-in, keys-below}
 use Rattle.tree.specs.Tree.{matchingBoth, permitsBoth, Weights, Paths, Heaviest}
 use Rattle.tree.proofs.Weights.{fit, ranked}
@@ -50,7 +51,7 @@ rule-number f starts (suc n) k r (List·Memᴰ·tail m) =
     let e : k + suc (q .0) ≡ suc k + q .0 = omega arith in
     (suc (q .0), let l = q .1 in omega arith, rw e (q .2))
 
-module _ (f starts weights paths : List ℕ) (n : ℕ) (few : n ≤ 256) (laid : Laid f starts n) (short : length f < 65536) (at : Paths f starts paths n)
+module _ (f starts weights paths : List ℕ) (n : ℕ) (few : n ≤ maxRules) (rs : Placed f starts n) (at : Paths f starts paths n)
     (test : Rule → Bool) (ws : Weights test f starts weights n) where
   abbrev rule : ℕ → Rule
   rule j = ruleIn f (getD starts j 0)
@@ -71,7 +72,7 @@ module _ (f starts weights paths : List ℕ) (n : ℕ) (few : n ≤ 256) (laid :
       go : Dec (rank (rule j) < rank (rule d)) → rule j .permit ≡ rule d .permit
       go (yes l) =
           clash
-          (better-rank (rule d) (rule j) (keys-below f _ (laid d a) short) (keys-below f _ (laid j b) short) ∙ more-other (rank (rule d)) (rank (rule j)) _ (omega arith) ∙ lt-ltb (rank (rule j)) (rank (rule d)) l)
+          (better-rank (rule d) (rule j) (keys-below f _ (rs .laid d a) (rs .short)) (keys-below f _ (rs .laid j b) (rs .short)) ∙ more-other (rank (rule d)) (rank (rule j)) _ (omega arith) ∙ lt-ltb (rank (rule j)) (rank (rule d)) l)
           e
       go (no l) = rank-permit (rule j) (rule d) (omega arith)
 

@@ -9,6 +9,10 @@ use Rattle.verdict.specs.Order.{definites, oneUnless}
 abbrev pub keyRadix : ℕ
 keyRadix = 65536
 
+-- more than the rank of a rule of fewer than 65,536 elements
+abbrev pub topRank : ℕ
+topRank = 65536 * keyRadix * 4
+
 -- grows with each part, the first weighing most
 unfoldable pub rankBy : ℕ → ℕ → Bool → Bool → ℕ
 rankBy elements keys group permit = ((elements * keyRadix + keys) * 2 + oneUnless group) * 2 + oneUnless permit
