@@ -13,7 +13,7 @@ use Rattle.table.specs.Table.{Rule}
 use Rattle.verdict.specs.Cover.{covers}
 use Rattle.verdict.specs.Order.{Numbered, better, prefer, candidate, choose}
 use Rattle.verdict.specs.Rank.{rank}
-use Rattle.place.specs.Place.{elemsEnd, elemsIn}
+use Rattle.place.specs.Place.{elemsEnd}
 use Rattle.judge.specs.Rules.{ruleIn, ruleEnd, rulesIn, Placed, Marked}
 use Rattle.judge.specs.declared.best.Best.{Best}
 

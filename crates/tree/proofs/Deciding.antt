@@ -1,10 +1,9 @@
 -- The heaviest rule that covers a joined path has the action of the best.
 use mathlib.Core.Path.{_≡_, sym, ap, _∙_}
 use mathlib.Core.Bool.{Bool, true, false, xor}
-use mathlib.Core.List.{List, List·Memᴰ·head, List·Memᴰ·tail, List·Memᴰ·not-nil}
+use mathlib.Core.List.{List}
 use mathlib.Core.Option.{Option, none, some}
-use Prim.Native.Nat.{ℕ, zero, suc, _+_, _≤_, _<_}
-use native.Mathlib.Nat.{add-zero}
+use Prim.Native.Nat.{ℕ, _+_, _≤_, _<_}
 use native.Mathlib.Decide.{decLt}
 use native.Mathlib.Omega.{arith}
 use borrow.Author.Tests.{lt-ltb}
@@ -25,31 +24,13 @@ use Rattle.verdict.proofs.Paths.{covers-both, covers-join-left}
 use Rattle.place.specs.Place.{pathIn}
 use Rattle.judge.specs.Rules.{ruleIn, rulesIn, Placed}
 use Rattle.judge.proofs.Parts.{path-in, keys-below}
+use Rattle.judge.proofs.Numbers.{rule-there, rule-number}
 use Rattle.tree.specs.Tree.{matchingBoth, permitsBoth, Weights, Paths, Heaviest}
 use Rattle.tree.proofs.Weights.{fit, ranked}
 
 -- a rule covers its joined path with any other
 pub own-join : (r p : Path) → coversBoth r r p ≡ true
 own-join r p = sym (covers-both r r p) ∙ covers-join-left r p
-
--- rule i is one of the rules
-rule-there : (f starts : List ℕ) (n i k : ℕ) → i < n → ruleIn f (getD starts (k + i) 0) ∈ rulesIn f starts n k
-unfolding rulesIn
-rule-there f starts zero i k h = absurd (omega arith)
-rule-there f starts (suc n) zero k h = List·Memᴰ·head (ap (λ (j : ℕ). ruleIn f (getD starts j 0)) (add-zero k))
-rule-there f starts (suc n) (suc i) k h =
-    let e : k + suc i ≡ suc k + i = omega arith in
-    rw e (List·Memᴰ·tail (rule-there f starts n i (suc k) (omega arith)))
-
--- and each of them has a number
-rule-number : (f starts : List ℕ) (n k : ℕ) (r : Rule) → r ∈ rulesIn f starts n k → (j : ℕ) × (j < n) × (ruleIn f (getD starts (k + j) 0) ≡ r)
-unfolding rulesIn
-rule-number f starts zero k r m = absurd (List·Memᴰ·not-nil m)
-rule-number f starts (suc n) k r (List·Memᴰ·head e) = (0, omega arith, ap (λ (j : ℕ). ruleIn f (getD starts j 0)) (add-zero k) ∙ sym e)
-rule-number f starts (suc n) k r (List·Memᴰ·tail m) =
-    let q = rule-number f starts n (suc k) r m in
-    let e : k + suc (q .0) ≡ suc k + q .0 = omega arith in
-    (suc (q .0), let l = q .1 in omega arith, rw e (q .2))
 
 module _ (f starts weights paths : List ℕ) (n : ℕ) (few : n ≤ maxRules) (rs : Placed f starts n) (at : Paths f starts paths n)
     (test : Rule → Bool) (ws : Weights test f starts weights n) where

@@ -14,7 +14,7 @@ use bloom::Filter;
 use hash::Seed;
 
 // That of the path at a, asked only where x is the weight of a rule that fits.
-pub fn filter_at(s: Seed, x: usize, f: &[u8], a: usize, g: &[u8], p: usize, k: usize) -> Filter
+fn filter_at(s: Seed, x: usize, f: &[u8], a: usize, g: &[u8], p: usize, k: usize) -> Filter
     requires { ⌜ Small s × (pathEnd (now f) a ≤ length (now f)) × (elemsEnd k (now g) p ≤ length (now g)) ⌝ }
     ensures { λ r. ⌜ (Fits x → r ≡ beyond s 0 (pathIn (now (f .entry)) a) (elemsIn k (now (g .entry)) p)) ⌝ }
 {
@@ -26,7 +26,7 @@ pub fn filter_at(s: Seed, x: usize, f: &[u8], a: usize, g: &[u8], p: usize, k: u
 }
 
 // Stores the filter of rule i.
-pub fn store(x: Filter, i: usize, filters: &mut [u64])
+fn store(x: Filter, i: usize, filters: &mut [u64])
     requires { ⌜ 4 * i + 4 ≤ length (now filters) ⌝ }
     ensures { λ _. ⌜ Stored x i (now (filters .entry)) (now (filters .exit)) ⌝ }
 {

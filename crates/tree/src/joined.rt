@@ -8,7 +8,7 @@ ghost use Rattle.tree.specs.Tree.{Fits, Kept, Heaviest};
 ghost use Rattle.tree.specs.Given.{ForCovers};
 
 // Whether the path at a of f, of rule j, covers the joined path of that at r of f, of rule i, and the k elements at p of g.
-pub fn covers_joined(
+fn covers_joined(
     f: &[u8],
     a: usize,
     j: usize,

@@ -9,7 +9,7 @@ ghost use Rattle.judge.specs.Best.{Asked};
 ghost use Rattle.tree.specs.Given.{Weighs, Weighing};
 
 // The weight of the rule at s, whose path is at a: 0 unless it is marked and fits the k elements at p of g.
-pub fn weight_at(f: &[u8], s: usize, a: usize, mark: u8, g: &[u8], p: usize, k: usize) -> usize
+fn weight_at(f: &[u8], s: usize, a: usize, mark: u8, g: &[u8], p: usize, k: usize) -> usize
     requires { ⌜ (ruleEnd (now f) s ≤ length (now f)) × (a ≡ pathAt (now f) s) × (elemsEnd k (now g) p ≤ length (now g)) × Short (now f) ⌝ }
     ensures { λ r. ⌜ Weighs (now (f .entry)) s mark (elemsIn k (now (g .entry)) p) r ⌝ }
 {

@@ -13,7 +13,7 @@ use judge::best::Best;
 // More than any weight.
 const TOP_WEIGHT: usize = 9223372036854775808;
 
-pub fn unlike(x: bool, v: bool) -> bool
+fn unlike(x: bool, v: bool) -> bool
     ensures { λ r. ⌜ r ≡ xor x v ⌝ }
 {
     if x {
@@ -23,7 +23,7 @@ pub fn unlike(x: bool, v: bool) -> bool
 }
 
 // The witness after rule i: that rule where it fits, comes earlier, and its joined path gets another action than v.
-pub fn oppose(
+fn oppose(
     b: Best,
     i: usize,
     f: &[u8],
@@ -63,7 +63,7 @@ pub fn oppose(
 }
 
 // The witness of all rules.
-pub fn search(
+fn search(
     f: &[u8],
     starts: &[u16],
     weights: &[usize],

@@ -1,6 +1,6 @@
 -- For programs: whether a path covers the joined path of two others, without making it (specs/Join).
 use mathlib.Core.Bool.{Bool, true}
-use mathlib.Core.List.{List, [], _∷_}
+use mathlib.Core.List.{[], _∷_}
 use Rattle.text.specs.Test.{_and_, _or_, all}
 use Rattle.text.specs.String.{same}
 use Rattle.path.specs.Path.{Key, Elem, Path}

@@ -1,7 +1,7 @@
 use borrow.Author.Needs.{needs}
 use native.Mathlib.Omega.{arith}
 use mathlib.Core.Path.{_≡_, refl, _∙_}
-use Prim.Native.Nat.{ℕ, _-_, _≤_, _<_, zero-le}
+use Prim.Native.Nat.{ℕ, _-_, _≤_, zero-le}
 use lib.ListN.{length, getD}
 use Rattle.judge.proofs.Stores.{stored-by}
 use Rattle.place.specs.Place.{pathIn, elemsIn}

@@ -110,7 +110,7 @@ returns-3 c =
       sound = at-start .pre .1;
       numbered = λ e. e;
       best = λ test h. step-miss earlier f (at-start .args .b) _ _ test (also test)
-          (oppose-in f (a .starts .now) (a .weights .now) (a .paths .now) (a .n) w (at-start .pre .2 .rules) (at-start .pre .2 .paths-are) test h _ (a .i) (at-decide-joined .result) (at-start .pre .0) (at-decide-joined .ensures) _ _ _ (permit-in _ _) (at-unlike .ensures) ∙ not-true _ (at-if3 .taken));
+          (oppose-in f (a .starts .now) (a .weights .now) (a .paths .now) (a .n) w (at-start .pre .2 .rules) (at-start .pre .2 .paths-are) test h _ (a .i) _ (at-start .pre .0) (at-decide-joined .ensures) _ _ _ (permit-in _ _) (at-unlike .ensures) ∙ not-true _ (at-if3 .taken));
     }
 
 returns-4 : tie.Need-returns-4
@@ -130,7 +130,7 @@ returns-4 c =
       sound = λ z. at-start .pre .2 .rules .laid _ (at-start .pre .0);
       numbered = λ e z. at-start .pre .0;
       best = λ test h. step-take earlier f (at-start .args .b) _ _ test (also test) 1 (λ z. absurd (omega arith)) (fit test _ _ _ (omega arith) (h _ (at-start .pre .0)) (omega (arith, at-if1 .left)))
-          (oppose-in f (a .starts .now) (a .weights .now) (a .paths .now) (a .n) w (at-start .pre .2 .rules) (at-start .pre .2 .paths-are) test h _ (a .i) (at-decide-joined .result) (at-start .pre .0) (at-decide-joined .ensures) _ _ _ (permit-in _ _) (at-unlike .ensures) ∙ not-false _ (at-if3 .left))
+          (oppose-in f (a .starts .now) (a .weights .now) (a .paths .now) (a .n) w (at-start .pre .2 .rules) (at-start .pre .2 .paths-are) test h _ (a .i) _ (at-start .pre .0) (at-decide-joined .ensures) _ _ _ (permit-in _ _) (at-unlike .ensures) ∙ not-false _ (at-if3 .left))
           (sym (at-wins-earlier .ensures) ∙ not-false _ (at-if2 .left));
     }
 
