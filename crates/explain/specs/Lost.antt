@@ -14,7 +14,9 @@ use Rattle.explain.specs.declared.Step.the-variants as step
 unfoldable pub LostAt : Step → Rule → Rule → Type 0
 LostAt step.Elements r s = length (s .path) < length (r .path)
 LostAt step.Keys r s = (length (r .path) ≡ length (s .path)) × (definites (s .path) < definites (r .path))
-LostAt step.Subject r s = (length (r .path) ≡ length (s .path)) × (definites (r .path) ≡ definites (s .path)) × (oneUnless (s .byGroup) < oneUnless (r .byGroup))
+LostAt step.Subject r s =
+    (length (r .path) ≡ length (s .path)) × (definites (r .path) ≡ definites (s .path))
+    × (oneUnless (s .byGroup) < oneUnless (r .byGroup))
 LostAt step.Action r s =
     (length (r .path) ≡ length (s .path)) × (definites (r .path) ≡ definites (s .path)) × (oneUnless (r .byGroup) ≡ oneUnless (s .byGroup))
     × (oneUnless (s .permit) < oneUnless (r .permit))
