@@ -4,9 +4,9 @@ use table::RuleNumber;
 use verdict_text::PathAnswer;
 use verdict_text::TreeAnswer;
 
-// Prints the name of a row, which has at most 64 bytes.
+// Prints the name of a row.
 pub fn name(text: &[u8], row: Row) {
-    let mut out = [0u8; 64];
+    let mut out = [0u8; limits::MAX_STRING];
     let n = facts::name_of(text, row, &mut out);
     show::line(&out[..console::input::within(n, &out)]);
 }

@@ -12,11 +12,11 @@ use Rattle.text.specs.String.{same}
 use Rattle.text.proofs.Tests.{clash, by, and-l, and-r, or-l, or-r, or-cases, same→≡}
 use Rattle.path.specs.Path.{Key, Elem, Path}
 use Rattle.verdict.specs.Cover.{wild, given, definite, sameKey, holds, meets, covers}
-use Rattle.verdict.specs.Join.{meetsBoth, coversBoth}
+use Rattle.verdict.specs.Pair.{meetsBoth, coversBoth}
 use Rattle.bloom.specs.declared.Filter.{Filter}
 use Rattle.hash.specs.declared.Seed.{Seed}
 use Rattle.hash.specs.Mix.{mix}
-use Rattle.bloom.specs.Bloom.{none, join, digits, keyDigits, keysDigits, elemDigits, pathDigits, beyond}
+use Rattle.bloom.specs.Bloom.{depthStep, none, join, digits, keyDigits, keysDigits, elemDigits, pathDigits, beyond}
 
 -- ---- the digits of two numbers together
 
@@ -174,14 +174,14 @@ module _ (s : Seed) where
   path-covers d (p ∷ ps) [] h = clash h refl
   path-covers d (p ∷ ps) (e ∷ es) h =
       either
-      (onward (elem-meets s d p e (and-l _ _ h)) (first (elemDigits s d e) (pathDigits s (d + 256) es)))
-      (onward (path-covers (d + 256) ps es (and-r _ _ h)) (second (elemDigits s d e) (pathDigits s (d + 256) es)))
+      (onward (elem-meets s d p e (and-l _ _ h)) (first (elemDigits s d e) (pathDigits s (d + depthStep) es)))
+      (onward (path-covers (d + depthStep) ps es (and-r _ _ h)) (second (elemDigits s d e) (pathDigits s (d + depthStep) es)))
 
   path-asked : (d : ℕ) (es ps : Path) → covers es ps ≡ true → (m : Filter) → Within (beyond s d es ps) m
   unfolding covers beyond
   path-asked d [] ps h m = nothing m
   path-asked d (e ∷ es) [] h m = clash h refl
-  path-asked d (e ∷ es) (p ∷ ps) h m = either (elem-asked s d e p (and-l _ _ h) m) (path-asked (d + 256) es ps (and-r _ _ h) m)
+  path-asked d (e ∷ es) (p ∷ ps) h m = either (elem-asked s d e p (and-l _ _ h) m) (path-asked (d + depthStep) es ps (and-r _ _ h) m)
 
   path-both : (d : ℕ) (es rs ps : Path) → coversBoth es rs ps ≡ true → Within (beyond s d es ps) (beyond s d rs ps)
   unfolding coversBoth beyond
@@ -190,10 +190,10 @@ module _ (s : Seed) where
   path-both d (e ∷ es) (r ∷ rs) [] h = path-covers d (e ∷ es) (r ∷ rs) h
   path-both d (e ∷ es) (r ∷ rs) (p ∷ ps) h =
       let x : Filter = keysDigits s d (p .keys) (r .keys) in
-      let y : Filter = beyond s (d + 256) rs ps in
+      let y : Filter = beyond s (d + depthStep) rs ps in
       either
       (onward (elem-both s d e r p (and-l _ _ h)) (first x y))
-      (onward (path-both (d + 256) es rs ps (and-r _ _ h)) (second x y))
+      (onward (path-both (d + depthStep) es rs ps (and-r _ _ h)) (second x y))
 
 -- a path with a digit that another lacks does not cover the joined path of that and the asked one
 pub not-both : (s : Seed) (es rs ps : Path) → (join (beyond s 0 es ps) (beyond s 0 rs ps) ≡ beyond s 0 rs ps → ⊥) → coversBoth es rs ps ≡ false

@@ -15,7 +15,7 @@ use Rattle.place.proofs.Cursor.{keys-cons, keys-nil, elems-cons, elems-nil}
 use Rattle.bloom.specs.declared.Filter.{Filter}
 use Rattle.hash.specs.declared.Seed.{Seed}
 use Rattle.hash.specs.Mix.{mix}
-use Rattle.bloom.specs.Bloom.{none, join, digits, keyDigits, keysDigits, elemDigits, pathDigits, beyond}
+use Rattle.bloom.specs.Bloom.{depthStep, none, join, digits, keyDigits, keysDigits, elemDigits, pathDigits, beyond}
 use Rattle.bloom.proofs.Laws.{join-assoc, join-none}
 
 -- ---- digits
@@ -60,7 +60,7 @@ module _ (s : Seed) (d : ℕ) (f : List ℕ) where
   elem-is q a x c i h j = rw (j, h, i)
 
   pub elems-turn : (k q : ℕ) → 0 < k → (b : ℕ) (c x t : Filter) → b ≡ elemEnd f q → c ≡ elemDigits s d (elemIn f q)
-      → t ≡ join x (pathDigits s d (elemsIn k f q)) → t ≡ join (join x c) (pathDigits s (d + 256) (elemsIn (k - 1) f b))
+      → t ≡ join x (pathDigits s d (elemsIn k f q)) → t ≡ join (join x c) (pathDigits s (d + depthStep) (elemsIn (k - 1) f b))
   unfolding pathDigits
   elems-turn k q z b c x t i j e = e ∙ rw (elems-cons f k q z, i, j) (sym (join-assoc x (elemDigits s d (elemIn f q)) _))
 
@@ -78,7 +78,7 @@ module _ (s : Seed) (d : ℕ) (f g : List ℕ) where
 
   pub beside-turn : (n q k p : ℕ) → 0 < n → 0 < k → (b c : ℕ) (y x t : Filter) → b ≡ elemEnd f q → c ≡ elemEnd g p
       → y ≡ keysDigits s d (elemIn g p .keys) (elemIn f q .keys)
-      → t ≡ join x (beyond s d (elemsIn n f q) (elemsIn k g p)) → t ≡ join (join x y) (beyond s (d + 256) (elemsIn (n - 1) f b) (elemsIn (k - 1) g c))
+      → t ≡ join x (beyond s d (elemsIn n f q) (elemsIn k g p)) → t ≡ join (join x y) (beyond s (d + depthStep) (elemsIn (n - 1) f b) (elemsIn (k - 1) g c))
   unfolding beyond
   beside-turn n q k p z w b c y x t i l j e =
       e ∙ rw (elems-cons f n q z, elems-cons g k p w, i, l, j) (sym (join-assoc x (keysDigits s d (elemIn g p .keys) (elemIn f q .keys)) _))

@@ -28,7 +28,10 @@ digits h = record {
   d = 2 ^ (h / 2 ^ 8 % 64);
 }
 
--- ---- paths: depth d is 256 times the number of elements before
+-- ---- paths: depth d is this many times the number of elements before
+
+abbrev pub depthStep : ℕ
+depthStep = 256
 
 -- a key, unless it is a wildcard or among the asked ones
 unfoldable pub keyDigits : Seed → ℕ → List Key → Key → Filter
@@ -44,10 +47,10 @@ elemDigits s d e = join (digits (mix s d (e .name))) (keysDigits s d [] (e .keys
 
 unfoldable pub pathDigits : Seed → ℕ → Path → Filter
 pathDigits s d [] = none
-pathDigits s d (e ∷ es) = join (elemDigits s d e) (pathDigits s (d + 256) es)
+pathDigits s d (e ∷ es) = join (elemDigits s d e) (pathDigits s (d + depthStep) es)
 
 -- what a path has beyond the asked one
 unfoldable pub beyond : Seed → ℕ → Path → Path → Filter
 beyond s d [] ps = none
 beyond s d (e ∷ es) [] = pathDigits s d (e ∷ es)
-beyond s d (e ∷ es) (p ∷ ps) = join (keysDigits s d (p .keys) (e .keys)) (beyond s (d + 256) es ps)
+beyond s d (e ∷ es) (p ∷ ps) = join (keysDigits s d (p .keys) (e .keys)) (beyond s (d + depthStep) es ps)

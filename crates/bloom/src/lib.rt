@@ -5,8 +5,11 @@ ghost use Prim.Native.Nat.{_+_, _*_, _≤_, _<_};
 ghost use lib.ListN.{length};
 ghost use Rattle.hash.specs.Mix.{Small, mix};
 ghost use Rattle.place.specs.Place.{strEnd, strIn, keyEnd, keyIn, keysEnd, keysIn, elemEnd, elemIn, elemsEnd, elemsIn};
-ghost use Rattle.bloom.specs.Bloom.{none, digits, join, keyDigits, keysDigits, elemDigits, pathDigits, beyond};
+ghost use Rattle.bloom.specs.Bloom.{none, digits, join, depthStep, keyDigits, keysDigits, elemDigits, pathDigits, beyond};
 use hash::Seed;
+
+// What the depth grows by from one element to the next.
+const DEPTH_STEP: usize = 256;
 
 // Four numbers, each with binary digits.
 pub struct Filter {
@@ -28,7 +31,7 @@ pub fn empty() -> Filter
 }
 
 // The digits of both.
-pub fn join(x: Filter, y: Filter) -> Filter
+fn join(x: Filter, y: Filter) -> Filter
     ensures { λ r. ⌜ r ≡ join x y ⌝ }
 {
     Filter {
@@ -40,7 +43,7 @@ pub fn join(x: Filter, y: Filter) -> Filter
 }
 
 // The hash of the string at a position.
-pub fn hash_at(s: Seed, h: usize, f: &[u8], at: usize) -> usize
+fn hash_at(s: Seed, h: usize, f: &[u8], at: usize) -> usize
     requires { ⌜ Small s × (h < 4294967296) × (strEnd (now f) at ≤ length (now f)) ⌝ }
     ensures { λ r. ⌜ r ≡ mix s h (strIn (now (f .entry)) at) ⌝ }
 {
@@ -49,7 +52,7 @@ pub fn hash_at(s: Seed, h: usize, f: &[u8], at: usize) -> usize
     hash::mix(s, h, &f[a..e])
 }
 
-pub fn digits(h: usize) -> Filter
+fn digits(h: usize) -> Filter
     ensures { λ r. ⌜ r ≡ digits h ⌝ }
 {
     Filter {
@@ -61,7 +64,7 @@ pub fn digits(h: usize) -> Filter
 }
 
 // The key at `at` of f, unless it is a wildcard or one of the k keys at p of g.
-pub fn key_digits(s: Seed, d: usize, f: &[u8], at: usize, g: &[u8], p: usize, k: usize) -> Filter
+fn key_digits(s: Seed, d: usize, f: &[u8], at: usize, g: &[u8], p: usize, k: usize) -> Filter
     requires { ⌜ Small s × (d < 65536) × (keyEnd (now f) at ≤ length (now f)) × (keysEnd k (now g) p ≤ length (now g)) ⌝ }
     ensures { λ r. ⌜ r ≡ keyDigits s d (keysIn k (now (g .entry)) p) (keyIn (now (f .entry)) at) ⌝ }
 {
@@ -77,7 +80,7 @@ pub fn key_digits(s: Seed, d: usize, f: &[u8], at: usize, g: &[u8], p: usize, k:
 }
 
 // The n keys at `at` of f.
-pub fn keys_digits(
+fn keys_digits(
     s: Seed,
     d: usize,
     f: &[u8],
@@ -102,7 +105,7 @@ pub fn keys_digits(
 }
 
 // An element where nothing is asked.
-pub fn elem_digits(s: Seed, d: usize, f: &[u8], at: usize) -> Filter
+fn elem_digits(s: Seed, d: usize, f: &[u8], at: usize) -> Filter
     requires { ⌜ Small s × (d < 65536) × (elemEnd (now f) at ≤ length (now f)) ⌝ }
     ensures { λ r. ⌜ r ≡ elemDigits s d (elemIn (now (f .entry)) at) ⌝ }
 {
@@ -113,7 +116,7 @@ pub fn elem_digits(s: Seed, d: usize, f: &[u8], at: usize) -> Filter
 }
 
 // The keys of the element at `at` of f, beyond those of the element at p of g.
-pub fn new_digits(s: Seed, d: usize, f: &[u8], at: usize, g: &[u8], p: usize) -> Filter
+fn new_digits(s: Seed, d: usize, f: &[u8], at: usize, g: &[u8], p: usize) -> Filter
     requires { ⌜ Small s × (d < 65536) × (elemEnd (now f) at ≤ length (now f)) × (elemEnd (now g) p ≤ length (now g)) ⌝ }
     ensures { λ r. ⌜ r ≡ keysDigits s d (elemIn (now (g .entry)) p .keys) (elemIn (now (f .entry)) at .keys) ⌝ }
 {
@@ -125,8 +128,8 @@ pub fn new_digits(s: Seed, d: usize, f: &[u8], at: usize, g: &[u8], p: usize) ->
 }
 
 // n elements where nothing is asked, the first at depth d.
-pub fn path_digits(s: Seed, d: usize, f: &[u8], at: usize, n: usize) -> Filter
-    requires { ⌜ Small s × (d + 256 * n < 65536) × (elemsEnd n (now f) at ≤ length (now f)) ⌝ }
+fn path_digits(s: Seed, d: usize, f: &[u8], at: usize, n: usize) -> Filter
+    requires { ⌜ Small s × (d + depthStep * n < 65536) × (elemsEnd n (now f) at ≤ length (now f)) ⌝ }
     ensures { λ r. ⌜ r ≡ pathDigits s d (elemsIn n (now (f .entry)) at) ⌝ }
 {
     let mut x = empty();
@@ -135,7 +138,7 @@ pub fn path_digits(s: Seed, d: usize, f: &[u8], at: usize, n: usize) -> Filter
     let mut left = n;
     while 0 < left {
         x = join(x, elem_digits(s, e, f, q));
-        e += 256;
+        e += DEPTH_STEP;
         q = place::elem_end(f, q);
         left -= 1;
     }
@@ -158,7 +161,7 @@ pub fn beyond(s: Seed, f: &[u8], at: usize, n: usize, g: &[u8], p: usize, k: usi
             return join(x, path_digits(s, d, f, q, left));
         }
         x = join(x, new_digits(s, d, f, q, g, c));
-        d += 256;
+        d += DEPTH_STEP;
         q = place::elem_end(f, q);
         c = place::elem_end(g, c);
         left -= 1;

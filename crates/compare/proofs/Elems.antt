@@ -10,7 +10,8 @@ use Rattle.text.specs.String.{same}
 use Rattle.text.proofs.Tests.{same-sym, any-or}
 use Rattle.path.specs.Path.{Key}
 use Rattle.verdict.specs.Cover.{given, definite, holds, meets, covers}
-use Rattle.verdict.specs.Join.{conflict, clashes, agrees, agree, meetsBoth, coversBoth}
+use Rattle.verdict.specs.Join.{conflict, clashes, agrees, agree}
+use Rattle.verdict.specs.Pair.{meetsBoth, coversBoth}
 use Rattle.place.specs.Place.{strEnd, strIn, keysIn, elemEnd, elemIn, elemsIn}
 use Rattle.place.proofs.Cursor.{elems-cons, elems-nil}
 use Rattle.compare.specs.Compare.{keyPasses, elemPasses, pathPasses}

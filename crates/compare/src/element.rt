@@ -2,7 +2,7 @@
 ghost use mathlib.Core.Path.{_≡_};
 ghost use Prim.Native.Nat.{_≤_};
 ghost use lib.ListN.{length};
-ghost use Rattle.verdict.specs.Join.{meetsBoth};
+ghost use Rattle.verdict.specs.Pair.{meetsBoth};
 ghost use Rattle.place.specs.Place.{elemEnd, elemIn};
 ghost use Rattle.compare.specs.Compare.{elemPasses};
 

@@ -33,7 +33,7 @@ pub fn is_star(f: &[u8], at: usize) -> bool
 }
 
 // Whether the key at q of g has the name of the key at p of f and, as `cover` says, its value, or another definite value.
-pub fn answers(cover: bool, g: &[u8], q: usize, f: &[u8], p: usize) -> bool
+fn answers(cover: bool, g: &[u8], q: usize, f: &[u8], p: usize) -> bool
     requires { ⌜ (keyEnd (now g) q ≤ length (now g)) × (keyEnd (now f) p ≤ length (now f)) ⌝ }
     ensures { λ r. ⌜ r ≡ answers cover (keyIn (now (g .entry)) q) (keyIn (now (f .entry)) p) ⌝ }
 {
@@ -49,7 +49,7 @@ pub fn answers(cover: bool, g: &[u8], q: usize, f: &[u8], p: usize) -> bool
 }
 
 // Whether one of the n keys at `at` of g does.
-pub fn any_answers(cover: bool, g: &[u8], at: usize, n: usize, f: &[u8], p: usize) -> bool
+fn any_answers(cover: bool, g: &[u8], at: usize, n: usize, f: &[u8], p: usize) -> bool
     requires { ⌜ (keysEnd n (now g) at ≤ length (now g)) × (keyEnd (now f) p ≤ length (now f)) ⌝ }
     ensures { λ r. ⌜ r ≡ any (λ (j : Key). answers cover j (keyIn (now (f .entry)) p)) (keysIn n (now (g .entry)) at) ⌝ }
 {
@@ -75,7 +75,7 @@ pub fn gives(g: &[u8], at: usize, n: usize, f: &[u8], p: usize) -> bool
 
 // Whether the key at s of f is a wildcard, or one of the m keys at r of f is the same, or, as `cover` says, one of the n keys at p of g is, or
 // none of those gives it another value.
-pub fn key_passes(
+fn key_passes(
     cover: bool,
     f: &[u8],
     s: usize,
@@ -86,7 +86,8 @@ pub fn key_passes(
     n: usize,
 ) -> bool
     requires { ⌜ (keyEnd (now f) s ≤ length (now f)) × (keysEnd m (now f) r ≤ length (now f)) × (keysEnd n (now g) p ≤ length (now g)) ⌝ }
-    ensures { λ b. ⌜ b ≡ (wild (keyIn (now (f .entry)) s) or keyPasses cover (keysIn m (now (f .entry)) r) (keysIn n (now (g .entry)) p) (keyIn (now (f .entry)) s)) ⌝ }
+    ensures { λ b. ⌜ b ≡ (wild (keyIn (now (f .entry)) s)
+        or keyPasses cover (keysIn m (now (f .entry)) r) (keysIn n (now (g .entry)) p) (keyIn (now (f .entry)) s)) ⌝ }
 {
     if is_star(f, place::str_end(f, s)) {
         return true;

@@ -3,7 +3,8 @@ ghost use mathlib.Core.Path.{_≡_};
 ghost use Prim.Native.Nat.{_≤_};
 ghost use lib.ListN.{length};
 ghost use Rattle.verdict.specs.Cover.{covers};
-ghost use Rattle.verdict.specs.Join.{agree, coversBoth};
+ghost use Rattle.verdict.specs.Join.{agree};
+ghost use Rattle.verdict.specs.Pair.{coversBoth};
 ghost use Rattle.place.specs.Place.{elemsEnd, elemsIn};
 ghost use Rattle.compare.specs.Compare.{pathPasses};
 

@@ -4,14 +4,15 @@ ghost use mathlib.Core.Bool.{true};
 ghost use Prim.Native.Nat.{_≤_, _<_};
 ghost use lib.Dec.{eqb};
 ghost use lib.ListN.{length};
-ghost use Rattle.judge.specs.Rules.{ruleIn, ruleEnd, Laid};
-ghost use Rattle.concern.specs.Concern.{concernsBy, appliesBy, Few, Applying};
+ghost use Rattle.limits.specs.Limits.{maxGroups};
+ghost use Rattle.judge.specs.Rules.{ruleIn, ruleEnd};
+ghost use Rattle.concern.specs.Concern.{concernsBy, appliesBy, Safe, Applying};
 use table::GroupNumber;
 use table::RuleNumber;
 
 // Whether the subject of the rule at s, group g if it is a group, is the user or in the user's groups.
 fn concerns_at(f: &[u8], s: usize, g: GroupNumber, set: u64, user: &[u8]) -> bool
-    requires { ⌜ (ruleEnd (now f) s ≤ length (now f)) × (ruleIn (now f) s .byGroup ≡ true → g .0 < 64) ⌝ }
+    requires { ⌜ (ruleEnd (now f) s ≤ length (now f)) × (ruleIn (now f) s .byGroup ≡ true → g .0 < maxGroups) ⌝ }
     ensures { λ r. ⌜ r ≡ concernsBy set (g .0) (now (user .entry)) (ruleIn (now (f .entry)) s) ⌝ }
 {
     if f[s + 2] == 1 {
@@ -32,7 +33,7 @@ fn mark_at(
     mode: u32,
     origin: &[u8],
 ) -> u8
-    requires { ⌜ (ruleEnd (now f) s ≤ length (now f)) × (ruleIn (now f) s .byGroup ≡ true → g .0 < 64) ⌝ }
+    requires { ⌜ (ruleEnd (now f) s ≤ length (now f)) × (ruleIn (now f) s .byGroup ≡ true → g .0 < maxGroups) ⌝ }
     ensures { λ r. ⌜ eqb r 1 ≡ appliesBy set (g .0) (now (user .entry)) mode (now (origin .entry)) (ruleIn (now (f .entry)) s) ⌝ }
 {
     if f[s + 1] as u32 != mode {
@@ -62,8 +63,9 @@ pub fn mark(
     origin: &[u8],
     on: &mut [u8],
 )
-    requires { ⌜ Laid (now f) (now starts) n × Few (now f) (now starts) (now holders) n × (n ≤ length (now starts)) × (n ≤ length (now holders)) × (n ≤ length (now on)) × (n ≤ 256) ⌝ }
-    ensures { λ _. ⌜ (length (now (on .exit)) ≡ length (now (on .entry))) × Applying (now (f .entry)) (now (starts .entry)) (now (holders .entry)) n set (now (user .entry)) mode (now (origin .entry)) (now (on .exit)) ⌝ }
+    requires { ⌜ Safe (now f) (now starts) (now holders) n × (n ≤ length (now on)) ⌝ }
+    ensures { λ _. ⌜ (length (now (on .exit)) ≡ length (now (on .entry)))
+        × Applying (now (f .entry)) (now (starts .entry)) (now (holders .entry)) n set (now (user .entry)) mode (now (origin .entry)) (now (on .exit)) ⌝ }
 {
     let mut i = 0;
     while i < n {

@@ -1,2 +1,3 @@
-pub mod Ranking
+pub mod Standings
 pub mod Lost
+pub mod Listing

@@ -8,7 +8,7 @@ use lib.Dec.{eqb, ltb}
 use Rattle.text.specs.Test.{_and_, _or_, if_then_else_}
 use Rattle.text.specs.String.{more}
 use Rattle.text.proofs.Tests.{by, and-l, and-r, both, or-l, or-r}
-use Rattle.verdict.specs.Order.{unless, better}
+use Rattle.verdict.specs.Order.{oneUnless, better}
 use Rattle.explain.specs.Standing.{standing, decides, stepOf}
 use Rattle.explain.specs.Lost.{LostAt, NamesTheStep, LosesByStep}
 use Rattle.explain.specs.declared.Step.{Step}
@@ -34,8 +34,8 @@ names-the-step r s e =
     let b = standing r in
     one-step P (a .elements) (b .elements) step.Elements _ _ e (λ h. h)
     (λ q₁ e₁. one-step P (a .keys) (b .keys) step.Keys _ _ e₁ (λ h. (q₁, h))
-    (λ q₂ e₂. one-step P (unless (a .group)) (unless (b .group)) step.Subject _ _ e₂ (λ h. (q₁, q₂, h))
-    (λ q₃ e₃. one-step P (unless (a .permit)) (unless (b .permit)) step.Action step.Id _ e₃ (λ h. (q₁, q₂, q₃, h))
+    (λ q₂ e₂. one-step P (oneUnless (a .group)) (oneUnless (b .group)) step.Subject _ _ e₂ (λ h. (q₁, q₂, h))
+    (λ q₃ e₃. one-step P (oneUnless (a .permit)) (oneUnless (b .permit)) step.Action step.Id _ e₃ (λ h. (q₁, q₂, q₃, h))
     (λ q₄ e₄. (q₁, q₂, q₃, q₄, e₄)))))
 
 -- ---- the other way round

@@ -5,7 +5,7 @@ use mathlib.Core.Bool.{true}
 use lib.ListN.{length}
 use Rattle.text.specs.String.{before}
 use Rattle.table.specs.Table.{Rule}
-use Rattle.verdict.specs.Order.{definites, unless, better}
+use Rattle.verdict.specs.Order.{definites, oneUnless, better}
 use Rattle.explain.specs.Standing.{standing, stepOf}
 use Rattle.explain.specs.declared.Step.{Step}
 use Rattle.explain.specs.declared.Step.the-variants as step
@@ -14,13 +14,15 @@ use Rattle.explain.specs.declared.Step.the-variants as step
 unfoldable pub LostAt : Step → Rule → Rule → Type 0
 LostAt step.Elements r s = length (s .path) < length (r .path)
 LostAt step.Keys r s = (length (r .path) ≡ length (s .path)) × (definites (s .path) < definites (r .path))
-LostAt step.Subject r s = (length (r .path) ≡ length (s .path)) × (definites (r .path) ≡ definites (s .path)) × (unless (s .byGroup) < unless (r .byGroup))
+LostAt step.Subject r s =
+    (length (r .path) ≡ length (s .path)) × (definites (r .path) ≡ definites (s .path))
+    × (oneUnless (s .byGroup) < oneUnless (r .byGroup))
 LostAt step.Action r s =
-    (length (r .path) ≡ length (s .path)) × (definites (r .path) ≡ definites (s .path)) × (unless (r .byGroup) ≡ unless (s .byGroup))
-    × (unless (s .permit) < unless (r .permit))
+    (length (r .path) ≡ length (s .path)) × (definites (r .path) ≡ definites (s .path)) × (oneUnless (r .byGroup) ≡ oneUnless (s .byGroup))
+    × (oneUnless (s .permit) < oneUnless (r .permit))
 LostAt step.Id r s =
-    (length (r .path) ≡ length (s .path)) × (definites (r .path) ≡ definites (s .path)) × (unless (r .byGroup) ≡ unless (s .byGroup))
-    × (unless (r .permit) ≡ unless (s .permit)) × (before (r .id) (s .id) ≡ true)
+    (length (r .path) ≡ length (s .path)) × (definites (r .path) ≡ definites (s .path)) × (oneUnless (r .byGroup) ≡ oneUnless (s .byGroup))
+    × (oneUnless (r .permit) ≡ oneUnless (s .permit)) × (before (r .id) (s .id) ≡ true)
 
 -- of a rule and one that the ranking prefers, `stepOf` names the step at which the first lost
 abbrev pub NamesTheStep : Type 0

@@ -1,33 +1,17 @@
 -- What the ranking looks at in a rule, and the step of the ranking at which one of two rules loses.
-use Prim.Native.Nat.{ℕ, zero, suc}
-use mathlib.Core.List.{List, [], _∷_}
+use Prim.Native.Nat.{ℕ}
 use lib.Dec.{eqb}
 use lib.ListN.{length}
 use Rattle.text.specs.Test.{if_then_else_}
 use Rattle.table.specs.Table.{Rule}
-use Rattle.table.specs.declared.Checked.{Checked}
-use Rattle.table.specs.declared.Checked.the-variants as checked
-use Rattle.verdict.specs.Order.{definites, unless}
+use Rattle.verdict.specs.Order.{definites, oneUnless}
 use Rattle.explain.specs.declared.Standing.{Standing}
-use Rattle.explain.specs.declared.Place.{Place}
-use Rattle.explain.specs.declared.Place.the-variants.{Stands, Missing}
 use Rattle.explain.specs.declared.Step.{Step}
 use Rattle.explain.specs.declared.Step.the-variants as step
 
 -- what the ranking looks at, apart from the id
 unfoldable pub standing : Rule → Standing
 standing r = record { elements = length (r .path); keys = definites (r .path); group = r .byGroup; permit = r .permit }
-
--- the standing of the rule with number n: "Rules and groups are numbered from 0 in text order."
-unfoldable pub placeOf : List Rule → ℕ → Place
-placeOf [] n = Missing
-placeOf (r ∷ rs) zero = Stands (standing r)
-placeOf (r ∷ rs) (suc n) = placeOf rs n
-
--- and of a table's text
-unfoldable pub placeIn : Checked → List Rule → ℕ → Place
-placeIn checked.Accepted rs n = placeOf rs n
-placeIn (checked.Refused m l) rs n = Missing
 
 -- this step decides where its two numbers differ, and else the next
 unfoldable pub decides : ℕ → ℕ → Step → Step → Step
@@ -38,6 +22,6 @@ unfoldable pub stepOf : Standing → Standing → Step
 stepOf a b =
     decides (a .elements) (b .elements) step.Elements
     (decides (a .keys) (b .keys) step.Keys
-    (decides (unless (a .group)) (unless (b .group)) step.Subject
-    (decides (unless (a .permit)) (unless (b .permit)) step.Action
+    (decides (oneUnless (a .group)) (oneUnless (b .group)) step.Subject
+    (decides (oneUnless (a .permit)) (oneUnless (b .permit)) step.Action
     step.Id)))

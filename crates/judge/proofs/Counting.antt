@@ -8,20 +8,20 @@ use Rattle.text.specs.Test.{if_then_else_, only}
 use Rattle.text.proofs.Tests.{by}
 use Rattle.path.specs.Path.{Key}
 use Rattle.verdict.specs.Cover.{wild, given, definite}
-use Rattle.verdict.specs.Order.{unless, definites}
+use Rattle.verdict.specs.Order.{oneUnless, definites}
 use Rattle.verdict.proofs.Order.{unless-small}
 use Rattle.place.specs.Place.{strEnd, keyEnd, keyIn, keysEnd, keysIn, keyCount, elemEnd, elemIn, elemsEnd, elemsIn}
 use Rattle.place.proofs.Cursor.{str-grows, keys-cons, keys-nil, elems-cons, elems-nil}
 
-given-cons : (k : Key) (ks : List Key) → length (given (k ∷ ks)) ≡ unless (wild k) + length (given ks)
+given-cons : (k : Key) (ks : List Key) → length (given (k ∷ ks)) ≡ oneUnless (wild k) + length (given ks)
 unfolding only if_then_else_
 given-cons k ks = by (wild k) (λ e. rw e (omega arith)) (λ e. rw e (omega arith))
 
 module _ (f : List ℕ) where
-  pub count-turn : (k q : ℕ) → 0 < k → (b c n t : ℕ) → b ≡ keyEnd f q → c ≡ unless (wild (keyIn f q))
+  pub count-turn : (k q : ℕ) → 0 < k → (b c n t : ℕ) → b ≡ keyEnd f q → c ≡ oneUnless (wild (keyIn f q))
       → t ≡ n + length (given (keysIn k f q)) → t ≡ n + c + length (given (keysIn (k - 1) f b))
   count-turn k q z b c n t i j e =
-      let g : length (given (keysIn k f q)) ≡ unless (wild (keyIn f q)) + length (given (keysIn (k - 1) f (keyEnd f q))) =
+      let g : length (given (keysIn k f q)) ≡ oneUnless (wild (keyIn f q)) + length (given (keysIn (k - 1) f (keyEnd f q))) =
       rw (keys-cons f k q z) (given-cons (keyIn f q) (keysIn (k - 1) f (keyEnd f q))) in
       rw i (omega arith)
 

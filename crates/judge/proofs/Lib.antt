@@ -3,3 +3,4 @@ pub mod Parts
 pub mod Steps
 pub mod Stores
 pub mod Verdict
+pub mod Numbers

@@ -14,11 +14,12 @@ use Rattle.text.proofs.Order.{more-same, more-other}
 use Rattle.path.specs.Path.{Path}
 use Rattle.table.specs.Table.{Rule}
 use Rattle.verdict.specs.Cover.{covers}
-use Rattle.verdict.specs.Order.{definites, better, earlier, rankBy, rank}
+use Rattle.verdict.specs.Order.{definites, better, earlier}
+use Rattle.verdict.specs.Rank.{topRank, rankBy, rank}
 use Rattle.verdict.proofs.Order.{better-rank, unless-small}
 use Rattle.place.specs.Place.{strEnd, strIn, elemsEnd, elemsIn, pathEnd}
 use Rattle.place.proofs.Cursor.{str-grows, path-room, length-elems}
-use Rattle.judge.specs.Rules.{idAt, originAt, pathAt, ruleIn, ruleEnd}
+use Rattle.judge.specs.Rules.{idAt, originAt, pathAt, ruleIn, ruleEnd, Short}
 use Rattle.judge.specs.Best.{lacks, Ranked, wins}
 use Rattle.judge.specs.declared.best.Best.{Best}
 use Rattle.judge.proofs.Counting.{few-keys}
@@ -60,14 +61,14 @@ module _ (f : List ℕ) where
   rank-in s a k h g = rw (g, h, length-elems f)
 
   -- a rule has fewer definite keys than there are bytes
-  pub keys-below : (s : ℕ) → ruleEnd f s ≤ length f → length f < 65536 → definites (ruleIn f s .path) < 65536
+  pub keys-below : (s : ℕ) → ruleEnd f s ≤ length f → Short f → definites (ruleIn f s .path) < 65536
   unfolding ruleIn ruleEnd
   keys-below s h l = let a = few-keys f (getD f (pathAt f s) 0) (pathAt f s + 1) in omega arith
 
-  pub count-below : (s a k : ℕ) → ruleEnd f s ≤ length f → length f < 65536 → a ≡ pathAt f s → k ≡ definites (elemsIn (getD f a 0) f (a + 1)) → k < 65536
+  pub count-below : (s a k : ℕ) → ruleEnd f s ≤ length f → Short f → a ≡ pathAt f s → k ≡ definites (elemsIn (getD f a 0) f (a + 1)) → k < 65536
   count-below s a k h l i e = let b = path-bounds s a h i in let d = few-keys f (getD f a 0) (a + 1) in omega arith
 
-  pub rank-small : (s a : ℕ) → ruleEnd f s ≤ length f → length f < 65536 → a ≡ pathAt f s → getD f a 0 < 65536 → rank (ruleIn f s) < 17179869184
+  pub rank-small : (s a : ℕ) → ruleEnd f s ≤ length f → Short f → a ≡ pathAt f s → getD f a 0 < 65536 → rank (ruleIn f s) < topRank
   unfolding rank rankBy
   rank-small s a h l i c =
       let e = count-in s a i in
@@ -87,7 +88,7 @@ unfolding earlier
 earlier-by r s x y j k = rw (j, k)
 
 -- weights that differ settle it, and else the ids do
-module _ (f : List ℕ) (s x : ℕ) (b : Best) (h : ruleEnd f s ≤ length f) (i : x ≡ suc (rank (ruleIn f s))) (k : Ranked f b) (l : length f < 65536) where
+module _ (f : List ℕ) (s x : ℕ) (b : Best) (h : ruleEnd f s ≤ length f) (i : x ≡ suc (rank (ruleIn f s))) (k : Ranked f b) (l : Short f) where
   better-more : lacks b ≡ false → better (ruleIn f s) (ruleIn f (b .at)) ≡ more x (b .weight) (before (ruleIn f s .id) (ruleIn f (b .at) .id))
   better-more e =
       let d = k e in

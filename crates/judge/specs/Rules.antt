@@ -43,6 +43,16 @@ rulesIn f starts (suc k) i = ruleIn f (getD starts i 0) ∷ rulesIn f starts k (
 abbrev pub Laid : List ℕ → List ℕ → ℕ → Type 0
 Laid f starts n = (i : ℕ) → i < n → ruleEnd f (getD starts i 0) ≤ length f
 
+-- positions in the bytes fit 16 bits
+abbrev pub Short : List ℕ → Type 0
+Short f = length f < 65536
+
+-- n rules lie within the bytes, at the positions that `starts` has
+pub record Placed (f starts : List ℕ) (n : ℕ) : Type 0 where
+  pub laid : Laid f starts n
+  pub each : n ≤ length starts
+  pub short : Short f
+
 -- `on` marks the rules that pass the test
 abbrev pub Marked : (Rule → Bool) → List ℕ → List ℕ → List ℕ → ℕ → Type 0
 Marked app f starts on n = (i : ℕ) → i < n → eqb (getD on i 0) 1 ≡ app (ruleIn f (getD starts i 0))

@@ -1,10 +1,11 @@
 // The best rule so far.
 ghost use mathlib.Core.Path.{_≡_};
-ghost use Prim.Native.Nat.{suc, _≤_, _<_};
+ghost use Prim.Native.Nat.{suc, _≤_};
 ghost use lib.ListN.{length};
-ghost use Rattle.verdict.specs.Order.{better, earlier, rank};
+ghost use Rattle.verdict.specs.Order.{better, earlier};
+ghost use Rattle.verdict.specs.Rank.{rank};
 ghost use Rattle.verdict.specs.Verdict.{action};
-ghost use Rattle.judge.specs.Rules.{ruleIn, ruleEnd};
+ghost use Rattle.judge.specs.Rules.{ruleIn, ruleEnd, Short};
 ghost use Rattle.judge.specs.Best.{held, Sound, Ranked, wins};
 
 // Its number, and where its action byte stands. The weight is 0 where there is none yet; where the ranking decides, it is the rank + 1.
@@ -30,7 +31,7 @@ fn earlier_at(f: &[u8], s: usize, t: usize) -> bool
 
 // Whether the rule at s, of weight x, is better than the best so far. Ids are compared only where the weights are equal.
 pub fn wins_better(f: &[u8], s: usize, x: usize, b: Best) -> bool
-    requires { ⌜ (ruleEnd (now f) s ≤ length (now f)) × (x ≡ suc (rank (ruleIn (now f) s))) × Ranked (now f) b × (length (now f) < 65536) ⌝ }
+    requires { ⌜ (ruleEnd (now f) s ≤ length (now f)) × (x ≡ suc (rank (ruleIn (now f) s))) × Ranked (now f) b × Short (now f) ⌝ }
     ensures { λ r. ⌜ r ≡ wins better (now (f .entry)) s b ⌝ }
 {
     let w = b.weight;

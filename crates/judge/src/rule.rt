@@ -1,16 +1,17 @@
 // The parts of a rule, and its rank.
 ghost use mathlib.Core.Path.{_≡_};
-ghost use Prim.Native.Nat.{_≤_, _<_};
+ghost use Prim.Native.Nat.{_≤_};
 ghost use lib.ListN.{length};
 ghost use Rattle.verdict.specs.Cover.{wild, given};
-ghost use Rattle.verdict.specs.Order.{unless, definites, rank};
+ghost use Rattle.verdict.specs.Order.{oneUnless, definites};
+ghost use Rattle.verdict.specs.Rank.{rank};
 ghost use Rattle.place.specs.Place.{keyEnd, keyIn, keysEnd, keysIn, elemsEnd, elemsIn};
-ghost use Rattle.judge.specs.Rules.{idAt, pathAt, ruleIn, ruleEnd};
+ghost use Rattle.judge.specs.Rules.{idAt, pathAt, ruleIn, ruleEnd, Short};
 
 // 1 for a definite key, 0 for a wildcard.
 fn count_key(f: &[u8], at: usize) -> usize
     requires { ⌜ keyEnd (now f) at ≤ length (now f) ⌝ }
-    ensures { λ r. ⌜ r ≡ unless (wild (keyIn (now (f .entry)) at)) ⌝ }
+    ensures { λ r. ⌜ r ≡ oneUnless (wild (keyIn (now (f .entry)) at)) ⌝ }
 {
     if compare::key::is_star(f, place::str_end(f, at)) {
         return 0;
@@ -70,7 +71,7 @@ pub fn path_at(f: &[u8], at: usize) -> usize
 
 // The rank of the rule at `at`, whose path is at a.
 pub fn rank_at(f: &[u8], at: usize, a: usize) -> usize
-    requires { ⌜ (ruleEnd (now f) at ≤ length (now f)) × (a ≡ pathAt (now f) at) × (length (now f) < 65536) ⌝ }
+    requires { ⌜ (ruleEnd (now f) at ≤ length (now f)) × (a ≡ pathAt (now f) at) × Short (now f) ⌝ }
     ensures { λ r. ⌜ r ≡ rank (ruleIn (now (f .entry)) at) ⌝ }
 {
     let n = f[a] as usize;

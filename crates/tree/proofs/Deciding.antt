@@ -1,28 +1,30 @@
 -- The heaviest rule that covers a joined path has the action of the best.
 use mathlib.Core.Path.{_≡_, sym, ap, _∙_}
 use mathlib.Core.Bool.{Bool, true, false, xor}
-use mathlib.Core.List.{List, List·Memᴰ·head, List·Memᴰ·tail, List·Memᴰ·not-nil}
+use mathlib.Core.List.{List}
 use mathlib.Core.Option.{Option, none, some}
-use Prim.Native.Nat.{ℕ, zero, suc, _+_, _≤_, _<_}
-use native.Mathlib.Nat.{add-zero}
+use Prim.Native.Nat.{ℕ, _+_, _≤_, _<_}
 use native.Mathlib.Decide.{decLt}
 use native.Mathlib.Omega.{arith}
 use borrow.Author.Tests.{lt-ltb}
-use lib.ListN.{length, getD}
+use lib.ListN.{getD}
+use Rattle.limits.specs.Limits.{maxRules}
 use Rattle.text.specs.Test.{_and_, _∈_}
 use Rattle.text.proofs.Tests.{clash, and-l, and-r, both}
 use Rattle.text.proofs.Order.{more-other}
 use Rattle.path.specs.Path.{Path}
 use Rattle.table.specs.Table.{Rule}
-use Rattle.verdict.specs.Join.{coversBoth}
-use Rattle.verdict.specs.Order.{better, Numbered, choose, rank}
+use Rattle.verdict.specs.Pair.{coversBoth}
+use Rattle.verdict.specs.Order.{better, Numbered, choose}
+use Rattle.verdict.specs.Rank.{rank}
 use Rattle.verdict.specs.Verdict.{action}
 use Rattle.verdict.proofs.Order.{better-order, better-rank, rank-permit}
 use Rattle.verdict.proofs.Choose.{Chosen, chosen}
 use Rattle.verdict.proofs.Paths.{covers-both, covers-join-left}
 use Rattle.place.specs.Place.{pathIn}
-use Rattle.judge.specs.Rules.{ruleIn, rulesIn, Laid}
+use Rattle.judge.specs.Rules.{ruleIn, rulesIn, Placed}
 use Rattle.judge.proofs.Parts.{path-in, keys-below}
+use Rattle.judge.proofs.Numbers.{rule-there, rule-number}
 use Rattle.tree.specs.Tree.{matchingBoth, permitsBoth, Weights, Paths, Heaviest}
 use Rattle.tree.proofs.Weights.{fit, ranked}
 
@@ -30,26 +32,7 @@ use Rattle.tree.proofs.Weights.{fit, ranked}
 pub own-join : (r p : Path) → coversBoth r r p ≡ true
 own-join r p = sym (covers-both r r p) ∙ covers-join-left r p
 
--- rule i is one of the rules
-rule-there : (f starts : List ℕ) (n i k : ℕ) → i < n → ruleIn f (getD starts (k + i) 0) ∈ rulesIn f starts n k
-unfolding rulesIn
-rule-there f starts zero i k h = absurd (omega arith)
-rule-there f starts (suc n) zero k h = List·Memᴰ·head (ap (λ (j : ℕ). ruleIn f (getD starts j 0)) (add-zero k))
-rule-there f starts (suc n) (suc i) k h =
-    let e : k + suc i ≡ suc k + i = omega arith in
-    rw e (List·Memᴰ·tail (rule-there f starts n i (suc k) (omega arith)))
-
--- and each of them has a number
-rule-number : (f starts : List ℕ) (n k : ℕ) (r : Rule) → r ∈ rulesIn f starts n k → (j : ℕ) × (j < n) × (ruleIn f (getD starts (k + j) 0) ≡ r)
-unfolding rulesIn
-rule-number f starts zero k r m = absurd (List·Memᴰ·not-nil m)
-rule-number f starts (suc n) k r (List·Memᴰ·head e) = (0, omega arith, ap (λ (j : ℕ). ruleIn f (getD starts j 0)) (add-zero k) ∙ sym e)
-rule-number f starts (suc n) k r (List·Memᴰ·tail m) =
-    let q = rule-number f starts n (suc k) r m in
-    let e : k + suc (q .0) ≡ suc k + q .0 = omega arith in
-    (suc (q .0), let l = q .1 in omega arith, rw e (q .2))
-
-module _ (f starts weights paths : List ℕ) (n : ℕ) (few : n ≤ 256) (laid : Laid f starts n) (short : length f < 65536) (at : Paths f starts paths n)
+module _ (f starts weights paths : List ℕ) (n : ℕ) (few : n ≤ maxRules) (rs : Placed f starts n) (at : Paths f starts paths n)
     (test : Rule → Bool) (ws : Weights test f starts weights n) where
   abbrev rule : ℕ → Rule
   rule j = ruleIn f (getD starts j 0)
@@ -70,7 +53,7 @@ module _ (f starts weights paths : List ℕ) (n : ℕ) (few : n ≤ 256) (laid :
       go : Dec (rank (rule j) < rank (rule d)) → rule j .permit ≡ rule d .permit
       go (yes l) =
           clash
-          (better-rank (rule d) (rule j) (keys-below f _ (laid d a) short) (keys-below f _ (laid j b) short) ∙ more-other (rank (rule d)) (rank (rule j)) _ (omega arith) ∙ lt-ltb (rank (rule j)) (rank (rule d)) l)
+          (better-rank (rule d) (rule j) (keys-below f _ (rs .laid d a) (rs .short)) (keys-below f _ (rs .laid j b) (rs .short)) ∙ more-other (rank (rule d)) (rank (rule j)) _ (omega arith) ∙ lt-ltb (rank (rule j)) (rank (rule d)) l)
           e
       go (no l) = rank-permit (rule j) (rule d) (omega arith)
 

@@ -3,10 +3,8 @@ use mathlib.Core.Path.{_≡_, _∙_}
 use mathlib.Core.List.{List}
 use Prim.Native.Nat.{ℕ, _+_, _*_, _≤_, _<_}
 use native.Mathlib.Omega.{arith}
-use native.Mathlib.Decide.{decLt}
 use lib.ListN.{length, getD, set, length-set}
 use lib.Seq.{getD-set-same, getD-set-other}
-use Rattle.bloom.specs.declared.Filter.{Filter}
 use Rattle.tree.specs.Tree.{filterOf}
 
 module _ (xs : List ℕ) (i a b c d : ℕ) where
@@ -60,12 +58,3 @@ module _ (xs : List ℕ) (i a b c d : ℕ) where
     pub quad-same : filterOf quad i ≡ record { a = a; b = b; c = c; d = d }
     unfolding filterOf
     quad-same = rw (at-a, at-b, at-c, at-d)
-
--- what holds of the first i filters and of the one stored after them holds of the first i + 1
-pub filtered : (Q : ℕ → Filter → Type 0) (xs ys : List ℕ) (i : ℕ) (x : Filter) → filterOf ys i ≡ x → ((j : ℕ) → j < i → filterOf ys j ≡ filterOf xs j)
-    → ((j : ℕ) → j < i → Q j (filterOf xs j)) → Q i x → (j : ℕ) → j < i + 1 → Q j (filterOf ys j)
-filtered Q xs ys i x e o h q j k = go (decLt j i)
-  where
-    go : Dec (j < i) → Q j (filterOf ys j)
-    go (yes m) = rw (o j m) (h j m)
-    go (no m) = let z : j ≡ i = omega arith in rw (z, e) q

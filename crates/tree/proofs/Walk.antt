@@ -7,11 +7,12 @@ use Prim.Native.Nat.{ℕ, _+_, _/_, _%_, _≤_, _<_}
 use native.Mathlib.Decide.{decLt}
 use native.Mathlib.Omega.{arith}
 use lib.ListN.{getD}
+use Rattle.limits.specs.Limits.{maxRules}
 use Rattle.text.proofs.Tests.{clash}
 use Rattle.path.specs.Path.{Path}
-use Rattle.verdict.specs.Join.{coversBoth}
+use Rattle.verdict.specs.Pair.{coversBoth}
 use Rattle.place.specs.Place.{pathIn}
-use Rattle.tree.specs.Tree.{Packed, Below, Heaviest}
+use Rattle.tree.specs.Tree.{Packed, topWeight, Fits, Below, Heaviest}
 
 -- ---- the greatest below a limit
 
@@ -50,12 +51,12 @@ module _ (weights : List ℕ) (limit : ℕ) where
 module _ (weights : List ℕ) (n : ℕ) (packed : (i : ℕ) → i < n → Packed (getD weights i 0) i) where
   -- x is the weight of the rule whose number it has
   abbrev pub At : ℕ → Type 0
-  At x = 0 < x → (x % 256 < n) × (getD weights (x % 256) 0 ≡ x)
+  At x = 0 < x → (x % maxRules < n) × (getD weights (x % maxRules) 0 ≡ x)
 
   pub at-below : (limit x : ℕ) → Below weights n limit x → At x
   at-below limit x b z =
       let q = b .there z in
-      let e : x % 256 ≡ q .0 = ap (λ (y : ℕ). y % 256) (sym (q .2)) ∙ packed (q .0) (q .1) .number in
+      let e : x % maxRules ≡ q .0 = ap (λ (y : ℕ). y % maxRules) (sym (q .2)) ∙ packed (q .0) (q .1) .number in
       (rw e (q .1), rw e (q .2))
 
   module _ (f paths : List ℕ) (p : Path) (i : ℕ) where
@@ -66,10 +67,10 @@ module _ (weights : List ℕ) (n : ℕ) (packed : (i : ℕ) → i < n → Packed
     abbrev pub Past : ℕ → Type 0
     Past x = (j : ℕ) → j < n → x < getD weights j 0 → covering j ≡ false
 
-    pub past-start : (x : ℕ) → Below weights n 9223372036854775808 x → Past x
+    pub past-start : (x : ℕ) → Below weights n topWeight x → Past x
     past-start x b j l h = let q = b .top j l (packed j l .light) in absurd (omega arith)
 
-    pub past-next : (x y : ℕ) → At x → 0 < x → Past x → covering (x % 256) ≡ false → Below weights n (getD weights (x % 256) 0) y → Past y
+    pub past-next : (x y : ℕ) → At x → 0 < x → Past x → covering (x % maxRules) ≡ false → Below weights n (getD weights (x % maxRules) 0) y → Past y
     past-next x y a z h e b j l k = go (decLt (getD weights j 0) x) (decLt x (getD weights j 0))
       where
         go : Dec (getD weights j 0 < x) → Dec (x < getD weights j 0) → covering j ≡ false
@@ -77,13 +78,13 @@ module _ (weights : List ℕ) (n : ℕ) (packed : (i : ℕ) → i < n → Packed
         go (no m) (yes d) = h j l d
         go (no m) (no d) =
             let s : getD weights j 0 ≡ x = omega arith in
-            let t : x % 256 ≡ j = ap (λ (w : ℕ). w % 256) (sym s) ∙ packed j l .number in
+            let t : x % maxRules ≡ j = ap (λ (w : ℕ). w % maxRules) (sym s) ∙ packed j l .number in
             ap covering (sym t) ∙ e
 
     -- the first that covers, or the last that may
-    pub found : (d x : ℕ) → d < n → 255 < getD weights d 0 → covering d ≡ true → x / 256 ≤ getD weights d 0 / 256 → Past x → Heaviest f weights paths n p i d
-    found d x l h e k m = record { inside = l; fits = h; covering = e; unbeaten = λ j a c. go j a c (decLt (getD weights d 0 / 256) (getD weights j 0 / 256)) }
+    pub found : (d x : ℕ) → d < n → Fits (getD weights d 0) → covering d ≡ true → x / maxRules ≤ getD weights d 0 / maxRules → Past x → Heaviest f weights paths n p i d
+    found d x l h e k m = record { inside = l; fits = h; covering = e; unbeaten = λ j a c. go j a c (decLt (getD weights d 0 / maxRules) (getD weights j 0 / maxRules)) }
       where
-        go : (j : ℕ) → j < n → covering j ≡ true → Dec (getD weights d 0 / 256 < getD weights j 0 / 256) → getD weights j 0 / 256 ≤ getD weights d 0 / 256
+        go : (j : ℕ) → j < n → covering j ≡ true → Dec (getD weights d 0 / maxRules < getD weights j 0 / maxRules) → getD weights j 0 / maxRules ≤ getD weights d 0 / maxRules
         go j a c (yes q) = clash c (m j a (omega arith))
         go j a c (no q) = omega arith

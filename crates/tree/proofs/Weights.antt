@@ -5,17 +5,18 @@ use mathlib.Core.List.{List}
 use Prim.Native.Nat.{ℕ, suc, _+_, _*_, _/_, _≤_, _<_}
 use native.Mathlib.Omega.{arith}
 use lib.Dec.{eqb}
-use lib.ListN.{length, getD}
+use lib.ListN.{getD}
+use Rattle.limits.specs.Limits.{maxRules}
 use Rattle.text.specs.Test.{_and_, if_then_else_}
 use Rattle.text.proofs.Tests.{by}
 use Rattle.path.specs.Path.{Path}
 use Rattle.table.specs.Table.{Rule}
 use Rattle.verdict.specs.Join.{agree}
-use Rattle.verdict.specs.Order.{rank}
-use Rattle.place.specs.Place.{elemsIn, pathEnd}
+use Rattle.verdict.specs.Rank.{topRank, rank}
+use Rattle.place.specs.Place.{elemsIn}
 use Rattle.judge.specs.Rules.{pathAt, ruleIn, Laid}
 use Rattle.judge.proofs.Parts.{path-in, path-bounds}
-use Rattle.tree.specs.Tree.{weight, fitting, Packed, Paths}
+use Rattle.tree.specs.Tree.{weight, fitting, Packed, Fits, Paths, PathsLaid}
 
 -- ---- the weight of a rule
 
@@ -40,30 +41,30 @@ pub permit-in : (f : List ℕ) (s : ℕ) → eqb (getD f s 0) 1 ≡ ruleIn f s .
 unfolding ruleIn
 permit-in f s = refl
 
-pub paths-laid : (f starts paths : List ℕ) (n : ℕ) → Laid f starts n → Paths f starts paths n → (i : ℕ) → i < n → pathEnd f (getD paths i 0) ≤ length f
+pub paths-laid : (f starts paths : List ℕ) (n : ℕ) → Laid f starts n → Paths f starts paths n → PathsLaid f paths n
 paths-laid f starts paths n h k i l = path-bounds f (getD starts i 0) (getD paths i 0) (h i l) (k i l) .1
 
 -- ---- the weight with the number
 
-pub pack : (x i : ℕ) → x ≤ 17179869184 → i < 256 → Packed (x * 256 + i) i
+pub pack : (x i : ℕ) → x ≤ topRank → i < maxRules → Packed (x * maxRules + i) i
 pack x i h l = record { number = omega arith; light = omega arith }
 
-module _ (test : Rule → Bool) (r : Rule) (i x : ℕ) (l : i < 256) (h : x ≡ weight test r * 256 + i) where
-  heavy : test r ≡ true → x ≡ suc (rank r) * 256 + i
+module _ (test : Rule → Bool) (r : Rule) (i x : ℕ) (l : i < maxRules) (h : x ≡ weight test r * maxRules + i) where
+  heavy : test r ≡ true → x ≡ suc (rank r) * maxRules + i
   unfolding weight if_then_else_
   heavy e = h ∙ rw e
 
   light : test r ≡ false → x ≡ i
   unfolding weight if_then_else_
-  light e = let z : x ≡ 0 * 256 + i = h ∙ rw e in omega arith
+  light e = let z : x ≡ 0 * maxRules + i = h ∙ rw e in omega arith
 
-  pub unfit : x < 256 → test r ≡ false
+  pub unfit : x < maxRules → test r ≡ false
   unfit k = by (test r) (λ e. let z = heavy e in absurd (omega arith)) (λ e. e)
 
-  pub fit : 255 < x → test r ≡ true
+  pub fit : Fits x → test r ≡ true
   fit k = by (test r) (λ e. e) (λ e. let z = light e in absurd (omega arith))
 
-  pub ranked : test r ≡ true → x / 256 ≡ suc (rank r)
+  pub ranked : test r ≡ true → x / maxRules ≡ suc (rank r)
   ranked e = let z = heavy e in omega arith
 
 -- ---- opposite actions

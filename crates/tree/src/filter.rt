@@ -1,23 +1,24 @@
 // The Bloom filters of the rules that fit.
 ghost use mathlib.Core.Path.{_≡_};
 ghost use mathlib.Core.Bool.{false};
-ghost use Prim.Native.Nat.{ℕ, _+_, _*_, _≤_, _<_};
+ghost use Prim.Native.Nat.{_+_, _*_, _≤_, _<_};
 ghost use lib.Bits.{bitOr};
 ghost use lib.Dec.{eqb};
 ghost use lib.ListN.{length, getD};
 ghost use Rattle.place.specs.Place.{elemsEnd, elemsIn, pathEnd, pathIn};
 ghost use Rattle.hash.specs.Mix.{Small};
 ghost use Rattle.bloom.specs.Bloom.{join, beyond};
-ghost use Rattle.tree.specs.Tree.{filterOf, Filters};
+ghost use Rattle.tree.specs.Tree.{filterOf, Fits, Filters};
+ghost use Rattle.tree.specs.Given.{Stored, ForFill};
 use bloom::Filter;
 use hash::Seed;
 
 // That of the path at a, asked only where x is the weight of a rule that fits.
-pub fn filter_at(s: Seed, x: usize, f: &[u8], a: usize, g: &[u8], p: usize, k: usize) -> Filter
+fn filter_at(s: Seed, x: usize, f: &[u8], a: usize, g: &[u8], p: usize, k: usize) -> Filter
     requires { ⌜ Small s × (pathEnd (now f) a ≤ length (now f)) × (elemsEnd k (now g) p ≤ length (now g)) ⌝ }
-    ensures { λ r. ⌜ (255 < x → r ≡ beyond s 0 (pathIn (now (f .entry)) a) (elemsIn k (now (g .entry)) p)) ⌝ }
+    ensures { λ r. ⌜ (Fits x → r ≡ beyond s 0 (pathIn (now (f .entry)) a) (elemsIn k (now (g .entry)) p)) ⌝ }
 {
-    if x < 256 {
+    if x < limits::MAX_RULES {
         return bloom::empty();
     }
     let n = f[a] as usize;
@@ -25,9 +26,9 @@ pub fn filter_at(s: Seed, x: usize, f: &[u8], a: usize, g: &[u8], p: usize, k: u
 }
 
 // Stores the filter of rule i.
-pub fn store(x: Filter, i: usize, filters: &mut [u64])
+fn store(x: Filter, i: usize, filters: &mut [u64])
     requires { ⌜ 4 * i + 4 ≤ length (now filters) ⌝ }
-    ensures { λ _. ⌜ (length (now (filters .exit)) ≡ length (now (filters .entry))) × (filterOf (now (filters .exit)) i ≡ x) × ((j : ℕ) → j < i → filterOf (now (filters .exit)) j ≡ filterOf (now (filters .entry)) j) ⌝ }
+    ensures { λ _. ⌜ Stored x i (now (filters .entry)) (now (filters .exit)) ⌝ }
 {
     filters[4 * i] = x.a;
     filters[4 * i + 1] = x.b;
@@ -46,8 +47,9 @@ pub fn fill(
     k: usize,
     filters: &mut [u64],
 )
-    requires { ⌜ Small s × ((i : ℕ) → i < n → pathEnd (now f) (getD (now paths) i 0) ≤ length (now f)) × (n ≤ length (now weights)) × (n ≤ length (now paths)) × (elemsEnd k (now g) p ≤ length (now g)) × (4 * n ≤ length (now filters)) ⌝ }
-    ensures { λ _. ⌜ (length (now (filters .exit)) ≡ length (now (filters .entry))) × Filters s (now (f .entry)) (now (weights .entry)) (now (paths .entry)) (elemsIn k (now (g .entry)) p) (now (filters .exit)) n ⌝ }
+    requires { ⌜ ForFill s (now f) (now weights) (now paths) n (now g) p k (now filters) ⌝ }
+    ensures { λ _. ⌜ (length (now (filters .exit)) ≡ length (now (filters .entry)))
+        × Filters s (now (f .entry)) (now (weights .entry)) (now (paths .entry)) (elemsIn k (now (g .entry)) p) (now (filters .exit)) n ⌝ }
 {
     let mut i = 0;
     while i < n {
@@ -69,7 +71,8 @@ fn has_within(filters: &[u64], q: usize, p: usize) -> bool
 // Whether rule j's filter has no digit that rule i's lacks.
 pub fn is_within(filters: &[u64], j: usize, i: usize) -> bool
     requires { ⌜ (4 * j + 4 ≤ length (now filters)) × (4 * i + 4 ≤ length (now filters)) ⌝ }
-    ensures { λ r. ⌜ (r ≡ false → join (filterOf (now (filters .entry)) j) (filterOf (now (filters .entry)) i) ≡ filterOf (now (filters .entry)) i → ⊥) ⌝ }
+    ensures { λ r. ⌜ (r ≡ false
+        → join (filterOf (now (filters .entry)) j) (filterOf (now (filters .entry)) i) ≡ filterOf (now (filters .entry)) i → ⊥) ⌝ }
 {
     let q = 4 * j;
     let p = 4 * i;

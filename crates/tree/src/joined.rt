@@ -1,15 +1,14 @@
 // The rule that decides a joined path.
 ghost use mathlib.Core.Path.{_≡_};
-ghost use Prim.Native.Nat.{_+_, _*_, _≤_, _<_};
-ghost use lib.ListN.{length, getD};
-ghost use Rattle.verdict.specs.Join.{coversBoth};
-ghost use Rattle.place.specs.Place.{elemsEnd, elemsIn, pathEnd, pathIn};
-ghost use Rattle.hash.specs.declared.Seed.{Seed};
-ghost use Rattle.bloom.specs.Bloom.{beyond};
-ghost use Rattle.tree.specs.Tree.{filterOf, Kept, Heaviest};
+ghost use Prim.Native.Nat.{_<_};
+ghost use lib.ListN.{getD};
+ghost use Rattle.verdict.specs.Pair.{coversBoth};
+ghost use Rattle.place.specs.Place.{elemsIn, pathIn};
+ghost use Rattle.tree.specs.Tree.{Fits, Kept, Heaviest};
+ghost use Rattle.tree.specs.Given.{ForCovers};
 
 // Whether the path at a of f, of rule j, covers the joined path of that at r of f, of rule i, and the k elements at p of g.
-pub fn covers_joined(
+fn covers_joined(
     f: &[u8],
     a: usize,
     j: usize,
@@ -20,7 +19,7 @@ pub fn covers_joined(
     p: usize,
     k: usize,
 ) -> bool
-    requires { ⌜ (pathEnd (now f) a ≤ length (now f)) × (pathEnd (now f) r ≤ length (now f)) × (elemsEnd k (now g) p ≤ length (now g)) × (4 * j + 4 ≤ length (now filters)) × (4 * i + 4 ≤ length (now filters)) × ((s : Seed) × (filterOf (now filters) j ≡ beyond s 0 (pathIn (now f) a) (elemsIn k (now g) p)) × (filterOf (now filters) i ≡ beyond s 0 (pathIn (now f) r) (elemsIn k (now g) p))) ⌝ }
+    requires { ⌜ ForCovers (now f) a j r i (now filters) (now g) p k ⌝ }
     ensures { λ b. ⌜ b ≡ coversBoth (pathIn (now (f .entry)) a) (pathIn (now (f .entry)) r) (elemsIn k (now (g .entry)) p) ⌝ }
 {
     if !crate::filter::is_within(filters, j, i) {
@@ -46,14 +45,15 @@ pub fn decide_joined(
     p: usize,
     k: usize,
 ) -> usize
-    requires { ⌜ (i < n) × (255 < getD (now weights) i 0) × Kept (now f) (now weights) (now paths) (now next) (now filters) (elemsIn k (now g) p) n first × (n ≤ length (now weights)) × (n ≤ length (now paths)) × (n ≤ length (now next)) × (4 * n ≤ length (now filters)) × (elemsEnd k (now g) p ≤ length (now g)) ⌝ }
+    requires { ⌜ (i < n) × Fits (getD (now weights) i 0)
+        × Kept (now f) (now weights) (now paths) (now next) (now filters) n first (now g) p k ⌝ }
     ensures { λ d. ⌜ Heaviest (now (f .entry)) (now (weights .entry)) (now (paths .entry)) n (elemsIn k (now (g .entry)) p) i d ⌝ }
 {
     let r = paths[i] as usize;
-    let own = weights[i] / 256;
+    let own = weights[i] / limits::MAX_RULES;
     let mut x = first;
-    while own < x / 256 {
-        let j = x % 256;
+    while own < x / limits::MAX_RULES {
+        let j = x % limits::MAX_RULES;
         let a = paths[j] as usize;
         if covers_joined(f, a, j, r, i, filters, g, p, k) {
             return j;

@@ -1,18 +1,17 @@
 // What the ranking says of each rule that fits, as one number.
 ghost use mathlib.Core.Path.{_≡_};
-ghost use mathlib.Core.Bool.{Bool};
-ghost use Prim.Native.Nat.{ℕ, _≤_, _<_};
-ghost use lib.Dec.{eqb};
-ghost use lib.ListN.{length, getD};
-ghost use Rattle.table.specs.Table.{Rule};
+ghost use Prim.Native.Nat.{_≤_};
+ghost use lib.ListN.{length};
+ghost use Rattle.limits.specs.Limits.{maxRules};
 ghost use Rattle.place.specs.Place.{elemsEnd, elemsIn};
-ghost use Rattle.judge.specs.Rules.{pathAt, ruleIn, ruleEnd, Laid, Marked};
-ghost use Rattle.tree.specs.Tree.{weight, fitting, Weights, Packed, Paths};
+ghost use Rattle.judge.specs.Rules.{pathAt, ruleEnd, Short};
+ghost use Rattle.judge.specs.Best.{Asked};
+ghost use Rattle.tree.specs.Given.{Weighs, Weighing};
 
 // The weight of the rule at s, whose path is at a: 0 unless it is marked and fits the k elements at p of g.
-pub fn weight_at(f: &[u8], s: usize, a: usize, mark: u8, g: &[u8], p: usize, k: usize) -> usize
-    requires { ⌜ (ruleEnd (now f) s ≤ length (now f)) × (a ≡ pathAt (now f) s) × (elemsEnd k (now g) p ≤ length (now g)) × (length (now f) < 65536) ⌝ }
-    ensures { λ r. ⌜ (r ≤ 17179869184) × ((app : Rule → Bool) → eqb mark 1 ≡ app (ruleIn (now (f .entry)) s) → r ≡ weight (fitting app (elemsIn k (now (g .entry)) p)) (ruleIn (now (f .entry)) s)) ⌝ }
+fn weight_at(f: &[u8], s: usize, a: usize, mark: u8, g: &[u8], p: usize, k: usize) -> usize
+    requires { ⌜ (ruleEnd (now f) s ≤ length (now f)) × (a ≡ pathAt (now f) s) × (elemsEnd k (now g) p ≤ length (now g)) × Short (now f) ⌝ }
+    ensures { λ r. ⌜ Weighs (now (f .entry)) s mark (elemsIn k (now (g .entry)) p) r ⌝ }
 {
     if mark != 1 {
         return 0;
@@ -24,7 +23,7 @@ pub fn weight_at(f: &[u8], s: usize, a: usize, mark: u8, g: &[u8], p: usize, k: 
     judge::rule::rank_at(f, s, a) + 1
 }
 
-// The weights, with the rules' numbers in the last eight bits, and the paths' positions of n rules.
+// The weights of n rules, each with the rule's number as one number, and the positions of their paths.
 pub fn weigh(
     f: &[u8],
     starts: &[u16],
@@ -36,15 +35,17 @@ pub fn weigh(
     weights: &mut [usize],
     paths: &mut [u16],
 )
-    requires { ⌜ Laid (now f) (now starts) n × (n ≤ length (now starts)) × (n ≤ length (now on)) × (n ≤ length (now weights)) × (n ≤ length (now paths)) × (elemsEnd k (now g) p ≤ length (now g)) × (length (now f) < 65536) × (n ≤ 256) ⌝ }
-    ensures { λ _. ⌜ (length (now (weights .exit)) ≡ length (now (weights .entry))) × (length (now (paths .exit)) ≡ length (now (paths .entry))) × Paths (now (f .entry)) (now (starts .entry)) (now (paths .exit)) n × ((i : ℕ) → i < n → Packed (getD (now (weights .exit)) i 0) i) × ((app : Rule → Bool) → Marked app (now (f .entry)) (now (starts .entry)) (now (on .entry)) n → Weights (fitting app (elemsIn k (now (g .entry)) p)) (now (f .entry)) (now (starts .entry)) (now (weights .exit)) n) ⌝ }
+    requires { ⌜ Asked (now f) (now starts) (now on) n (now g) p k
+        × (n ≤ maxRules) × (n ≤ length (now weights)) × (n ≤ length (now paths)) ⌝ }
+    ensures { λ _. ⌜ Weighing (now (f .entry)) (now (starts .entry)) (now (on .entry))
+        (now (weights .exit)) (now (paths .exit)) n (elemsIn k (now (g .entry)) p) ⌝ }
 {
     let mut i = 0;
     while i < n {
         let s = starts[i] as usize;
         let a = judge::rule::path_at(f, s);
         paths[i] = a as u16;
-        weights[i] = weight_at(f, s, a, on[i], g, p, k) * 256 + i;
+        weights[i] = weight_at(f, s, a, on[i], g, p, k) * limits::MAX_RULES + i;
         i += 1;
     }
 }

@@ -1,17 +1,19 @@
 // The opposing rule with the smallest id.
 ghost use mathlib.Core.Path.{_≡_};
-ghost use mathlib.Core.Bool.{Bool, xor};
-ghost use Prim.Native.Nat.{ℕ, _*_, _≤_, _<_};
-ghost use lib.ListN.{length, getD};
-ghost use Rattle.table.specs.Table.{Rule};
-ghost use Rattle.verdict.specs.Order.{earlier, choose, prefer, candidate};
+ghost use mathlib.Core.Bool.{xor};
+ghost use Prim.Native.Nat.{_≤_, _<_};
+ghost use lib.ListN.{length};
+ghost use Rattle.limits.specs.Limits.{maxRules};
 ghost use Rattle.place.specs.Place.{elemsEnd, elemsIn};
-ghost use Rattle.judge.specs.Rules.{ruleIn, rulesIn, Laid};
-ghost use Rattle.judge.specs.Best.{held, Sound};
-ghost use Rattle.tree.specs.Tree.{opposing, Weights, Packed, Paths, Kept};
+ghost use Rattle.judge.specs.Rules.{Placed};
+ghost use Rattle.judge.specs.Best.{Sound};
+ghost use Rattle.tree.specs.Given.{Weighed, ForSearch, Opposed, Witness};
 use judge::best::Best;
 
-pub fn unlike(x: bool, v: bool) -> bool
+// More than any weight.
+const TOP_WEIGHT: usize = 9223372036854775808;
+
+fn unlike(x: bool, v: bool) -> bool
     ensures { λ r. ⌜ r ≡ xor x v ⌝ }
 {
     if x {
@@ -21,7 +23,7 @@ pub fn unlike(x: bool, v: bool) -> bool
 }
 
 // The witness after rule i: that rule where it fits, comes earlier, and its joined path gets another action than v.
-pub fn oppose(
+fn oppose(
     b: Best,
     i: usize,
     f: &[u8],
@@ -37,10 +39,11 @@ pub fn oppose(
     p: usize,
     k: usize,
 ) -> Best
-    requires { ⌜ (i < n) × Sound (now f) b × Kept (now f) (now weights) (now paths) (now next) (now filters) (elemsIn k (now g) p) n first × Paths (now f) (now starts) (now paths) n × Laid (now f) (now starts) n × (length (now f) < 65536) × (n ≤ length (now starts)) × (n ≤ length (now weights)) × (n ≤ length (now paths)) × (n ≤ length (now next)) × (4 * n ≤ length (now filters)) × (elemsEnd k (now g) p ≤ length (now g)) ⌝ }
-    ensures { λ c. ⌜ Sound (now (f .entry)) c × ((test : Rule → Bool) → Weights test (now (f .entry)) (now (starts .entry)) (now (weights .entry)) n → held (now (f .entry)) c ≡ prefer earlier (held (now (f .entry)) b) (candidate (opposing test (rulesIn (now (f .entry)) (now (starts .entry)) n 0) (elemsIn k (now (g .entry)) p) v) i (ruleIn (now (f .entry)) (getD (now (starts .entry)) i 0)))) ⌝ }
+    requires { ⌜ (i < n) × Sound (now f) b
+        × ForSearch (now f) (now starts) (now weights) (now paths) (now next) (now filters) n first (now g) p k ⌝ }
+    ensures { λ c. ⌜ Opposed (now (f .entry)) (now (starts .entry)) (now (weights .entry)) n (elemsIn k (now (g .entry)) p) v b i c ⌝ }
 {
-    if weights[i] < 256 {
+    if weights[i] < limits::MAX_RULES {
         return b;
     }
     let s = starts[i] as usize;
@@ -60,7 +63,7 @@ pub fn oppose(
 }
 
 // The witness of all rules.
-pub fn search(
+fn search(
     f: &[u8],
     starts: &[u16],
     weights: &[usize],
@@ -74,8 +77,8 @@ pub fn search(
     p: usize,
     k: usize,
 ) -> Best
-    requires { ⌜ Kept (now f) (now weights) (now paths) (now next) (now filters) (elemsIn k (now g) p) n first × Paths (now f) (now starts) (now paths) n × Laid (now f) (now starts) n × (length (now f) < 65536) × (n ≤ length (now starts)) × (n ≤ length (now weights)) × (n ≤ length (now paths)) × (n ≤ length (now next)) × (4 * n ≤ length (now filters)) × (elemsEnd k (now g) p ≤ length (now g)) ⌝ }
-    ensures { λ c. ⌜ Sound (now (f .entry)) c × ((test : Rule → Bool) → Weights test (now (f .entry)) (now (starts .entry)) (now (weights .entry)) n → held (now (f .entry)) c ≡ choose earlier (opposing test (rulesIn (now (f .entry)) (now (starts .entry)) n 0) (elemsIn k (now (g .entry)) p) v) 0 (rulesIn (now (f .entry)) (now (starts .entry)) n 0)) ⌝ }
+    requires { ⌜ ForSearch (now f) (now starts) (now weights) (now paths) (now next) (now filters) n first (now g) p k ⌝ }
+    ensures { λ c. ⌜ Witness (now (f .entry)) (now (starts .entry)) (now (weights .entry)) n (elemsIn k (now (g .entry)) p) v c ⌝ }
 {
     let mut b = Best {
         weight: 0,
@@ -117,14 +120,15 @@ pub fn witness(
     p: usize,
     k: usize,
 ) -> Best
-    requires { ⌜ ((i : ℕ) → i < n → Packed (getD (now weights) i 0) i) × Paths (now f) (now starts) (now paths) n × Laid (now f) (now starts) n × (length (now f) < 65536) × (n ≤ 256) × (n ≤ length (now starts)) × (n ≤ length (now weights)) × (n ≤ length (now paths)) × (k < 256) × (elemsEnd k (now g) p ≤ length (now g)) ⌝ }
-    ensures { λ c. ⌜ Sound (now (f .entry)) c × ((test : Rule → Bool) → Weights test (now (f .entry)) (now (starts .entry)) (now (weights .entry)) n → held (now (f .entry)) c ≡ choose earlier (opposing test (rulesIn (now (f .entry)) (now (starts .entry)) n 0) (elemsIn k (now (g .entry)) p) v) 0 (rulesIn (now (f .entry)) (now (starts .entry)) n 0)) ⌝ }
+    requires { ⌜ Placed (now f) (now starts) n × Weighed (now f) (now starts) (now weights) (now paths) n
+        × (n ≤ maxRules) × (elemsEnd k (now g) p ≤ length (now g)) ⌝ }
+    ensures { λ c. ⌜ Witness (now (f .entry)) (now (starts .entry)) (now (weights .entry)) n (elemsIn k (now (g .entry)) p) v c ⌝ }
 {
-    let first = crate::order::below(weights, n, 9223372036854775808);
-    let mut next = [0usize; 256];
+    let first = crate::order::below(weights, n, TOP_WEIGHT);
+    let mut next = [0usize; limits::MAX_RULES];
     crate::order::link(weights, n, &mut next);
     let seed = hash::factors::draw(f);
-    let mut filters = [0u64; 1024];
+    let mut filters = [0u64; 4 * limits::MAX_RULES];
     crate::filter::fill(seed, f, weights, paths, n, g, p, k, &mut filters);
     search(
         f,

@@ -1,4 +1,4 @@
--- The two orders of rules, by the ranking and by id, are total, and tell two rules apart unless they have one id.
+-- The two orders of rules, by the ranking and by id, are total, and tell two rules apart oneUnless they have one id.
 use mathlib.Core.Path.{_≡_, refl, sym, _∙_}
 use mathlib.Core.Bool.{Bool, true, false}
 use Prim.Native.Nat.{ℕ, _+_, _*_, _<_}
@@ -10,7 +10,8 @@ use Rattle.text.specs.Test.{if_then_else_}
 use Rattle.text.specs.String.{more, before}
 use Rattle.text.proofs.Order.{more-less, more-same, more-other, asym, chain, tied, before-asym, before-chain, before-tied}
 use Rattle.table.specs.Table.{Rule}
-use Rattle.verdict.specs.Order.{definites, unless, better, earlier, rankBy, rank}
+use Rattle.verdict.specs.Order.{definites, oneUnless, better, earlier}
+use Rattle.verdict.specs.Rank.{keyRadix, rankBy, rank}
 
 -- ---- the orders of rules
 
@@ -63,7 +64,7 @@ nest x y u v a b tie l g ul ug ue = go (decLt x y) (decLt y x) (decLt u v) (decL
         let i : u ≡ v = omega arith in
         more-same x y _ e ∙ more-same u v tie i ∙ sym (more-same a b tie (ue e i))
 
-pub unless-small : (b : Bool) → unless b < 2
+pub unless-small : (b : Bool) → oneUnless b < 2
 unfolding if_then_else_
 unless-small true = omega arith
 unless-small false = omega arith
@@ -73,18 +74,18 @@ nest-2 : (x y u v : ℕ) (tie : Bool) → u < 2 → v < 2 → more x y (more u v
 nest-2 x y u v tie p q =
     nest x y u v (x * 2 + u) (y * 2 + v) tie (λ h. omega arith) (λ h. omega arith) (λ e h. omega arith) (λ e h. omega arith) (λ e h. omega arith)
 
-nest-65536 : (x y u v : ℕ) (tie : Bool) → u < 65536 → v < 65536 → more x y (more u v tie) ≡ more (x * 65536 + u) (y * 65536 + v) tie
-nest-65536 x y u v tie p q =
-    nest x y u v (x * 65536 + u) (y * 65536 + v) tie (λ h. omega arith) (λ h. omega arith) (λ e h. omega arith) (λ e h. omega arith) (λ e h. omega arith)
+nest-keys : (x y u v : ℕ) (tie : Bool) → u < keyRadix → v < keyRadix → more x y (more u v tie) ≡ more (x * keyRadix + u) (y * keyRadix + v) tie
+nest-keys x y u v tie p q =
+    nest x y u v (x * keyRadix + u) (y * keyRadix + v) tie (λ h. omega arith) (λ h. omega arith) (λ e h. omega arith) (λ e h. omega arith) (λ e h. omega arith)
 
-pub better-rank : (r s : Rule) → definites (r .path) < 65536 → definites (s .path) < 65536 → better r s ≡ more (rank r) (rank s) (before (r .id) (s .id))
+pub better-rank : (r s : Rule) → definites (r .path) < keyRadix → definites (s .path) < keyRadix → better r s ≡ more (rank r) (rank s) (before (r .id) (s .id))
 unfolding better rank rankBy
 better-rank r s p q =
-    nest-65536 (length (r .path)) (length (s .path)) (definites (r .path)) (definites (s .path)) _ p q
-    ∙ nest-2 (length (r .path) * 65536 + definites (r .path)) (length (s .path) * 65536 + definites (s .path)) (unless (r .byGroup)) (unless (s .byGroup)) _ (unless-small (r .byGroup)) (unless-small (s .byGroup))
-    ∙ nest-2 _ _ (unless (r .permit)) (unless (s .permit)) _ (unless-small (r .permit)) (unless-small (s .permit))
+    nest-keys (length (r .path)) (length (s .path)) (definites (r .path)) (definites (s .path)) _ p q
+    ∙ nest-2 (length (r .path) * keyRadix + definites (r .path)) (length (s .path) * keyRadix + definites (s .path)) (oneUnless (r .byGroup)) (oneUnless (s .byGroup)) _ (unless-small (r .byGroup)) (unless-small (s .byGroup))
+    ∙ nest-2 _ _ (oneUnless (r .permit)) (oneUnless (s .permit)) _ (unless-small (r .permit)) (unless-small (s .permit))
 
-unless-one : (x y : Bool) → unless x ≡ unless y → x ≡ y
+unless-one : (x y : Bool) → oneUnless x ≡ oneUnless y → x ≡ y
 unfolding if_then_else_
 unless-one true true h = refl
 unless-one true false h = absurd (omega arith)

@@ -10,7 +10,8 @@ use Rattle.text.proofs.Tests.{clash, by, bool-ext, and-l, and-r, both, or-l, or
 use Rattle.path.specs.Path.{Key, Elem, Path}
 use Rattle.path.specs.Faults.{sameName, keyTwice}
 use Rattle.verdict.specs.Cover.{wild, definite, holds, meets, covers}
-use Rattle.verdict.specs.Join.{conflict, clashes, agrees, agree, meld, join, meetsBoth, coversBoth}
+use Rattle.verdict.specs.Join.{conflict, clashes, agrees, agree, meld, join}
+use Rattle.verdict.specs.Pair.{meetsBoth, coversBoth}
 use Rattle.verdict.proofs.Twice.{→none, twice→, twice-only, twice-append}
 
 -- ---- keys

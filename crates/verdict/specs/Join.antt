@@ -1,10 +1,10 @@
 -- Joined paths: when two paths fit, and the path that has what both have.
 use mathlib.Core.Bool.{Bool, true, not}
 use mathlib.Core.List.{List, [], _∷_, _++_}
-use Rattle.text.specs.Test.{_and_, _or_, all, any, only}
+use Rattle.text.specs.Test.{_and_, any, only}
 use Rattle.text.specs.String.{same}
 use Rattle.path.specs.Path.{Key, Elem, Path}
-use Rattle.verdict.specs.Cover.{definite, holds, covers}
+use Rattle.verdict.specs.Cover.{definite, holds}
 
 -- one name, two values
 unfoldable pub conflict : Key → Key → Bool
@@ -34,16 +34,3 @@ unfoldable pub join : Path → Path → Path
 join [] ps = ps
 join (r ∷ rs) [] = r ∷ rs
 join (r ∷ rs) (p ∷ ps) = meld r p ∷ join rs ps
-
--- ---- the same without making the joined path, for programs
-
--- r and p, which agree, together meet s
-unfoldable pub meetsBoth : Elem → Elem → Elem → Bool
-meetsBoth s r p = same (s .name) (r .name) and all (λ (k : Key). holds (definite r) k or holds (definite p) k) (definite s)
-
--- s covers the joined path of r and p, where these agree
-unfoldable pub coversBoth : Path → Path → Path → Bool
-coversBoth [] rs ps = true
-coversBoth (s ∷ ss) [] ps = covers (s ∷ ss) ps
-coversBoth (s ∷ ss) (r ∷ rs) [] = covers (s ∷ ss) (r ∷ rs)
-coversBoth (s ∷ ss) (r ∷ rs) (p ∷ ps) = meetsBoth s r p and coversBoth ss rs ps

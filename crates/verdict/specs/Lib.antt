@@ -1,5 +1,7 @@
 pub mod Cover
 pub mod Join
+pub mod Pair
 pub mod Order
+pub mod Rank
 pub mod Verdict
 pub mod Laws

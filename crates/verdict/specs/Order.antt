@@ -1,5 +1,5 @@
 -- The orders of rules, and the best of a list.
-use Prim.Native.Nat.{ℕ, suc, _+_, _*_}
+use Prim.Native.Nat.{ℕ, suc, _+_}
 use mathlib.Core.Bool.{Bool}
 use mathlib.Core.List.{List, [], _∷_}
 use mathlib.Core.Option.{Option, none, some}
@@ -16,8 +16,8 @@ definites [] = 0
 definites (e ∷ es) = length (definite e) + definites es
 
 -- 1 unless b holds: so a user weighs more than a group, and a deny more than a permit
-abbrev pub unless : Bool → ℕ
-unless b = if b then 0 else 1
+abbrev pub oneUnless : Bool → ℕ
+oneUnless b = if b then 0 else 1
 
 -- "more elements; then more definite keys, counted over the whole rule path; then user over group; then deny over permit; then .. the
 -- smaller id in byte order, where a proper prefix is smaller"
@@ -25,8 +25,8 @@ unfoldable pub better : Rule → Rule → Bool
 better r s =
     more (length (r .path)) (length (s .path))
     (more (definites (r .path)) (definites (s .path))
-    (more (unless (r .byGroup)) (unless (s .byGroup))
-    (more (unless (r .permit)) (unless (s .permit))
+    (more (oneUnless (r .byGroup)) (oneUnless (s .byGroup))
+    (more (oneUnless (r .permit)) (oneUnless (s .permit))
     (before (r .id) (s .id)))))
 
 -- "the one with the smallest id"
@@ -54,12 +54,3 @@ candidate test i r = if test r then some (record { number = i; rule = r }) else 
 unfoldable pub choose : (Rule → Rule → Bool) → (Rule → Bool) → ℕ → List Rule → Option Numbered
 choose over test i [] = none
 choose over test i (r ∷ rs) = prefer over (candidate test i r) (choose over test (suc i) rs)
-
--- ---- the ranking as one number, for programs
-
--- grows with each part, the first weighing most, where there are fewer than 65,536 keys
-unfoldable pub rankBy : ℕ → ℕ → Bool → Bool → ℕ
-rankBy elements keys group permit = ((elements * 65536 + keys) * 2 + unless group) * 2 + unless permit
-
-unfoldable pub rank : Rule → ℕ
-rank r = rankBy (length (r .path)) (definites (r .path)) (r .byGroup) (r .permit)

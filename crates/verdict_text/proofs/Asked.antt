@@ -5,6 +5,7 @@ use Prim.Native.Nat.{ℕ, _≤_, _<_}
 use borrow.Author.Tests.{lt-ltb, le-ltb}
 use lib.Dec.{eqb, ltb}
 use lib.ListN.{length}
+use Rattle.limits.specs.Limits.{maxShortString, maxString}
 use Rattle.text.specs.Test.{_or_, if_then_else_, all}
 use Rattle.text.specs.Byte.{isPrint}
 use Rattle.text.specs.String.{Str}
@@ -16,25 +17,25 @@ use Rattle.table.specs.Group.{badUser}
 use Rattle.verdict_text.specs.Calls.{badMode, badOrigin}
 
 module _ (s : Str) where
-  unsized-is : (eqb (length s) 0 || ltb 64 (length s)) ≡ unsized s
+  unsized-is : (eqb (length s) 0 || ltb maxString (length s)) ≡ unsized s
   unfolding unsized
   unsized-is = or-is _ _
 
-  pub user-unsized : (eqb (length s) 0 || ltb 64 (length s)) ≡ true → true ≡ badUser s
+  pub user-unsized : (eqb (length s) 0 || ltb maxString (length s)) ≡ true → true ≡ badUser s
   unfolding badUser _or_
   user-unsized e = rw (sym unsized-is ∙ e)
 
-  pub user-sized : (eqb (length s) 0 || ltb 64 (length s)) ≡ false → (b : Bool) → b ≡ all isPrint s → not b ≡ badUser s
+  pub user-sized : (eqb (length s) 0 || ltb maxString (length s)) ≡ false → (b : Bool) → b ≡ all isPrint s → not b ≡ badUser s
   unfolding badUser stray _or_
   user-sized e b i = rw (sym unsized-is ∙ e) (ap not i)
 
-  pub origin-long : 32 < length s → true ≡ badOrigin s
+  pub origin-long : maxShortString < length s → true ≡ badOrigin s
   unfolding badOrigin _or_
-  origin-long h = rw (lt-ltb 32 (length s) h)
+  origin-long h = rw (lt-ltb maxShortString (length s) h)
 
-  pub origin-short : length s ≤ 32 → (b : Bool) → b ≡ all isPrint s → not b ≡ badOrigin s
+  pub origin-short : length s ≤ maxShortString → (b : Bool) → b ≡ all isPrint s → not b ≡ badOrigin s
   unfolding badOrigin stray _or_
-  origin-short h b i = rw (le-ltb 32 (length s) h) (ap not i)
+  origin-short h b i = rw (le-ltb maxShortString (length s) h) (ap not i)
 
 pub mode-is : (m : ℕ) → not (eqb m 1 || eqb m 2) ≡ badMode m
 unfolding badMode
@@ -53,6 +54,6 @@ module _ (u m o : Bool) where
   unfolding _or_ if_then_else_
   number-origin e f g = rw (e, f, g)
 
-  pub number-none : u ≡ false → m ≡ false → o ≡ false → 255 ≡ (20 when (u or m) else 21 when o else clear)
+  pub number-none : u ≡ false → m ≡ false → o ≡ false → clear ≡ (20 when (u or m) else 21 when o else clear)
   unfolding _or_ if_then_else_
   number-none e f g = rw (e, f, g)

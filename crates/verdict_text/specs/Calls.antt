@@ -5,6 +5,7 @@ use mathlib.Core.List.{[]}
 use mathlib.Core.Option.{Option, none, some}
 use lib.Dec.{eqb, ltb}
 use lib.ListN.{length}
+use Rattle.limits.specs.Limits.{maxShortString}
 use Rattle.text.specs.Test.{_or_, if_then_else_}
 use Rattle.text.specs.String.{Str}
 use Rattle.text.specs.Refusal.{_when_else_, clear}
@@ -30,7 +31,7 @@ badMode mode = not (eqb mode 1 or eqb mode 2)
 
 -- "Version, id and origin have at most 32 bytes"
 unfoldable pub badOrigin : Str → Bool
-badOrigin origin = ltb 32 (length origin) or stray origin
+badOrigin origin = ltb maxShortString (length origin) or stray origin
 
 -- the text spells no path
 unfoldable pub unspelled : Option Path → Bool

@@ -1,4 +1,4 @@
--- Both calls are one function with a flag: the answer for the whole tree where `whole` holds, and for one path otherwise.
+-- For programs: both calls are one function with a flag, the answer for the whole tree where `whole` holds, and for one path otherwise.
 use Prim.Native.Nat.{ℕ}
 use mathlib.Core.Bool.{Bool}
 use Rattle.text.specs.Test.{if_then_else_}

@@ -1,9 +1,7 @@
 // What is found, as an answer. f are the decoded bytes of a table.
 ghost use mathlib.Core.Path.{_≡_};
-ghost use mathlib.Core.Bool.{false};
-ghost use Prim.Native.Nat.{_<_};
 ghost use Rattle.verdict.specs.Verdict.{answer};
-ghost use Rattle.judge.specs.Best.{held, Sound, lacks};
+ghost use Rattle.judge.specs.Best.{held, Sound, NumberBelow};
 ghost use Rattle.verdict_text.specs.Calls.{decidedBy, spread};
 ghost use Rattle.verdict_text.specs.Either.{refusedAs, pathOf, treeOf};
 use crate::PathAnswer;
@@ -14,7 +12,7 @@ use table::RuleNumber;
 
 // The answer that the deciding rule gives.
 pub fn decided(f: &[u8], b: Best) -> PathAnswer
-    requires { ⌜ Sound (now f) b × (lacks b ≡ false → b .number < 65536) ⌝ }
+    requires { ⌜ Sound (now f) b × NumberBelow 65536 b ⌝ }
     ensures { λ r. ⌜ r ≡ decidedBy (held (now (f .entry)) b) ⌝ }
 {
     if b.weight == 0 {
@@ -29,7 +27,7 @@ pub fn decided(f: &[u8], b: Best) -> PathAnswer
 
 // The tree answer, where v is the verdict on the path itself, and b the opposing rule of smallest id.
 pub fn spread_of(f: &[u8], v: bool, b: Best) -> TreeAnswer
-    requires { ⌜ (lacks b ≡ false → b .number < 65536) ⌝ }
+    requires { ⌜ NumberBelow 65536 b ⌝ }
     ensures { λ r. ⌜ r ≡ spread (answer «v» (held (now (f .entry)) b)) ⌝ }
 {
     if b.weight != 0 {

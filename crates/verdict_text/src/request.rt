@@ -9,7 +9,7 @@ fn is_bad_user(user: &[u8]) -> bool
     ensures { λ r. ⌜ r ≡ badUser (now (user .entry)) ⌝ }
 {
     let n = user.len();
-    if (n == 0) | (64 < n) {
+    if (n == 0) | (limits::MAX_STRING < n) {
         return true;
     }
     !text::string::all_print(user)
@@ -24,13 +24,13 @@ fn is_bad_mode(mode: u32) -> bool
 fn is_bad_origin(origin: &[u8]) -> bool
     ensures { λ r. ⌜ r ≡ badOrigin (now (origin .entry)) ⌝ }
 {
-    if 32 < origin.len() {
+    if limits::MAX_SHORT_STRING < origin.len() {
         return true;
     }
     !text::string::all_print(origin)
 }
 
-// 20 or 21, or 255 where neither holds.
+// 20 or 21, or `CLEAR` where neither holds.
 pub fn number(user: &[u8], mode: u32, origin: &[u8]) -> u8
     ensures { λ r. ⌜ r ≡ (20 when (badUser (now (user .entry)) or badMode mode) else 21 when badOrigin (now (origin .entry)) else clear) ⌝ }
 {
@@ -43,5 +43,5 @@ pub fn number(user: &[u8], mode: u32, origin: &[u8]) -> u8
     if is_bad_origin(origin) {
         return 21;
     }
-    255
+    limits::CLEAR
 }

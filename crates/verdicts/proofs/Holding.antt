@@ -1,13 +1,12 @@
--- A loaded table is ready for the verdicts.
+-- A loaded table can be read, and holds the table of its text.
 use mathlib.Core.Path.{_≡_, sym, _∙_}
 use mathlib.Core.Bool.{Bool, true}
 use mathlib.Core.List.{List, []}
-use Prim.Native.Nat.{ℕ, _+_, _≤_, _<_}
+use Prim.Native.Nat.{ℕ, _+_, _<_}
 use native.Mathlib.Omega.{arith}
 use lib.ListN.{length, take, getD}
 use Rattle.text.specs.String.{Str}
 use Rattle.table.specs.Text.{tableOf}
-use Rattle.table.specs.declared.Checked.the-variants as checked
 use Rattle.load.specs.declared.row.Counts.{Counts}
 use Rattle.load.specs.declared.Loaded.{Loaded}
 use Rattle.load.specs.declared.Loaded.the-variants as loaded
@@ -15,10 +14,10 @@ use Rattle.load.specs.Loaded.{Kept, Outcome}
 use Rattle.membership.specs.Set.{setIn}
 use Rattle.membership.proofs.Sets.{has-lists}
 use Rattle.groups.proofs.Calls.{named-long, own-named, front-is, outcome-refused}
-use Rattle.verdict.specs.Verdict.{decider, tree}
 use Rattle.judge.specs.Rules.{ruleIn, rulesIn, Laid}
-use Rattle.verdicts.specs.Ready.{Ready, Groups}
-use Rattle.verdict_text.specs.Calls.{requestRefusal, request, pathAnswer, pathVerdict, treeAnswer, treeVerdict}
+use Rattle.concern.specs.Concern.{Safe}
+use Rattle.verdicts.specs.Holding.{Holding, Groups, answerOn}
+use Rattle.verdict_text.specs.Calls.{pathAnswer, pathVerdict, treeAnswer, treeVerdict}
 use Rattle.verdict_text.specs.Either.{oneOf, refusedAs}
 use Rattle.verdict_text.specs.declared.Verdict.{Verdict}
 use Rattle.verdicts.specs.Refused.{refusedBy}
@@ -36,33 +35,29 @@ module _ {text buf : List ℕ} {u : ℕ} {c : Counts} {groups users owners ids s
       rw z at (rules-laid (take u buf) starts (tableOf text .rules) 0 (K .holds .rules-are) i k)
 
   groups-are : (i : ℕ) → i < c .rules → ruleIn (take u buf) (getD starts i 0) .byGroup ≡ true
-      → (getD holders i 0 < 64) × (getD holders i 0 < length (tableOf text .groups)) × (getD (tableOf text .groups) (getD holders i 0) [] ≡ ruleIn (take u buf) (getD starts i 0) .subject)
+      → (getD holders i 0 < length (tableOf text .groups)) × (getD (tableOf text .groups) (getD holders i 0) [] ≡ ruleIn (take u buf) (getD starts i 0) .subject)
   groups-are i l e =
       let z : 0 + i ≡ i = omega arith in
       let k : i < length (tableOf text .rules) = omega (arith, K .holds .rules-count) in
-      let h = (rw z at (holders-read (take u buf) starts holders (tableOf text .groups) (tableOf text .rules) 0 (K .holds .rules-are) (K .holds .holders-are) i k)) e in
-      (omega (arith, h .0, named-long K, K .holds .few .0), h .0, h .1)
+      (rw z at (holders-read (take u buf) starts holders (tableOf text .groups) (tableOf text .rules) 0 (K .holds .rules-are) (K .holds .holders-are) i k)) e
 
-  pub ready : Ready (tableOf text) (take u buf) starts holders (c .rules)
-  ready =
+  pub safe : Safe (take u buf) starts holders (c .rules)
+  safe =
       record {
-        orderly = accepted-orderly text (K .accepts);
-        rules = rules-are;
-        laid = laid;
+        rules = record { laid = laid; each = omega (arith, K .holds .long .4, K .holds .few .2); short = omega (arith, front-is K, K .within .1) };
         few = K .holds .few .2;
-        short = omega (arith, front-is K, K .within .1);
-        groups = groups-are;
+        each = omega (arith, K .holds .long .5, K .holds .few .2);
+        groups = λ i l e. omega (arith, groups-are i l e .0, named-long K, K .holds .few .0);
       }
+
+  pub holding : Holding (tableOf text) (take u buf) starts holders (c .rules)
+  holding = record { orderly = accepted-orderly text (K .accepts); rules = rules-are; groups = groups-are }
 
   pub grouped : (user : Str) → Groups (tableOf text) user (setIn user (take u buf) users owners (c .members) 0 0)
   grouped user g h = has-lists (tableOf text .groups) (tableOf text .members) user (take u buf) users owners (c .members) (K .holds .distinct) (K .holds .members-are) (own-named K) g h
 
-  pub rooms : (c .rules ≤ length starts) × (c .rules ≤ length holders)
-  rooms = (omega (arith, K .holds .long .4, K .holds .few .2), omega (arith, K .holds .long .5, K .holds .few .2))
-
   module _ (user : Str) (mode : ℕ) (origin path : Str) where
-    pub either-kept : (whole : Bool)
-        → oneOf whole (pathAnswer checked.Accepted (requestRefusal user mode origin path) (decider (tableOf text) (request user mode origin path))) (treeAnswer checked.Accepted (requestRefusal user mode origin path) (tree (tableOf text) (request user mode origin path)))
+    pub either-kept : (whole : Bool) → answerOn (tableOf text) whole user mode origin path
         ≡ oneOf whole (pathVerdict text user mode origin path) (treeVerdict text user mode origin path)
     unfolding pathVerdict treeVerdict
     either-kept whole = rw (K .accepts)

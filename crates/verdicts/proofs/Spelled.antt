@@ -9,6 +9,7 @@ use borrow.Author.Tests.{ne-eqb, le-leb}
 use lib.Dec.{leb}
 use lib.ListN.{length, take, length-append}
 use lib.Seq.{take-at}
+use Rattle.limits.specs.Limits.{maxPathBytes}
 use Rattle.text.specs.Test.{_or_, if_then_else_}
 use Rattle.text.specs.String.{Str}
 use Rattle.text.specs.Fill.{put}
@@ -45,7 +46,7 @@ pub record Read (s : Str) (len : ℕ) (out : List ℕ) : Type 0 where
   pub bytes : take len out ≡ pathBytes path
   pub fits : len ≤ length out
 
-module _ (s : Str) (out out′ : List ℕ) (l : 9377 ≤ length out) where
+module _ (s : Str) (out out′ : List ℕ) (l : maxPathBytes ≤ length out) where
   put-length : (b : Str) → length b ≤ length out → length b ≤ length (put out 0 b)
   unfolding put
   put-length b h = simp length-append (omega arith)
@@ -107,64 +108,64 @@ path-bytes g p e =
 -- ---- the refusal
 
 module _ (user : Str) (mode : ℕ) (origin : Str) (text : Str) (m : ℕ) (h : m ≡ (20 when (badUser user or badMode mode) else 21 when badOrigin origin else clear)) where
-  early : (m ≡ 255 → ⊥) → requestRefusal user mode origin text ≡ m
+  early : (m ≡ clear → ⊥) → requestRefusal user mode origin text ≡ m
   unfolding requestRefusal if_then_else_
   early n =
       by (badUser user or badMode mode)
       (λ u. rw u (sym (rw u at h)))
       (λ u. by (badOrigin origin) (λ o. rw (u, o) (sym (rw (u, o) at h))) (λ o. absurd (n (rw (u, o) at h))))
 
-  late : m ≡ 255 → requestRefusal user mode origin text ≡ (22 when unspelled (readText text) else clear)
+  late : m ≡ clear → requestRefusal user mode origin text ≡ (22 when unspelled (readText text) else clear)
   unfolding requestRefusal if_then_else_
   late e =
       by (badUser user or badMode mode)
       (λ u. let z : m ≡ 20 = rw u at h in absurd (omega arith))
       (λ u. by (badOrigin origin) (λ o. let z : m ≡ 21 = rw (u, o) at h in absurd (omega arith)) (λ o. rw (u, o)))
 
-  unread-22 : m ≡ 255 → readText text ≡ none → requestRefusal user mode origin text ≡ 22
+  unread-22 : m ≡ clear → readText text ≡ none → requestRefusal user mode origin text ≡ 22
   unfolding unspelled if_then_else_
   unread-22 e r = late e ∙ rw r
 
-  read-clear : m ≡ 255 → (p : Path) → readText text ≡ some p → requestRefusal user mode origin text ≡ clear
+  read-clear : m ≡ clear → (p : Path) → readText text ≡ some p → requestRefusal user mode origin text ≡ clear
   unfolding unspelled if_then_else_
   read-clear e p r = late e ∙ rw r
 
   -- ---- the answers
 
   module _ (d : Option Numbered) where
-    path-early : (m ≡ 255 → ⊥) → answers.Refused m 0 ≡ pathAnswer Accepted (requestRefusal user mode origin text) d
+    path-early : (m ≡ clear → ⊥) → answers.Refused m 0 ≡ pathAnswer Accepted (requestRefusal user mode origin text) d
     unfolding pathAnswer if_then_else_
-    path-early n = rw (early n, ne-eqb m 255 n)
+    path-early n = rw (early n, ne-eqb m clear n)
 
-    path-unread : m ≡ 255 → readText text ≡ none → answers.Refused 22 0 ≡ pathAnswer Accepted (requestRefusal user mode origin text) d
+    path-unread : m ≡ clear → readText text ≡ none → answers.Refused 22 0 ≡ pathAnswer Accepted (requestRefusal user mode origin text) d
     unfolding pathAnswer if_then_else_
     path-unread e r = rw (unread-22 e r)
 
-    pub path-judged : m ≡ 255 → (p : Path) → readText text ≡ some p → decidedBy d ≡ pathAnswer Accepted (requestRefusal user mode origin text) d
+    pub path-judged : m ≡ clear → (p : Path) → readText text ≡ some p → decidedBy d ≡ pathAnswer Accepted (requestRefusal user mode origin text) d
     unfolding pathAnswer if_then_else_
     path-judged e p r = rw (read-clear e p r)
 
   module _ (w : Tree) where
-    tree-early : (m ≡ 255 → ⊥) → trees.Refused m 0 ≡ treeAnswer Accepted (requestRefusal user mode origin text) w
+    tree-early : (m ≡ clear → ⊥) → trees.Refused m 0 ≡ treeAnswer Accepted (requestRefusal user mode origin text) w
     unfolding treeAnswer if_then_else_
-    tree-early n = rw (early n, ne-eqb m 255 n)
+    tree-early n = rw (early n, ne-eqb m clear n)
 
-    tree-unread : m ≡ 255 → readText text ≡ none → trees.Refused 22 0 ≡ treeAnswer Accepted (requestRefusal user mode origin text) w
+    tree-unread : m ≡ clear → readText text ≡ none → trees.Refused 22 0 ≡ treeAnswer Accepted (requestRefusal user mode origin text) w
     unfolding treeAnswer if_then_else_
     tree-unread e r = rw (unread-22 e r)
 
-    pub tree-judged : m ≡ 255 → (p : Path) → readText text ≡ some p → spread w ≡ treeAnswer Accepted (requestRefusal user mode origin text) w
+    pub tree-judged : m ≡ clear → (p : Path) → readText text ≡ some p → spread w ≡ treeAnswer Accepted (requestRefusal user mode origin text) w
     unfolding treeAnswer if_then_else_
     tree-judged e p r = rw (read-clear e p r)
 
   -- either answer
   module _ (d : Option Numbered) (w : Tree) (whole : Bool) where
-    pub either-early : (m ≡ 255 → ⊥)
+    pub either-early : (m ≡ clear → ⊥)
         → refusedAs whole m 0 ≡ oneOf whole (pathAnswer Accepted (requestRefusal user mode origin text) d) (treeAnswer Accepted (requestRefusal user mode origin text) w)
     unfolding refusedAs
     either-early n = ap₂ (oneOf whole) (path-early d n) (tree-early w n)
 
-    pub either-unread : m ≡ 255 → readText text ≡ none
+    pub either-unread : m ≡ clear → readText text ≡ none
         → refusedAs whole 22 0 ≡ oneOf whole (pathAnswer Accepted (requestRefusal user mode origin text) d) (treeAnswer Accepted (requestRefusal user mode origin text) w)
     unfolding refusedAs
     either-unread e r = ap₂ (oneOf whole) (path-unread d e r) (tree-unread w e r)

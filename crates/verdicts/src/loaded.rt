@@ -1,17 +1,15 @@
 // The verdicts on a loaded table. f are its decoded bytes, `starts` and `holders` the positions and the groups of its n rules, `set` the user's groups,
-// g the bytes of the path asked for.
+// g the bytes of the path asked for. Required is only what keeps all reading within the arrays: so they serve arrays of any origin.
 ghost use mathlib.Core.Path.{_≡_};
 ghost use mathlib.Core.Bool.{false};
 ghost use Prim.Native.Nat.{_≤_};
 ghost use lib.ListN.{length};
 ghost use Rattle.path.specs.Faults.{keyTwice};
-ghost use Rattle.table.specs.Table.{Table};
-ghost use Rattle.table.specs.declared.Checked.the-variants.{Accepted};
 ghost use Rattle.verdict.specs.Verdict.{decider, tree};
 ghost use Rattle.place.specs.Place.{pathEnd, pathIn};
-ghost use Rattle.verdict_text.specs.Calls.{asked, requestRefusal, request, decidedBy, pathAnswer, spread, treeAnswer};
-ghost use Rattle.verdict_text.specs.Either.{oneOf};
-ghost use Rattle.verdicts.specs.Ready.{Ready, Groups};
+ghost use Rattle.verdict_text.specs.Calls.{asked, decidedBy, spread};
+ghost use Rattle.concern.specs.Concern.{Safe};
+ghost use Rattle.verdicts.specs.Holding.{OfTable, answerOn};
 use path_text::Filled;
 use verdict_text::PathAnswer;
 use verdict_text::TreeAnswer;
@@ -29,11 +27,11 @@ fn path_answer(
     origin: &[u8],
     g: &[u8],
 ) -> PathAnswer
-    requires { ⌜ ((t : Table) × Ready t (now f) (now starts) (now holders) n × Groups t (now user) set) ⌝ }
-    requires { ⌜ (n ≤ length (now starts)) × (n ≤ length (now holders)) × (pathEnd (now g) 0 ≤ length (now g)) ⌝ }
-    ensures { λ r. ⌜ ((t : Table) → Ready t (now (f .entry)) (now (starts .entry)) (now (holders .entry)) n → Groups t (now (user .entry)) set → r ≡ decidedBy (decider t (asked (now (user .entry)) mode (now (origin .entry)) (pathIn (now (g .entry)) 0)))) ⌝ }
+    requires { ⌜ Safe (now f) (now starts) (now holders) n × (pathEnd (now g) 0 ≤ length (now g)) ⌝ }
+    ensures { λ r. ⌜ OfTable (now (f .entry)) (now (starts .entry)) (now (holders .entry)) n (now (user .entry)) set
+        (λ t. r ≡ decidedBy (decider t (asked (now (user .entry)) mode (now (origin .entry)) (pathIn (now (g .entry)) 0)))) ⌝ }
 {
-    let mut on = [0u8; 256];
+    let mut on = [0u8; limits::MAX_RULES];
     concern::mark(f, starts, holders, n, set, user, mode, origin, &mut on);
     let k = g[0] as usize;
     let b = judge::decide::decide(f, starts, &on, n, g, 1, k);
@@ -52,17 +50,18 @@ fn tree_answer(
     origin: &[u8],
     g: &[u8],
 ) -> TreeAnswer
-    requires { ⌜ ((t : Table) × Ready t (now f) (now starts) (now holders) n × Groups t (now user) set) ⌝ }
-    requires { ⌜ (n ≤ length (now starts)) × (n ≤ length (now holders)) × (pathEnd (now g) 0 ≤ length (now g)) × (keyTwice (pathIn (now g) 0) ≡ false) ⌝ }
-    ensures { λ r. ⌜ ((t : Table) → Ready t (now (f .entry)) (now (starts .entry)) (now (holders .entry)) n → Groups t (now (user .entry)) set → r ≡ spread (tree t (asked (now (user .entry)) mode (now (origin .entry)) (pathIn (now (g .entry)) 0)))) ⌝ }
+    requires { ⌜ Safe (now f) (now starts) (now holders) n × (pathEnd (now g) 0 ≤ length (now g)) ⌝ }
+    ensures { λ r. ⌜ OfTable (now (f .entry)) (now (starts .entry)) (now (holders .entry)) n (now (user .entry)) set
+        (λ t. keyTwice (pathIn (now (g .entry)) 0) ≡ false
+        → r ≡ spread (tree t (asked (now (user .entry)) mode (now (origin .entry)) (pathIn (now (g .entry)) 0)))) ⌝ }
 {
-    let mut on = [0u8; 256];
+    let mut on = [0u8; limits::MAX_RULES];
     concern::mark(f, starts, holders, n, set, user, mode, origin, &mut on);
     let k = g[0] as usize;
     let d = judge::decide::decide(f, starts, &on, n, g, 1, k);
     let v = judge::best::permitted(f, d);
-    let mut weights = [0usize; 256];
-    let mut paths = [0u16; 256];
+    let mut weights = [0usize; limits::MAX_RULES];
+    let mut paths = [0u16; limits::MAX_RULES];
     tree::weigh::weigh(f, starts, &on, n, g, 1, k, &mut weights, &mut paths);
     let b = tree::witness::witness(f, starts, &weights, &paths, n, v, g, 1, k);
     verdict_text::answer::spread_of(f, v, b)
@@ -81,15 +80,15 @@ pub fn call(
     text: &[u8],
     whole: bool,
 ) -> Verdict
-    requires { ⌜ ((t : Table) × Ready t (now f) (now starts) (now holders) n × Groups t (now user) set) ⌝ }
-    requires { ⌜ (n ≤ length (now starts)) × (n ≤ length (now holders)) ⌝ }
-    ensures { λ r. ⌜ ((t : Table) → Ready t (now (f .entry)) (now (starts .entry)) (now (holders .entry)) n → Groups t (now (user .entry)) set → r ≡ oneOf whole (pathAnswer Accepted (requestRefusal (now (user .entry)) mode (now (origin .entry)) (now (text .entry))) (decider t (request (now (user .entry)) mode (now (origin .entry)) (now (text .entry))))) (treeAnswer Accepted (requestRefusal (now (user .entry)) mode (now (origin .entry)) (now (text .entry))) (tree t (request (now (user .entry)) mode (now (origin .entry)) (now (text .entry)))))) ⌝ }
+    requires { ⌜ Safe (now f) (now starts) (now holders) n ⌝ }
+    ensures { λ r. ⌜ OfTable (now (f .entry)) (now (starts .entry)) (now (holders .entry)) n (now (user .entry)) set
+        (λ t. r ≡ answerOn t whole (now (user .entry)) mode (now (origin .entry)) (now (text .entry))) ⌝ }
 {
     let number = verdict_text::request::number(user, mode, origin);
-    if number != 255 {
+    if number != limits::CLEAR {
         return verdict_text::answer::refused(number, 0, whole);
     }
-    let mut bytes = [0u8; 9377];
+    let mut bytes = [0u8; limits::MAX_PATH_BYTES];
     let filled = path_text::reader::read_text(text, &mut bytes);
     let Filled::Length(len) = filled else {
         return verdict_text::answer::refused(22, 0, whole);

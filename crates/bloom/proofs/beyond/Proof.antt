@@ -5,14 +5,15 @@ use Prim.Native.Nat.{_+_, _*_, _≤_}
 use lib.ListN.{length}
 use Rattle.place.specs.Place.{elemsEnd, elemsIn}
 use Rattle.place.proofs.Cursor.{elems-room, elems-again}
-use Rattle.bloom.specs.Bloom.{join, beyond}
+use Rattle.bloom.specs.Bloom.{depthStep, join, beyond}
 use Rattle.bloom.proofs.Laws.{fresh}
 use Rattle.bloom.proofs.Turns.{beside-turn, beside-rest, beside-end}
 use Rattle.bloom.proofs.beyond.Statement.{statement}
 use Rattle.bloom.proofs.beyond.Tie as tie
 
+-- x has the digits of the elements passed; d is the depth of the elements at q and c
 abbrev Inv-loop : tie.InvT-loop
-Inv-loop s f at n g p k x₀ d₀ q₀ left₀ c₀ more₀ x d q left c more = (elemsEnd left f q ≤ length f) × (elemsEnd more g c ≤ length g) × (d + 256 * left ≡ 256 * n) × (beyond s 0 (elemsIn n f at) (elemsIn k g p) ≡ join x (beyond s d (elemsIn left f q) (elemsIn more g c)))
+Inv-loop s f at n g p k x₀ d₀ q₀ left₀ c₀ more₀ x d q left c more = (elemsEnd left f q ≤ length f) × (elemsEnd more g c ≤ length g) × (d + depthStep * left ≡ depthStep * n) × (beyond s 0 (elemsIn n f at) (elemsIn k g p) ≡ join x (beyond s d (elemsIn left f q) (elemsIn more g c)))
 
 abbrev μ-loop : tie.MeasureT-loop
 μ-loop s f at n g p k x₀ d₀ q₀ left₀ c₀ more₀ x d q left c more = left
@@ -85,8 +86,14 @@ loop-again c =
     let at-new-digits = c .before .before .before .new-digits in
     let at-loop-test = c .before .before .before .before .before .loop-test in
     let at-loop = c .before .before .before .before .before .before .loop in
-    let at-start = c .before .before .before .before .before .before .before .before .before .before in
-    (elems-again _ _ _ _ (at-loop-test .taken) (at-loop .inv .0) (at-elem-end .ensures), elems-again _ _ _ _ (omega arith) (at-loop .inv .1) (at-elem-end2 .ensures), omega arith, rw (at-join2 .ensures) (beside-turn (at-start .args .s) (at-loop .d) (at-start .args .f .now) (at-start .args .g .now) (at-loop .left) (at-loop .q) (at-loop .more) (at-loop .c) (at-loop-test .taken) (omega arith) _ _ _ (at-loop .x) _ (at-elem-end .ensures) (at-elem-end2 .ensures) (at-new-digits .ensures) (at-loop .inv .3)))
+    let at-start = c .before .before .before .before .before .before .before .before .before .before in (
+      elems-again _ _ _ _ (at-loop-test .taken) (at-loop .inv .0) (at-elem-end .ensures),
+      elems-again _ _ _ _ (omega arith) (at-loop .inv .1) (at-elem-end2 .ensures),
+      omega arith,
+      rw (at-join2 .ensures)
+          (beside-turn (at-start .args .s) (at-loop .d) (at-start .args .f .now) (at-start .args .g .now) (at-loop .left) (at-loop .q) (at-loop .more) (at-loop .c) (at-loop-test .taken) (omega arith) _ _ _ (at-loop .x) _
+          (at-elem-end .ensures) (at-elem-end2 .ensures) (at-new-digits .ensures) (at-loop .inv .3)),
+    )
 
 returns-2 : tie.Need-returns-2 Inv-loop μ-loop
 returns-2 c =

@@ -73,7 +73,8 @@ returns-3 c =
     let at-is-star = c .before .before .before .before .before .before .is-star in
     let at-str-end = c .before .before .before .before .before .before .before .str-end in
     let at-start = c .before .before .before .before .before .before .before .before .before .before in
-    at-digits .ensures ∙ rw (at-hash-at2 .ensures, at-hash-at .ensures) (key-is (at-start .args .s) (at-start .args .d) _ (at-start .args .f .now) (at-start .args .at) _ (at-str-end .ensures) (wild-in _ _ _ _ (at-str-end .ensures) (at-is-star .ensures) ∙ at-if1 .left) (sym (at-gives .ensures) ∙ at-if2 .left))
+    at-digits .ensures
+    ∙ rw (at-hash-at2 .ensures, at-hash-at .ensures) (key-is (at-start .args .s) (at-start .args .d) _ (at-start .args .f .now) (at-start .args .at) _ (at-str-end .ensures) (wild-in _ _ _ _ (at-str-end .ensures) (at-is-star .ensures) ∙ at-if1 .left) (sym (at-gives .ensures) ∙ at-if2 .left))
 
 pub key-digits-spec : {M : Type 1} → statement M
 key-digits-spec =

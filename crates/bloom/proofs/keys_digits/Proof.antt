@@ -10,6 +10,7 @@ use Rattle.bloom.proofs.Turns.{keys-turn, keys-end}
 use Rattle.bloom.proofs.keys_digits.Statement.{statement}
 use Rattle.bloom.proofs.keys_digits.Tie as tie
 
+-- x has the digits of the keys passed
 abbrev Inv-loop : tie.InvT-loop
 Inv-loop s d f at n g p k x₀ q₀ left₀ x q left = (keysEnd left f q ≤ length f) × (keysDigits s d (keysIn k g p) (keysIn n f at) ≡ join x (keysDigits s d (keysIn k g p) (keysIn left f q)))
 
@@ -54,8 +55,10 @@ loop-again c =
     let at-key-digits = c .before .before .key-digits in
     let at-loop-test = c .before .before .before .loop-test in
     let at-loop = c .before .before .before .before .loop in
-    let at-start = c .before .before .before .before .before .before .before .before in
-    (keys-again _ _ _ _ (at-loop-test .taken) (at-loop .inv .0) (at-key-end .ensures), rw (at-join .ensures) (keys-turn (at-start .args .s) (at-start .args .d) _ (at-start .args .f .now) (at-loop .left) (at-loop .q) (at-loop-test .taken) _ _ (at-loop .x) _ (at-key-end .ensures) (at-key-digits .ensures) (at-loop .inv .1)))
+    let at-start = c .before .before .before .before .before .before .before .before in (
+      keys-again _ _ _ _ (at-loop-test .taken) (at-loop .inv .0) (at-key-end .ensures),
+      rw (at-join .ensures) (keys-turn (at-start .args .s) (at-start .args .d) _ (at-start .args .f .now) (at-loop .left) (at-loop .q) (at-loop-test .taken) _ _ (at-loop .x) _ (at-key-end .ensures) (at-key-digits .ensures) (at-loop .inv .1)),
+    )
 
 returns : tie.Need-returns Inv-loop μ-loop
 returns c =

@@ -5,14 +5,15 @@ use Prim.Native.Nat.{_+_, _*_, _≤_}
 use lib.ListN.{length}
 use Rattle.place.specs.Place.{elemsEnd, elemsIn}
 use Rattle.place.proofs.Cursor.{elems-room, elems-again}
-use Rattle.bloom.specs.Bloom.{join, pathDigits}
+use Rattle.bloom.specs.Bloom.{depthStep, join, pathDigits}
 use Rattle.bloom.proofs.Laws.{fresh}
 use Rattle.bloom.proofs.Turns.{elems-turn, elems-end}
 use Rattle.bloom.proofs.path_digits.Statement.{statement}
 use Rattle.bloom.proofs.path_digits.Tie as tie
 
+-- x has the digits of the elements passed; e is the depth of the element at q
 abbrev Inv-loop : tie.InvT-loop
-Inv-loop s d f at n x₀ e₀ q₀ left₀ x e q left = (elemsEnd left f q ≤ length f) × (e + 256 * left ≡ d + 256 * n) × (pathDigits s d (elemsIn n f at) ≡ join x (pathDigits s e (elemsIn left f q)))
+Inv-loop s d f at n x₀ e₀ q₀ left₀ x e q left = (elemsEnd left f q ≤ length f) × (e + depthStep * left ≡ d + depthStep * n) × (pathDigits s d (elemsIn n f at) ≡ join x (pathDigits s e (elemsIn left f q)))
 
 abbrev μ-loop : tie.MeasureT-loop
 μ-loop s d f at n x₀ e₀ q₀ left₀ x e q left = left
@@ -58,8 +59,11 @@ loop-again c =
     let at-elem-digits = c .before .before .elem-digits in
     let at-loop-test = c .before .before .before .loop-test in
     let at-loop = c .before .before .before .before .loop in
-    let at-start = c .before .before .before .before .before .before .before in
-    (elems-again _ _ _ _ (at-loop-test .taken) (at-loop .inv .0) (at-elem-end .ensures), omega arith, rw (at-join .ensures) (elems-turn (at-start .args .s) (at-loop .e) (at-start .args .f .now) (at-loop .left) (at-loop .q) (at-loop-test .taken) _ _ (at-loop .x) _ (at-elem-end .ensures) (at-elem-digits .ensures) (at-loop .inv .2)))
+    let at-start = c .before .before .before .before .before .before .before in (
+      elems-again _ _ _ _ (at-loop-test .taken) (at-loop .inv .0) (at-elem-end .ensures),
+      omega arith,
+      rw (at-join .ensures) (elems-turn (at-start .args .s) (at-loop .e) (at-start .args .f .now) (at-loop .left) (at-loop .q) (at-loop-test .taken) _ _ (at-loop .x) _ (at-elem-end .ensures) (at-elem-digits .ensures) (at-loop .inv .2)),
+    )
 
 returns : tie.Need-returns Inv-loop μ-loop
 returns c =

@@ -1,6 +1,7 @@
 use borrow.Author.Needs.{needs}
 use native.Mathlib.Omega.{arith}
 use mathlib.Core.Path.{_≡_, refl, ap, _∙_}
+use mathlib.Core.Bool.{Bool}
 use Prim.Native.Nat.{ℕ, _-_, _≤_, zero-le}
 use lib.Dec.{eqb}
 use lib.ListN.{length, getD, length-set}
@@ -11,6 +12,7 @@ use Rattle.concern.specs.Concern.{appliesBy, Applying}
 use Rattle.concern.proofs.mark.Statement.{statement}
 use Rattle.concern.proofs.mark.Tie as tie
 
+-- of the first i rules, those that apply are marked
 abbrev Inv-loop : tie.InvT-loop
 Inv-loop f starts holders n set user mode origin on₀ i₀ on i = (i ≤ n) × (length on ≡ length on₀) × Applying f starts holders i set user mode origin on
 
@@ -43,7 +45,7 @@ mark-at-requires c κs =
     let at-group-of = c .group-of in
     let at-loop-test = c .before .before .loop-test in
     let at-start = c .before .before .before .before .before .before .before .before .before .before in
-    (at-start .pre .0 _ (at-loop-test .taken), λ e. rw (ap (λ (g : GroupNumber). g .0) (at-group-of .ensures)) (at-start .pre .1 _ (at-loop-test .taken) e))
+    (at-start .pre .0 .rules .laid _ (at-loop-test .taken), λ e. rw (ap (λ (g : GroupNumber). g .0) (at-group-of .ensures)) (at-start .pre .0 .groups _ (at-loop-test .taken) e))
 
 slice-write-on : tie.Need-slice-write-on Inv-loop μ-loop
 slice-write-on c = omega arith
@@ -60,7 +62,12 @@ loop-again c =
     let at-group-of = c .before .group-of in
     let at-loop = c .before .before .before .before .loop in
     let at-start = c .before .before .before .before .before .before .before .before .before .before .before in
-    (omega arith, length-set (at-loop .on) (at-loop .i) _ ∙ at-loop .inv .1, stored (λ (j v : ℕ). eqb v 1 ≡ appliesBy (at-start .args .set) (getD (at-start .args .holders .now) j 0) (at-start .args .user .now) (at-start .args .mode) (at-start .args .origin .now) (ruleIn (at-start .args .f .now) (getD (at-start .args .starts .now) j 0))) (at-loop .on) (at-loop .i) (at-mark-at .result) (omega arith) (at-loop .inv .2) (at-mark-at .ensures ∙ ap (λ (g : ℕ). appliesBy (at-start .args .set) g (at-start .args .user .now) (at-start .args .mode) (at-start .args .origin .now) (ruleIn (at-start .args .f .now) (getD (at-start .args .starts .now) (at-loop .i) 0))) (ap (λ (g : GroupNumber). g .0) (at-group-of .ensures))))
+    let by : ℕ → ℕ → Bool = λ g j. appliesBy (at-start .args .set) g (at-start .args .user .now) (at-start .args .mode) (at-start .args .origin .now) (ruleIn (at-start .args .f .now) (getD (at-start .args .starts .now) j 0)) in
+    let marked = at-mark-at .ensures ∙ ap (λ (g : GroupNumber). by (g .0) (at-loop .i)) (at-group-of .ensures) in (
+      omega arith,
+      length-set (at-loop .on) (at-loop .i) _ ∙ at-loop .inv .1,
+      stored (λ (j v : ℕ). eqb v 1 ≡ by (getD (at-start .args .holders .now) j 0) j) (at-loop .on) (at-loop .i) (at-mark-at .result) (omega arith) (at-loop .inv .2) marked,
+    )
 
 same-length : tie.Need-same-length Inv-loop μ-loop
 same-length c = search needs

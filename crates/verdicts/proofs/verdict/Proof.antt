@@ -3,7 +3,7 @@ use native.Mathlib.Omega.{arith}
 use mathlib.Core.Path.{sym, _∙_}
 use Rattle.table.specs.Text.{tableOf}
 use Rattle.groups.proofs.Calls.{outcome-kept, front-is, count-requires}
-use Rattle.verdicts.proofs.Holding.{ready, grouped, rooms, either-kept, refused-is}
+use Rattle.verdicts.proofs.Holding.{safe, holding, grouped, either-kept, refused-is}
 use Rattle.verdicts.proofs.verdict.Statement.{statement}
 use Rattle.verdicts.proofs.verdict.Tie as tie
 
@@ -73,11 +73,9 @@ slice-aggregate-call-2 c =
 
 call-requires : tie.Need-call-requires
 call-requires c κs =
-    let at-memberships = c .before .before .memberships in
     let at-l = c .before .before .before .before .before .before .before .l in
     let at-load = c .before .before .before .before .before .before .before .before .before .before .load in
-    let at-start = c .before .before .before .before .before .before .before .before .before .before .before .before .before .before .before .before .before .before .before .before .before .before in
-    let K = (outcome-kept _ _ _ _ _ _ _ _ _ (at-load .ensures) _ _ (at-l .given .1)) in ((tableOf (at-start .args .table .now), ready K, rw (at-memberships .ensures) (grouped K (at-start .args .user .now))), rooms K)
+    safe (outcome-kept _ _ _ _ _ _ _ _ _ (at-load .ensures) _ _ (at-l .given .1))
 
 returns-2 : tie.Need-returns-2
 returns-2 c =
@@ -86,7 +84,7 @@ returns-2 c =
     let at-l = c .before .before .before .before .before .before .before .before .l in
     let at-load = c .before .before .before .before .before .before .before .before .before .before .before .load in
     let at-start = c .before .before .before .before .before .before .before .before .before .before .before .before .before .before .before .before .before .before .before .before .before .before .before in
-    let K = (outcome-kept _ _ _ _ _ _ _ _ _ (at-load .ensures) _ _ (at-l .given .1)) in at-call .ensures (tableOf (at-start .args .table .now)) (ready K) (rw (at-memberships .ensures) (grouped K (at-start .args .user .now))) ∙ either-kept K _ _ _ _ _
+    let K = (outcome-kept _ _ _ _ _ _ _ _ _ (at-load .ensures) _ _ (at-l .given .1)) in at-call .ensures (tableOf (at-start .args .table .now)) (holding K) (rw (at-memberships .ensures) (grouped K (at-start .args .user .now))) ∙ either-kept K _ _ _ _ _
 
 pub verdict-spec : {M : Type 1} → statement M
 verdict-spec =

@@ -86,8 +86,11 @@ keys-pass-requires c κs =
     let at-str-end3 = c .before .before .before .str-end3 in
     let at-str-end2 = c .before .before .before .before .str-end2 in
     let at-str-end = c .before .before .before .before .before .str-end in
-    let at-start = c .before .before .before .before .before .before .before .before .before .before in
-    (rw (at-str-end .ensures) (elem-room (at-start .args .f .now) (at-start .args .s) (at-start .pre .0) .1), rw (at-str-end2 .ensures) (elem-room (at-start .args .f .now) (at-start .args .r) (at-start .pre .1) .1), rw (at-str-end3 .ensures) (elem-room (at-start .args .g .now) (at-start .args .p) (at-start .pre .2) .1))
+    let at-start = c .before .before .before .before .before .before .before .before .before .before in (
+      rw (at-str-end .ensures) (elem-room (at-start .args .f .now) (at-start .args .s) (at-start .pre .0) .1),
+      rw (at-str-end2 .ensures) (elem-room (at-start .args .f .now) (at-start .args .r) (at-start .pre .1) .1),
+      rw (at-str-end3 .ensures) (elem-room (at-start .args .g .now) (at-start .args .p) (at-start .pre .2) .1),
+    )
 
 returns-2 : tie.Need-returns-2
 returns-2 c =

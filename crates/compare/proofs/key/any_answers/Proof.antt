@@ -11,6 +11,7 @@ use Rattle.compare.proofs.Keys.{any-hit, any-miss, any-end}
 use Rattle.compare.proofs.key.any_answers.Statement.{statement}
 use Rattle.compare.proofs.key.any_answers.Tie as tie
 
+-- none of the keys passed answers: whether one of all does is whether one of those from q on does
 abbrev Inv-loop : tie.InvT-loop
 Inv-loop cover g at n f p q₀ left₀ q left = (keysEnd left g q ≤ length g) × (any (λ (j : Key). answers cover j (keyIn f p)) (keysIn n g at) ≡ any (λ (j : Key). answers cover j (keyIn f p)) (keysIn left g q))
 

@@ -12,6 +12,7 @@ use Rattle.compare.proofs.Keys.{all-pass, all-fail, all-end}
 use Rattle.compare.proofs.key.keys_pass.Statement.{statement}
 use Rattle.compare.proofs.key.keys_pass.Tie as tie
 
+-- the keys passed all pass: whether all do is whether those from q on do
 abbrev Inv-loop : tie.InvT-loop
 Inv-loop cover f s k r m g p n q₀ left₀ q left = (keysEnd left f q ≤ length f) × (all (keyPasses cover (keysIn m f r) (keysIn n g p)) (given (keysIn k f s)) ≡ all (keyPasses cover (keysIn m f r) (keysIn n g p)) (given (keysIn left f q)))
 

@@ -4,15 +4,18 @@ use mathlib.Core.Path.{_≡_, refl, sym, _∙_}
 use Prim.Native.Nat.{_≤_}
 use borrow.Author.Tests.{not-true, not-false}
 use lib.ListN.{length}
-use Rattle.verdict.specs.Join.{coversBoth}
+use Rattle.verdict.specs.Pair.{coversBoth}
 use Rattle.place.specs.Place.{elemsEnd, elemsIn}
 use Rattle.place.proofs.Cursor.{elems-room, elems-again}
 use Rattle.compare.proofs.Elems.{both-end, both-path, both-rule, both-fail, both-turn}
 use Rattle.compare.proofs.paths.covers_both.Statement.{statement}
 use Rattle.compare.proofs.paths.covers_both.Tie as tie
 
+-- the elements passed are met: the answer is that of the three paths from here on, which lie within the bytes
 abbrev Inv-loop : tie.InvT-loop
-Inv-loop f s k r m g p n a₀ b₀ c₀ left₀ mine₀ more₀ a b c left mine more = (elemsEnd left f a ≤ length f) × (elemsEnd mine f b ≤ length f) × (elemsEnd more g c ≤ length g) × (coversBoth (elemsIn k f s) (elemsIn m f r) (elemsIn n g p) ≡ coversBoth (elemsIn left f a) (elemsIn mine f b) (elemsIn more g c))
+Inv-loop f s k r m g p n a₀ b₀ c₀ left₀ mine₀ more₀ a b c left mine more =
+    (elemsEnd left f a ≤ length f) × (elemsEnd mine f b ≤ length f) × (elemsEnd more g c ≤ length g)
+    × (coversBoth (elemsIn k f s) (elemsIn m f r) (elemsIn n g p) ≡ coversBoth (elemsIn left f a) (elemsIn mine f b) (elemsIn more g c))
 
 abbrev μ-loop : tie.MeasureT-loop
 μ-loop f s k r m g p n a₀ b₀ c₀ left₀ mine₀ more₀ a b c left mine more = left
@@ -103,8 +106,12 @@ loop-again c =
     let at-if2 = c .before .before .before .before .before .if2 in
     let at-if1 = c .before .before .before .before .before .before .if1 in
     let at-loop-test = c .before .before .before .before .before .before .before .loop-test in
-    let at-loop = c .before .before .before .before .before .before .before .before .loop in
-    (elems-again _ _ _ _ (at-loop-test .taken) (at-loop .inv .0) (at-elem-end .ensures), elems-again _ _ _ _ (omega arith) (at-loop .inv .1) (at-elem-end2 .ensures), elems-again _ _ _ _ (omega arith) (at-loop .inv .2) (at-elem-end3 .ensures), at-loop .inv .3 ∙ both-turn _ _ _ _ _ _ _ _ (at-loop-test .taken) (at-if1 .left) (at-if2 .left) (sym (at-meets-both .ensures) ∙ not-false _ (at-if3 .left)) _ _ _ (at-elem-end .ensures) (at-elem-end2 .ensures) (at-elem-end3 .ensures))
+    let at-loop = c .before .before .before .before .before .before .before .before .loop in (
+      elems-again _ _ _ _ (at-loop-test .taken) (at-loop .inv .0) (at-elem-end .ensures),
+      elems-again _ _ _ _ (omega arith) (at-loop .inv .1) (at-elem-end2 .ensures),
+      elems-again _ _ _ _ (omega arith) (at-loop .inv .2) (at-elem-end3 .ensures),
+      at-loop .inv .3 ∙ both-turn _ _ _ _ _ _ _ _ (at-loop-test .taken) (at-if1 .left) (at-if2 .left) (sym (at-meets-both .ensures) ∙ not-false _ (at-if3 .left)) _ _ _ (at-elem-end .ensures) (at-elem-end2 .ensures) (at-elem-end3 .ensures),
+    )
 
 returns-4 : tie.Need-returns-4 Inv-loop μ-loop
 returns-4 c =

@@ -11,6 +11,7 @@ use Rattle.compare.proofs.Elems.{step-end, step-out, step-fail, step-tu
 use Rattle.compare.proofs.paths.in_step.Statement.{statement}
 use Rattle.compare.proofs.paths.in_step.Tie as tie
 
+-- the elements passed pass the test: the answer is that of the two paths from here on, which lie within the bytes
 abbrev Inv-loop : tie.InvT-loop
 Inv-loop cover f s k g p n a₀ b₀ left₀ more₀ a b left more = (elemsEnd left f a ≤ length f) × (elemsEnd more g b ≤ length g) × (pathPasses cover (elemsIn k f s) (elemsIn n g p) ≡ pathPasses cover (elemsIn left f a) (elemsIn more g b))
 
@@ -75,8 +76,11 @@ loop-again c =
     let at-if1 = c .before .before .before .before .if1 in
     let at-loop-test = c .before .before .before .before .before .loop-test in
     let at-loop = c .before .before .before .before .before .before .loop in
-    let at-start = c .before .before .before .before .before .before .before .before .before in
-    (elems-again _ _ _ _ (at-loop-test .taken) (at-loop .inv .0) (at-elem-end .ensures), elems-again _ _ _ _ (omega arith) (at-loop .inv .1) (at-elem-end2 .ensures), at-loop .inv .2 ∙ step-turn _ _ _ _ _ _ (at-loop-test .taken) (at-if1 .left) (at-start .args .cover) (sym (at-elem-passes .ensures) ∙ not-false _ (at-if2 .left)) _ _ (at-elem-end .ensures) (at-elem-end2 .ensures))
+    let at-start = c .before .before .before .before .before .before .before .before .before in (
+      elems-again _ _ _ _ (at-loop-test .taken) (at-loop .inv .0) (at-elem-end .ensures),
+      elems-again _ _ _ _ (omega arith) (at-loop .inv .1) (at-elem-end2 .ensures),
+      at-loop .inv .2 ∙ step-turn _ _ _ _ _ _ (at-loop-test .taken) (at-if1 .left) (at-start .args .cover) (sym (at-elem-passes .ensures) ∙ not-false _ (at-if2 .left)) _ _ (at-elem-end .ensures) (at-elem-end2 .ensures),
+    )
 
 returns-3 : tie.Need-returns-3 Inv-loop μ-loop
 returns-3 c =

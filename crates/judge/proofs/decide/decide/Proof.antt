@@ -1,21 +1,32 @@
 use native.Mathlib.Omega.{arith}
 use mathlib.Core.Path.{_≡_, refl}
 use mathlib.Core.Bool.{Bool}
-use Prim.Native.Nat.{_-_, _≤_, zero-le}
+use mathlib.Core.List.{List}
+use Prim.Native.Nat.{ℕ, _-_, _≤_, zero-le}
 use borrow.Author.Tests.{eq-eqb}
 use Rattle.text.proofs.Tests.{clash}
+use Rattle.path.specs.Path.{Path}
 use Rattle.table.specs.Table.{Rule}
 use Rattle.verdict.specs.Order.{better, choose, prefer}
 use Rattle.verdict.proofs.Order.{better-order}
 use Rattle.place.specs.Place.{elemsIn}
 use Rattle.judge.specs.Rules.{rulesIn, Marked}
-use Rattle.judge.specs.Best.{held, Ranked, matching}
+use Rattle.judge.specs.Best.{held, Ranked, NumberBelow, matching}
+use Rattle.judge.specs.declared.best.Best.{Best}
 use Rattle.judge.proofs.Steps.{best-none, best-turn, best-end}
 use Rattle.judge.proofs.decide.decide.Statement.{statement}
 use Rattle.judge.proofs.decide.decide.Tie as tie
 
+-- b is the best of the first i rules: the best of all is the better of b and the best of those from i on
+record Best-so-far (f starts on : List ℕ) (n : ℕ) (p : Path) (b : Best) (i : ℕ) : Type 0 where
+  inside : i ≤ n
+  ranked : Ranked f b
+  numbered : NumberBelow n b
+  best : (app : Rule → Bool) → Marked app f starts on n
+      → choose better (matching app p) 0 (rulesIn f starts n 0) ≡ prefer better (held f b) (choose better (matching app p) i (rulesIn f starts (n - i) i))
+
 abbrev Inv-loop : tie.InvT-loop
-Inv-loop f starts on n g p k b₀ i₀ b i = (i ≤ n) × Ranked f b × ((app : Rule → Bool) → Marked app f starts on n → choose better (matching app (elemsIn k g p)) 0 (rulesIn f starts n 0) ≡ prefer better (held f b) (choose better (matching app (elemsIn k g p)) i (rulesIn f starts (n - i) i)))
+Inv-loop f starts on n g p k b₀ i₀ b i = Best-so-far f starts on n (elemsIn k g p) b i
 
 abbrev μ-loop : tie.MeasureT-loop
 μ-loop f starts on n g p k b₀ i₀ b i = n - i
@@ -23,7 +34,13 @@ abbrev μ-loop : tie.MeasureT-loop
 loop-holds : tie.Need-loop-holds Inv-loop μ-loop
 loop-holds c =
     let at-start = c .before .before .before .before in
-    (zero-le, λ z. clash (eq-eqb 0 0 refl) z, λ app h. best-none better better-order (matching app (elemsIn (at-start .args .k) (at-start .args .g .now) (at-start .args .p))) (at-start .args .f .now) (at-start .args .starts .now) (at-start .args .n))
+    let p = elemsIn (at-start .args .k) (at-start .args .g .now) (at-start .args .p) in
+    record {
+      inside = zero-le;
+      ranked = λ z. clash (eq-eqb 0 0 refl) z;
+      numbered = λ z. clash (eq-eqb 0 0 refl) z;
+      best = λ app h. best-none better better-order (matching app p) (at-start .args .f .now) (at-start .args .starts .now) (at-start .args .n);
+    }
 
 mul-s : tie.Need-mul-s Inv-loop μ-loop
 mul-s c = omega arith
@@ -45,7 +62,7 @@ take-match-requires c κs =
     let at-loop-test = c .before .before .loop-test in
     let at-loop = c .before .before .before .loop in
     let at-start = c .before .before .before .before .before .before .before .before in
-    (at-start .pre .0 _ (at-loop-test .taken), at-loop .inv .1, at-start .pre .3, at-start .pre .4)
+    (at-start .pre .rules .laid _ (at-loop-test .taken), at-loop .inv .ranked, at-start .pre .path, at-start .pre .rules .short)
 
 add-i : tie.Need-add-i Inv-loop μ-loop
 add-i c = omega arith
@@ -59,14 +76,25 @@ loop-again c =
     let at-loop-test = c .before .before .before .loop-test in
     let at-loop = c .before .before .before .before .loop in
     let at-start = c .before .before .before .before .before .before .before .before .before in
-    (omega arith, at-take-match .ensures .0, λ app h. best-turn better better-order (matching app (elemsIn (at-start .args .k) (at-start .args .g .now) (at-start .args .p))) (at-start .args .f .now) (at-start .args .starts .now) (at-start .args .n) _ (at-loop .b) _ (at-loop .i) (at-loop-test .taken) (at-take-match .ensures .1 app (h _ (at-loop-test .taken))) (at-loop .inv .2 app h))
+    let p = elemsIn (at-start .args .k) (at-start .args .g .now) (at-start .args .p) in
+    record {
+      inside = omega arith;
+      ranked = at-take-match .ensures .ranked;
+      numbered = at-take-match .ensures .numbered _ (at-loop-test .taken) (at-loop .inv .numbered);
+      best = λ app h. best-turn better better-order (matching app p) (at-start .args .f .now) (at-start .args .starts .now) (at-start .args .n) _ (at-loop .b) _ (at-loop .i) (at-loop-test .taken) (at-take-match .ensures .best app (h _ (at-loop-test .taken))) (at-loop .inv .best app h);
+    }
 
 returns : tie.Need-returns Inv-loop μ-loop
 returns c =
     let at-loop-test = c .loop-test in
     let at-loop = c .before .loop in
     let at-start = c .before .before .before .before .before .before in
-    (at-loop .inv .1, λ app h. best-end better better-order (matching app (elemsIn (at-start .args .k) (at-start .args .g .now) (at-start .args .p))) (at-start .args .f .now) (at-start .args .starts .now) (at-start .args .n) _ (at-loop .b) (at-loop .i) (at-loop-test .left) (at-loop .inv .2 app h))
+    let p = elemsIn (at-start .args .k) (at-start .args .g .now) (at-start .args .p) in
+    record {
+      ranked = at-loop .inv .ranked;
+      numbered = at-loop .inv .numbered;
+      best = λ app h. best-end better better-order (matching app p) (at-start .args .f .now) (at-start .args .starts .now) (at-start .args .n) _ (at-loop .b) (at-loop .i) (at-loop-test .left) (at-loop .inv .best app h);
+    }
 
 pub decide-spec : {M : Type 1} → statement M
 decide-spec =

@@ -1,5 +1,6 @@
 use native.Mathlib.Omega.{arith}
 use mathlib.Core.Path.{sym, _∙_}
+use mathlib.Core.Bool.{Bool}
 use native.Mathlib.Numerals.{add-one}
 use borrow.Author.Tests.{not-true, not-false, eq-eqb, ne-eqb}
 use Rattle.verdict.specs.Cover.{covers}
@@ -15,7 +16,12 @@ returns : tie.Need-returns
 returns c =
     let at-if1 = c .if1 in
     let at-start = c .before .before .before in
-    (at-start .pre .1, λ app h. step-off better (at-start .args .f .now) (at-start .args .b) _ _ app (λ (w : Rule). covers (w .path) (elemsIn (at-start .args .k) (at-start .args .g .now) (at-start .args .p))) (sym h ∙ ne-eqb _ 1 (at-if1 .taken)))
+    let also : Rule → Bool = λ w. covers (w .path) (elemsIn (at-start .args .k) (at-start .args .g .now) (at-start .args .p)) in
+    record {
+      ranked = at-start .pre .1;
+      numbered = λ n l h. h;
+      best = λ app h. step-off better (at-start .args .f .now) (at-start .args .b) _ _ app also (sym h ∙ ne-eqb _ 1 (at-if1 .taken));
+    }
 
 path-at-requires : tie.Need-path-at-requires
 path-at-requires c κs =
@@ -52,7 +58,12 @@ returns-2 c =
     let at-covers-at = c .before .covers-at in
     let at-path-at = c .before .before .before .path-at in
     let at-start = c .before .before .before .before .before .before .before in
-    (at-start .pre .1, λ app h. step-miss better (at-start .args .f .now) (at-start .args .b) _ _ app (λ (w : Rule). covers (w .path) (elemsIn (at-start .args .k) (at-start .args .g .now) (at-start .args .p))) (covers-in _ _ _ _ _ (at-path-at .ensures) (at-covers-at .ensures) ∙ not-true _ (at-if2 .taken)))
+    let also : Rule → Bool = λ w. covers (w .path) (elemsIn (at-start .args .k) (at-start .args .g .now) (at-start .args .p)) in
+    record {
+      ranked = at-start .pre .1;
+      numbered = λ n l h. h;
+      best = λ app h. step-miss better (at-start .args .f .now) (at-start .args .b) _ _ app also (covers-in _ _ _ _ _ (at-path-at .ensures) (at-covers-at .ensures) ∙ not-true _ (at-if2 .taken));
+    }
 
 rank-at-requires : tie.Need-rank-at-requires
 rank-at-requires c κs =
@@ -79,7 +90,12 @@ returns-3 c =
     let at-if3 = c .if3 in
     let at-wins-better = c .before .wins-better in
     let at-start = c .before .before .before .before .before .before .before .before .before .before in
-    (at-start .pre .1, λ app h. step-keep better (at-start .args .f .now) (at-start .args .b) _ _ app (λ (w : Rule). covers (w .path) (elemsIn (at-start .args .k) (at-start .args .g .now) (at-start .args .p))) (sym (at-wins-better .ensures) ∙ not-true _ (at-if3 .taken)))
+    let also : Rule → Bool = λ w. covers (w .path) (elemsIn (at-start .args .k) (at-start .args .g .now) (at-start .args .p)) in
+    record {
+      ranked = at-start .pre .1;
+      numbered = λ n l h. h;
+      best = λ app h. step-keep better (at-start .args .f .now) (at-start .args .b) _ _ app also (sym (at-wins-better .ensures) ∙ not-true _ (at-if3 .taken));
+    }
 
 returns-4 : tie.Need-returns-4
 returns-4 c =
@@ -91,7 +107,14 @@ returns-4 c =
     let at-path-at = c .before .before .before .before .before .before .path-at in
     let at-if1 = c .before .before .before .before .before .before .before .if1 in
     let at-start = c .before .before .before .before .before .before .before .before .before .before in
-    ((λ _. (at-start .pre .0, add-one _ ∙ rw (at-rank-at .ensures))), λ app h. step-take better (at-start .args .f .now) (at-start .args .b) _ _ app (λ (w : Rule). covers (w .path) (elemsIn (at-start .args .k) (at-start .args .g .now) (at-start .args .p))) _ (λ z. absurd (omega arith)) (sym h ∙ eq-eqb _ 1 (at-if1 .left)) (covers-in _ _ _ _ _ (at-path-at .ensures) (at-covers-at .ensures) ∙ not-false _ (at-if2 .left)) (sym (at-wins-better .ensures) ∙ not-false _ (at-if3 .left)))
+    let also : Rule → Bool = λ w. covers (w .path) (elemsIn (at-start .args .k) (at-start .args .g .now) (at-start .args .p)) in
+    let covered = covers-in _ _ _ _ _ (at-path-at .ensures) (at-covers-at .ensures) ∙ not-false _ (at-if2 .left) in
+    let wins = sym (at-wins-better .ensures) ∙ not-false _ (at-if3 .left) in
+    record {
+      ranked = λ _. (at-start .pre .0, add-one _ ∙ rw (at-rank-at .ensures));
+      numbered = λ n l h e. l;
+      best = λ app h. step-take better (at-start .args .f .now) (at-start .args .b) _ _ app also _ (λ z. absurd (omega arith)) (sym h ∙ eq-eqb _ 1 (at-if1 .left)) covered wins;
+    }
 
 pub take-match-spec : {M : Type 1} → statement M
 take-match-spec =

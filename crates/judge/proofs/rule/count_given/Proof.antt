@@ -10,6 +10,7 @@ use Rattle.judge.proofs.Counting.{count-turn, count-end}
 use Rattle.judge.proofs.rule.count_given.Statement.{statement}
 use Rattle.judge.proofs.rule.count_given.Tie as tie
 
+-- n counts the definite ones of the keys passed, and no more than their bytes
 abbrev Inv-loop : tie.InvT-loop
 Inv-loop f at k n₀ q₀ left₀ n q left = (keysEnd left f q ≤ length f) × (n ≤ q) × (length (given (keysIn k f at)) ≡ n + length (given (keysIn left f q)))
 
@@ -53,7 +54,13 @@ loop-again c =
     let at-loop-test = c .before .before .loop-test in
     let at-loop = c .before .before .before .loop in
     let at-start = c .before .before .before .before .before in
-    let w = unless-small (wild (keyIn (at-start .args .f .now) (at-loop .q))) in let x = str-grows (at-start .args .f .now) (at-loop .q) in let y = str-grows (at-start .args .f .now) (strEnd (at-start .args .f .now) (at-loop .q)) in (keys-again _ _ _ _ (at-loop-test .taken) (at-loop .inv .0) (at-key-end .ensures), omega arith, count-turn _ _ _ (at-loop-test .taken) _ _ _ _ (at-key-end .ensures) (at-count-key .ensures) (at-loop .inv .2))
+    let w = unless-small (wild (keyIn (at-start .args .f .now) (at-loop .q))) in
+    let x = str-grows (at-start .args .f .now) (at-loop .q) in
+    let y = str-grows (at-start .args .f .now) (strEnd (at-start .args .f .now) (at-loop .q)) in (
+      keys-again _ _ _ _ (at-loop-test .taken) (at-loop .inv .0) (at-key-end .ensures),
+      omega arith,
+      count-turn _ _ _ (at-loop-test .taken) _ _ _ _ (at-key-end .ensures) (at-count-key .ensures) (at-loop .inv .2),
+    )
 
 returns : tie.Need-returns Inv-loop μ-loop
 returns c =

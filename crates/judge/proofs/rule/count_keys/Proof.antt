@@ -9,6 +9,7 @@ use Rattle.judge.proofs.Counting.{few-in, keys-turn, keys-end}
 use Rattle.judge.proofs.rule.count_keys.Statement.{statement}
 use Rattle.judge.proofs.rule.count_keys.Tie as tie
 
+-- n counts the definite keys of the elements passed, and no more than their bytes
 abbrev Inv-loop : tie.InvT-loop
 Inv-loop f at k n₀ q₀ left₀ n q left = (elemsEnd left f q ≤ length f) × (n ≤ q) × (definites (elemsIn k f at) ≡ n + definites (elemsIn left f q))
 

@@ -1,18 +1,19 @@
 use borrow.Author.Needs.{needs}
 use native.Mathlib.Omega.{arith}
 use mathlib.Core.Path.{_≡_, refl, _∙_}
-use Prim.Native.Nat.{ℕ, _-_, _≤_, _<_, zero-le}
+use Prim.Native.Nat.{ℕ, _-_, _≤_, zero-le}
 use lib.ListN.{length, getD}
+use Rattle.judge.proofs.Stores.{stored-by}
 use Rattle.place.specs.Place.{pathIn, elemsIn}
 use Rattle.bloom.specs.declared.Filter.{Filter}
 use Rattle.bloom.specs.Bloom.{beyond}
-use Rattle.tree.specs.Tree.{filterOf}
-use Rattle.tree.proofs.Quads.{filtered}
+use Rattle.tree.specs.Tree.{Fits, filterOf, Filters}
 use Rattle.tree.proofs.filter.fill.Statement.{statement}
 use Rattle.tree.proofs.filter.fill.Tie as tie
 
+-- of the first i rules, those that fit have their filters stored
 abbrev Inv-loop : tie.InvT-loop
-Inv-loop s f weights paths n g p k filters₀ i₀ filters i = (i ≤ n) × (length filters ≡ length filters₀) × ((j : ℕ) → j < i → 255 < getD weights j 0 → filterOf filters j ≡ beyond s 0 (pathIn f (getD paths j 0)) (elemsIn k g p))
+Inv-loop s f weights paths n g p k filters₀ i₀ filters i = (i ≤ n) × (length filters ≡ length filters₀) × Filters s f weights paths (elemsIn k g p) filters i
 
 abbrev μ-loop : tie.MeasureT-loop
 μ-loop s f weights paths n g p k filters₀ i₀ filters i = n - i
@@ -42,7 +43,7 @@ filter-at-requires : tie.Need-filter-at-requires Inv-loop μ-loop
 filter-at-requires c κs =
     let at-loop-test = c .before .before .loop-test in
     let at-start = c .before .before .before .before .before .before .before .before .before in
-    (at-start .pre .0, at-start .pre .1 _ (at-loop-test .taken), at-start .pre .4)
+    (at-start .pre .seed, at-start .pre .laid _ (at-loop-test .taken), at-start .pre .asked)
 
 store-requires : tie.Need-store-requires Inv-loop μ-loop
 store-requires c κs = omega arith
@@ -59,7 +60,12 @@ loop-again c =
     let at-filter-at = c .before .before .before .before .filter-at in
     let at-loop = c .before .before .before .before .before .before .before .before .loop in
     let at-start = c .before .before .before .before .before .before .before .before .before .before .before .before .before .before in
-    (omega arith, at-store .ensures .0 ∙ at-loop .inv .1, filtered (λ (j : ℕ) (x : Filter). 255 < getD (at-start .args .weights .now) j 0 → x ≡ beyond (at-start .args .s) 0 (pathIn (at-start .args .f .now) (getD (at-start .args .paths .now) j 0)) (elemsIn (at-start .args .k) (at-start .args .g .now) (at-start .args .p))) (at-loop .filters) _ (at-loop .i) (at-filter-at .result) (at-store .ensures .1) (at-store .ensures .2) (at-loop .inv .2) (at-filter-at .ensures))
+    let p = elemsIn (at-start .args .k) (at-start .args .g .now) (at-start .args .p) in
+    let Q : ℕ → Filter → Type 0 = λ j x. Fits (getD (at-start .args .weights .now) j 0) → x ≡ beyond (at-start .args .s) 0 (pathIn (at-start .args .f .now) (getD (at-start .args .paths .now) j 0)) p in (
+      omega arith,
+      at-store .ensures .long ∙ at-loop .inv .1,
+      stored-by filterOf Q (at-loop .filters) _ (at-loop .i) (at-filter-at .result) (at-store .ensures .same) (at-store .ensures .others) (at-loop .inv .2) (at-filter-at .ensures),
+    )
 
 same-length : tie.Need-same-length Inv-loop μ-loop
 same-length c = search needs

@@ -41,7 +41,9 @@ mul-filters-6 c = search needs
 slice-write-filters-3 : tie.Need-slice-write-filters-3
 slice-write-filters-3 c =
     let at-start = c in
-    omega (arith, length-set (at-start .args .filters .now) (4 * at-start .args .i) (at-start .args .x .a), length-set (set (at-start .args .filters .now) (4 * at-start .args .i) (at-start .args .x .a)) (4 * at-start .args .i + 1) (at-start .args .x .b))
+    let i = at-start .args .i in
+    let one = set (at-start .args .filters .now) (4 * i) (at-start .args .x .a) in
+    omega (arith, length-set (at-start .args .filters .now) (4 * i) (at-start .args .x .a), length-set one (4 * i + 1) (at-start .args .x .b))
 
 mul-filters-7 : tie.Need-mul-filters-7
 mul-filters-7 c = search needs
@@ -55,7 +57,10 @@ mul-filters-8 c = search needs
 slice-write-filters-4 : tie.Need-slice-write-filters-4
 slice-write-filters-4 c =
     let at-start = c in
-    omega (arith, length-set (at-start .args .filters .now) (4 * at-start .args .i) (at-start .args .x .a), length-set (set (at-start .args .filters .now) (4 * at-start .args .i) (at-start .args .x .a)) (4 * at-start .args .i + 1) (at-start .args .x .b), length-set (set (set (at-start .args .filters .now) (4 * at-start .args .i) (at-start .args .x .a)) (4 * at-start .args .i + 1) (at-start .args .x .b)) (4 * at-start .args .i + 2) (at-start .args .x .c))
+    let i = at-start .args .i in
+    let one = set (at-start .args .filters .now) (4 * i) (at-start .args .x .a) in
+    let two = set one (4 * i + 1) (at-start .args .x .b) in
+    omega (arith, length-set (at-start .args .filters .now) (4 * i) (at-start .args .x .a), length-set one (4 * i + 1) (at-start .args .x .b), length-set two (4 * i + 2) (at-start .args .x .c))
 
 same-length : tie.Need-same-length
 same-length c =
@@ -65,7 +70,11 @@ same-length c =
 returns : tie.Need-returns
 returns c =
     let at-start = c in
-    (quad-long (at-start .args .filters .now) (at-start .args .i) (at-start .args .x .a) (at-start .args .x .b) (at-start .args .x .c) (at-start .args .x .d), quad-same (at-start .args .filters .now) (at-start .args .i) (at-start .args .x .a) (at-start .args .x .b) (at-start .args .x .c) (at-start .args .x .d) (at-start .pre), quad-other (at-start .args .filters .now) (at-start .args .i) (at-start .args .x .a) (at-start .args .x .b) (at-start .args .x .c) (at-start .args .x .d))
+    record {
+      long = quad-long (at-start .args .filters .now) (at-start .args .i) (at-start .args .x .a) (at-start .args .x .b) (at-start .args .x .c) (at-start .args .x .d);
+      same = quad-same (at-start .args .filters .now) (at-start .args .i) (at-start .args .x .a) (at-start .args .x .b) (at-start .args .x .c) (at-start .args .x .d) (at-start .pre);
+      others = quad-other (at-start .args .filters .now) (at-start .args .i) (at-start .args .x .a) (at-start .args .x .b) (at-start .args .x .c) (at-start .args .x .d);
+    }
 
 pub store-spec : {M : Type 1} → statement M
 store-spec =

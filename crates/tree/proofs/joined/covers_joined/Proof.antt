@@ -10,19 +10,19 @@ use Rattle.tree.proofs.joined.covers_joined.Tie as tie
 is-within-requires : tie.Need-is-within-requires
 is-within-requires c κs =
     let at-start = c .before .before .before in
-    (at-start .pre .3, at-start .pre .4)
+    (at-start .pre .filter, at-start .pre .other-filter)
 
 returns : tie.Need-returns
 returns c =
     let at-if1 = c .if1 in
     let at-is-within = c .before .is-within in
     let at-start = c .before .before .before .before .before in
-    let h = at-start .pre .5 in sym (not-both (h .0) _ _ _ (λ e. at-is-within .ensures (not-true _ (at-if1 .taken)) (ap₂ join (h .1) (h .2) ∙ e ∙ sym (h .2))))
+    let h = at-start .pre .filtered in sym (not-both (h .0) _ _ _ (λ e. at-is-within .ensures (not-true _ (at-if1 .taken)) (ap₂ join (h .1) (h .2) ∙ e ∙ sym (h .2))))
 
 shared-slice-read-n : tie.Need-shared-slice-read-n
 shared-slice-read-n c =
     let at-start = c .before .before .before .before .before .before in
-    path-room (at-start .args .f .now) (at-start .args .a) (at-start .pre .0)
+    path-room (at-start .args .f .now) (at-start .args .a) (at-start .pre .path)
 
 cast-n : tie.Need-cast-n
 cast-n c =
@@ -33,7 +33,7 @@ cast-n c =
 shared-slice-read-m : tie.Need-shared-slice-read-m
 shared-slice-read-m c =
     let at-start = c .before .before .before .before .before .before .before in
-    path-room (at-start .args .f .now) (at-start .args .r) (at-start .pre .1)
+    path-room (at-start .args .f .now) (at-start .args .r) (at-start .pre .other)
 
 cast-m : tie.Need-cast-m
 cast-m c =
@@ -44,17 +44,17 @@ cast-m c =
 add-covers-both : tie.Need-add-covers-both
 add-covers-both c =
     let at-start = c .before .before .before .before .before .before .before in
-    let e = path-room (at-start .args .f .now) (at-start .args .a) (at-start .pre .0) in omega arith
+    let e = path-room (at-start .args .f .now) (at-start .args .a) (at-start .pre .path) in omega arith
 
 add-covers-both-2 : tie.Need-add-covers-both-2
 add-covers-both-2 c =
     let at-start = c .before .before .before .before .before .before .before in
-    let e = path-room (at-start .args .f .now) (at-start .args .r) (at-start .pre .1) in omega arith
+    let e = path-room (at-start .args .f .now) (at-start .args .r) (at-start .pre .other) in omega arith
 
 covers-both-requires : tie.Need-covers-both-requires
 covers-both-requires c κs =
     let at-start = c .before .before .before .before .before .before .before in
-    (at-start .pre .0, at-start .pre .1, at-start .pre .2)
+    (at-start .pre .path, at-start .pre .other, at-start .pre .asked)
 
 returns-2 : tie.Need-returns-2
 returns-2 c =

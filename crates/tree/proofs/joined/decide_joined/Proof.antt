@@ -3,15 +3,17 @@ use mathlib.Core.Path.{_≡_, sym, _∙_}
 use mathlib.Core.Bool.{false}
 use Prim.Native.Nat.{ℕ, _%_, _<_}
 use lib.ListN.{getD}
-use Rattle.verdict.specs.Join.{coversBoth}
+use Rattle.limits.specs.Limits.{maxRules}
+use Rattle.verdict.specs.Pair.{coversBoth}
 use Rattle.place.specs.Place.{elemsIn, pathIn}
 use Rattle.tree.proofs.Walk.{below-less, at-below, past-start, past-next, found}
 use Rattle.tree.proofs.Deciding.{own-join}
 use Rattle.tree.proofs.joined.decide_joined.Statement.{statement}
 use Rattle.tree.proofs.joined.decide_joined.Tie as tie
 
+-- x is 0 or the weight of a rule, and no rule that is heavier covers the joined path
 abbrev Inv-loop : tie.InvT-loop
-Inv-loop i f weights paths next filters n first g p k r own x₀ x = (0 < x → (x % 256 < n) × (getD weights (x % 256) 0 ≡ x)) × ((j : ℕ) → j < n → x < getD weights j 0 → coversBoth (pathIn f (getD paths j 0)) (pathIn f (getD paths i 0)) (elemsIn k g p) ≡ false)
+Inv-loop i f weights paths next filters n first g p k r own x₀ x = (0 < x → (x % maxRules < n) × (getD weights (x % maxRules) 0 ≡ x)) × ((j : ℕ) → j < n → x < getD weights j 0 → coversBoth (pathIn f (getD paths j 0)) (pathIn f (getD paths i 0)) (elemsIn k g p) ≡ false)
 
 abbrev μ-loop : tie.MeasureT-loop
 μ-loop i f weights paths next filters n first g p k r own x₀ x = x
@@ -51,13 +53,20 @@ cast-a : tie.Need-cast-a Inv-loop μ-loop
 cast-a c =
     let at-shared-slice-known9 = c .shared-slice-known9 in
     let at-loop = c .before .before .loop in
-    omega (arith, at-shared-slice-known9 .given (at-loop .x % 256))
+    omega (arith, at-shared-slice-known9 .given (at-loop .x % maxRules))
 
 covers-joined-requires : tie.Need-covers-joined-requires Inv-loop μ-loop
 covers-joined-requires c κs =
     let at-loop = c .before .before .loop in
     let at-start = c .before .before .before .before .before .before .before .before .before .before .before in
-    let e = at-loop .inv .0 (omega arith) in let h = at-start .pre .2 .filtered in (at-start .pre .2 .laid _ (e .0), at-start .pre .2 .laid _ (at-start .pre .0), at-start .pre .7, omega arith, omega arith, (h .0, h .1 _ (e .0) (omega arith), h .1 _ (at-start .pre .0) (at-start .pre .1)))
+    let e = at-loop .inv .0 (omega arith) in let h = at-start .pre .2 .filtered in record {
+      path = at-start .pre .2 .laid _ (e .0);
+      other = at-start .pre .2 .laid _ (at-start .pre .0);
+      asked = at-start .pre .2 .asked;
+      filter = omega arith;
+      other-filter = omega arith;
+      filtered = (h .0, h .1 _ (e .0) (omega arith), h .1 _ (at-start .pre .0) (at-start .pre .1));
+    }
 
 returns : tie.Need-returns Inv-loop μ-loop
 returns c =
@@ -87,7 +96,12 @@ loop-again c =
     let at-covers-joined = c .before .before .covers-joined in
     let at-loop = c .before .before .before .before .before .loop in
     let at-start = c .before .before .before .before .before .before .before .before .before .before .before .before .before .before in
-    let e = at-loop .inv .0 (omega arith) in let b = at-start .pre .2 .nexts _ (e .0) (omega arith) in (at-below _ _ (at-start .pre .2 .packed) _ _ b, past-next _ _ (at-start .pre .2 .packed) (at-start .args .f .now) (at-start .args .paths .now) _ (at-start .args .i) (at-loop .x) _ (at-loop .inv .0) (omega arith) (at-loop .inv .1) (sym (at-covers-joined .ensures) ∙ at-if1 .left) b)
+    let e = at-loop .inv .0 (omega arith) in
+    let b = at-start .pre .2 .nexts _ (e .0) (omega arith) in
+    let packed = at-start .pre .2 .packed in (
+      at-below _ _ packed _ _ b,
+      past-next _ _ packed (at-start .args .f .now) (at-start .args .paths .now) _ (at-start .args .i) (at-loop .x) _ (at-loop .inv .0) (omega arith) (at-loop .inv .1) (sym (at-covers-joined .ensures) ∙ at-if1 .left) b,
+    )
 
 returns-2 : tie.Need-returns-2 Inv-loop μ-loop
 returns-2 c =

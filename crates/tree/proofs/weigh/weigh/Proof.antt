@@ -2,8 +2,11 @@ use borrow.Author.Needs.{needs}
 use native.Mathlib.Omega.{arith}
 use mathlib.Core.Path.{_≡_, refl, ap, _∙_}
 use mathlib.Core.Bool.{Bool}
+use mathlib.Core.List.{List}
 use Prim.Native.Nat.{ℕ, _+_, _*_, _-_, _≤_, _<_, zero-le}
 use lib.ListN.{length, getD, length-set}
+use Rattle.limits.specs.Limits.{maxRules}
+use Rattle.path.specs.Path.{Path}
 use Rattle.table.specs.Table.{Rule}
 use Rattle.place.specs.Place.{elemsIn}
 use Rattle.judge.specs.Rules.{pathAt, ruleIn, Marked}
@@ -14,14 +17,31 @@ use Rattle.tree.proofs.Weights.{pack}
 use Rattle.tree.proofs.weigh.weigh.Statement.{statement}
 use Rattle.tree.proofs.weigh.weigh.Tie as tie
 
+-- of the first i rules the weights and the positions of the paths are stored
+record Weighed-so-far (f starts on : List ℕ) (n : ℕ) (p : Path) (weights₀ paths₀ weights paths : List ℕ) (i : ℕ) : Type 0 where
+  inside : i ≤ n
+  long : length weights ≡ length weights₀
+  paths-long : length paths ≡ length paths₀
+  paths-are : Paths f starts paths i
+  packed : (j : ℕ) → j < i → Packed (getD weights j 0) j
+  weights-are : (app : Rule → Bool) → Marked app f starts on n → Weights (fitting app p) f starts weights i
+
 abbrev Inv-loop : tie.InvT-loop
-Inv-loop f starts on n g p k weights₀ paths₀ i₀ weights paths i = (i ≤ n) × (length weights ≡ length weights₀) × (length paths ≡ length paths₀) × Paths f starts paths i × ((j : ℕ) → j < i → Packed (getD weights j 0) j) × ((app : Rule → Bool) → Marked app f starts on n → Weights (fitting app (elemsIn k g p)) f starts weights i)
+Inv-loop f starts on n g p k weights₀ paths₀ i₀ weights paths i = Weighed-so-far f starts on n (elemsIn k g p) weights₀ paths₀ weights paths i
 
 abbrev μ-loop : tie.MeasureT-loop
 μ-loop f starts on n g p k weights₀ paths₀ i₀ weights paths i = n - i
 
 loop-holds : tie.Need-loop-holds Inv-loop μ-loop
-loop-holds c = (zero-le, refl, refl, (λ i z. absurd (omega arith)), (λ i z. absurd (omega arith)), λ app h i z. absurd (omega arith))
+loop-holds c =
+    record {
+      inside = zero-le;
+      long = refl;
+      paths-long = refl;
+      paths-are = λ i z. absurd (omega arith);
+      packed = λ i z. absurd (omega arith);
+      weights-are = λ app h i z. absurd (omega arith);
+    }
 
 mul-s : tie.Need-mul-s Inv-loop μ-loop
 mul-s c = omega arith
@@ -39,14 +59,14 @@ path-at-requires : tie.Need-path-at-requires Inv-loop μ-loop
 path-at-requires c κs =
     let at-loop-test = c .before .loop-test in
     let at-start = c .before .before .before .before .before .before .before .before .before in
-    at-start .pre .0 _ (at-loop-test .taken)
+    at-start .pre .0 .rules .laid _ (at-loop-test .taken)
 
 cast-paths : tie.Need-cast-paths Inv-loop μ-loop
 cast-paths c =
     let at-path-at = c .path-at in
     let at-loop-test = c .before .before .loop-test in
     let at-start = c .before .before .before .before .before .before .before .before .before .before in
-    let e = rule-room _ _ (at-start .pre .0 _ (at-loop-test .taken)) in rw (at-path-at .ensures) (omega arith)
+    let e = rule-room _ _ (at-start .pre .0 .rules .laid _ (at-loop-test .taken)) in rw (at-path-at .ensures) (omega arith)
 
 mul-paths : tie.Need-mul-paths Inv-loop μ-loop
 mul-paths c = omega arith
@@ -62,17 +82,17 @@ weight-at-requires c κs =
     let at-path-at = c .before .path-at in
     let at-loop-test = c .before .before .before .loop-test in
     let at-start = c .before .before .before .before .before .before .before .before .before .before .before in
-    (at-start .pre .0 _ (at-loop-test .taken), at-path-at .ensures, at-start .pre .5, at-start .pre .6)
+    (at-start .pre .0 .rules .laid _ (at-loop-test .taken), at-path-at .ensures, at-start .pre .0 .path, at-start .pre .0 .rules .short)
 
 mul-weights : tie.Need-mul-weights Inv-loop μ-loop
 mul-weights c =
     let at-weight-at = c .weight-at in
-    let e = at-weight-at .ensures .0 in omega arith
+    let e = at-weight-at .ensures .light in omega arith
 
 add-weights : tie.Need-add-weights Inv-loop μ-loop
 add-weights c =
     let at-weight-at = c .weight-at in
-    let e = at-weight-at .ensures .0 in omega arith
+    let e = at-weight-at .ensures .light in omega arith
 
 mul-weights-2 : tie.Need-mul-weights-2 Inv-loop μ-loop
 mul-weights-2 c = omega arith
@@ -93,7 +113,20 @@ loop-again c =
     let at-loop-test = c .before .before .before .before .loop-test in
     let at-loop = c .before .before .before .before .before .loop in
     let at-start = c .before .before .before .before .before .before .before .before .before .before .before .before in
-    (omega arith, length-set (at-loop .weights) (at-loop .i) _ ∙ at-loop .inv .1, length-set (at-loop .paths) (at-loop .i) _ ∙ at-loop .inv .2, stored (λ (j v : ℕ). v ≡ pathAt (at-start .args .f .now) (getD (at-start .args .starts .now) j 0)) (at-loop .paths) (at-loop .i) (at-path-at .result) (omega arith) (at-loop .inv .3) (at-path-at .ensures), stored (λ (j v : ℕ). Packed v j) (at-loop .weights) (at-loop .i) (at-weight-at .result * 256 + at-loop .i) (omega arith) (at-loop .inv .4) (pack _ _ (at-weight-at .ensures .0) (omega arith)), λ app h. stored (λ (j v : ℕ). v ≡ weight (fitting app (elemsIn (at-start .args .k) (at-start .args .g .now) (at-start .args .p))) (ruleIn (at-start .args .f .now) (getD (at-start .args .starts .now) j 0)) * 256 + j) (at-loop .weights) (at-loop .i) (at-weight-at .result * 256 + at-loop .i) (omega arith) (at-loop .inv .5 app h) (ap (λ (x : ℕ). x * 256 + at-loop .i) (at-weight-at .ensures .1 app (h _ (at-loop-test .taken)))))
+    let f = at-start .args .f .now in
+    let start : ℕ → ℕ = λ j. getD (at-start .args .starts .now) j 0 in
+    let p = elemsIn (at-start .args .k) (at-start .args .g .now) (at-start .args .p) in
+    let i = at-loop .i in
+    let x = at-weight-at .result * maxRules + i in
+    let inv = at-loop .inv in
+    record {
+      inside = omega arith;
+      long = length-set (at-loop .weights) i _ ∙ inv .long;
+      paths-long = length-set (at-loop .paths) i _ ∙ inv .paths-long;
+      paths-are = stored (λ (j v : ℕ). v ≡ pathAt f (start j)) (at-loop .paths) i (at-path-at .result) (omega arith) (inv .paths-are) (at-path-at .ensures);
+      packed = stored (λ (j v : ℕ). Packed v j) (at-loop .weights) i x (omega arith) (inv .packed) (pack _ _ (at-weight-at .ensures .light) (omega arith));
+      weights-are = λ app h. stored (λ (j v : ℕ). v ≡ weight (fitting app p) (ruleIn f (start j)) * maxRules + j) (at-loop .weights) i x (omega arith) (inv .weights-are app h) (ap (λ (y : ℕ). y * maxRules + i) (at-weight-at .ensures .weighs app (h _ (at-loop-test .taken))));
+    }
 
 same-length : tie.Need-same-length Inv-loop μ-loop
 same-length c = search needs
@@ -104,7 +137,16 @@ same-length-2 c = search needs
 returns : tie.Need-returns Inv-loop μ-loop
 returns c =
     let at-loop = c .before .loop in
-    (at-loop .inv .1, at-loop .inv .2, (λ i l. at-loop .inv .3 i (omega arith)), (λ i l. at-loop .inv .4 i (omega arith)), λ app h i l. at-loop .inv .5 app h i (omega arith))
+    let inv = at-loop .inv in
+    record {
+      weighed = record {
+        each-weight = omega arith;
+        each-path = omega arith;
+        paths-are = λ i l. inv .paths-are i (omega arith);
+        packed = λ i l. inv .packed i (omega arith);
+      };
+      weights-are = λ app h i l. inv .weights-are app h i (omega arith);
+    }
 
 pub weigh-spec : {M : Type 1} → statement M
 weigh-spec =

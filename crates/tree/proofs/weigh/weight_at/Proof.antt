@@ -10,7 +10,7 @@ use Rattle.tree.proofs.weigh.weight_at.Tie as tie
 returns : tie.Need-returns
 returns c =
     let at-if1 = c .if1 in
-    (zero-le, λ app h. weight-off app _ _ (sym h ∙ ne-eqb _ 1 (at-if1 .taken)))
+    record { light = zero-le; weighs = λ app h. weight-off app _ _ (sym h ∙ ne-eqb _ 1 (at-if1 .taken)) }
 
 shared-slice-read-n : tie.Need-shared-slice-read-n
 shared-slice-read-n c =
@@ -38,7 +38,10 @@ returns-2 c =
     let at-if2 = c .if2 in
     let at-agree-at = c .before .agree-at in
     let at-start = c .before .before .before .before .before .before in
-    (zero-le, λ app h. weight-apart app _ _ (agree-in _ _ _ _ _ (at-start .pre .1) (at-agree-at .ensures) ∙ not-true _ (at-if2 .taken)))
+    record {
+      light = zero-le;
+      weighs = λ app h. weight-apart app _ _ (agree-in _ _ _ _ _ (at-start .pre .1) (at-agree-at .ensures) ∙ not-true _ (at-if2 .taken));
+    }
 
 rank-at-requires : tie.Need-rank-at-requires
 rank-at-requires c κs =
@@ -60,7 +63,11 @@ returns-3 c =
     let at-shared-slice-known3 = c .before .before .before .shared-slice-known3 in
     let at-if1 = c .before .before .before .before .if1 in
     let at-start = c .before .before .before .before .before .before .before in
-    (rw (at-rank-at .ensures) (omega (arith, rank-small _ _ _ (at-start .pre .0) (at-start .pre .3) (at-start .pre .1) (omega (arith, at-shared-slice-known3 .given (at-start .args .a))))), λ app h. weight-fit app _ _ _ (sym h ∙ eq-eqb _ 1 (at-if1 .left)) (agree-in _ _ _ _ _ (at-start .pre .1) (at-agree-at .ensures) ∙ not-false _ (at-if2 .left)) (at-rank-at .ensures))
+    let agrees = agree-in _ _ _ _ _ (at-start .pre .1) (at-agree-at .ensures) ∙ not-false _ (at-if2 .left) in
+    record {
+      light = rw (at-rank-at .ensures) (omega (arith, rank-small _ _ _ (at-start .pre .0) (at-start .pre .3) (at-start .pre .1) (omega (arith, at-shared-slice-known3 .given (at-start .args .a)))));
+      weighs = λ app h. weight-fit app _ _ _ (sym h ∙ eq-eqb _ 1 (at-if1 .left)) agrees (at-rank-at .ensures);
+    }
 
 pub weight-at-spec : {M : Type 1} → statement M
 weight-at-spec =

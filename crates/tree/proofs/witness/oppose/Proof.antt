@@ -1,7 +1,7 @@
 use borrow.Author.Needs.{needs}
 use native.Mathlib.Omega.{arith}
 use mathlib.Core.Path.{sym, _∙_}
-use mathlib.Core.Bool.{xor}
+use mathlib.Core.Bool.{Bool, xor}
 use borrow.Author.Tests.{not-true, not-false}
 use Rattle.table.specs.Table.{Rule}
 use Rattle.verdict.specs.Order.{earlier}
@@ -25,7 +25,14 @@ returns : tie.Need-returns
 returns c =
     let at-if1 = c .if1 in
     let at-start = c .before .before .before .before .before .before .before .before .before in
-    let w = at-start .pre .2 .few in (at-start .pre .1, λ test h. step-off earlier (at-start .args .f .now) (at-start .args .b) _ _ test (λ (w : Rule). xor (permitsBoth test (rulesIn (at-start .args .f .now) (at-start .args .starts .now) (at-start .args .n) 0) (w .path) (elemsIn (at-start .args .k) (at-start .args .g .now) (at-start .args .p))) (at-start .args .v)) (unfit test _ _ _ (omega arith) (h _ (at-start .pre .0)) (at-if1 .taken)))
+    let w = at-start .pre .2 .kept .few in
+    let f = at-start .args .f .now in
+    let also : (Rule → Bool) → Rule → Bool = λ test r. xor (permitsBoth test (rulesIn f (at-start .args .starts .now) (at-start .args .n) 0) (r .path) (elemsIn (at-start .args .k) (at-start .args .g .now) (at-start .args .p))) (at-start .args .v) in
+    record {
+      sound = at-start .pre .1;
+      numbered = λ e. e;
+      best = λ test h. step-off earlier f (at-start .args .b) _ _ test (also test) (unfit test _ _ _ (omega arith) (h _ (at-start .pre .0)) (at-if1 .taken));
+    }
 
 mul-s : tie.Need-mul-s
 mul-s c = omega arith
@@ -42,30 +49,37 @@ cast-s c =
 wins-earlier-requires : tie.Need-wins-earlier-requires
 wins-earlier-requires c κs =
     let at-start = c .before .before .before .before .before .before .before .before .before .before in
-    (at-start .pre .4 _ (at-start .pre .0), at-start .pre .1)
+    (at-start .pre .2 .rules .laid _ (at-start .pre .0), at-start .pre .1)
 
 returns-2 : tie.Need-returns-2
 returns-2 c =
     let at-if2 = c .if2 in
     let at-wins-earlier = c .before .wins-earlier in
     let at-start = c .before .before .before .before .before .before .before .before .before .before .before .before in
-    (at-start .pre .1, λ test h. step-keep earlier (at-start .args .f .now) (at-start .args .b) _ _ test (λ (w : Rule). xor (permitsBoth test (rulesIn (at-start .args .f .now) (at-start .args .starts .now) (at-start .args .n) 0) (w .path) (elemsIn (at-start .args .k) (at-start .args .g .now) (at-start .args .p))) (at-start .args .v)) (sym (at-wins-earlier .ensures) ∙ not-true _ (at-if2 .taken)))
+    let f = at-start .args .f .now in
+    let also : (Rule → Bool) → Rule → Bool = λ test r. xor (permitsBoth test (rulesIn f (at-start .args .starts .now) (at-start .args .n) 0) (r .path) (elemsIn (at-start .args .k) (at-start .args .g .now) (at-start .args .p))) (at-start .args .v) in
+    record {
+      sound = at-start .pre .1;
+      numbered = λ e. e;
+      best = λ test h. step-keep earlier f (at-start .args .b) _ _ test (also test) (sym (at-wins-earlier .ensures) ∙ not-true _ (at-if2 .taken));
+    }
 
 decide-joined-requires : tie.Need-decide-joined-requires
 decide-joined-requires c κs =
     let at-start = c .before .before .before .before .before .before .before .before .before .before .before .before in
-    (at-start .pre .0, omega arith, at-start .pre .2, at-start .pre .7, at-start .pre .8, at-start .pre .9, at-start .pre .10, at-start .pre .11)
+    (at-start .pre .0, omega arith, at-start .pre .2 .kept)
 
 mul-t : tie.Need-mul-t
 mul-t c =
     let at-decide-joined = c .decide-joined in
     let at-start = c .before .before .before .before .before .before .before .before .before .before .before .before .before in
-    let e = at-decide-joined .ensures .inside in let w = at-start .pre .2 .few in omega arith
+    let e = at-decide-joined .ensures .inside in let w = at-start .pre .2 .kept .few in omega arith
 
 shared-slice-read-t : tie.Need-shared-slice-read-t
 shared-slice-read-t c =
     let at-decide-joined = c .before .decide-joined in
-    let e = at-decide-joined .ensures .inside in omega arith
+    let at-start = c .before .before .before .before .before .before .before .before .before .before .before .before .before .before in
+    let e = at-decide-joined .ensures .inside in let w = at-start .pre .2 .rules .each in omega arith
 
 cast-t : tie.Need-cast-t
 cast-t c =
@@ -77,7 +91,7 @@ shared-slice-read-unlike : tie.Need-shared-slice-read-unlike
 shared-slice-read-unlike c =
     let at-decide-joined = c .before .before .decide-joined in
     let at-start = c .before .before .before .before .before .before .before .before .before .before .before .before .before .before .before in
-    let e = rule-room _ _ (at-start .pre .4 _ (at-decide-joined .ensures .inside)) in omega arith
+    let e = rule-room _ _ (at-start .pre .2 .rules .laid _ (at-decide-joined .ensures .inside)) in omega arith
 
 unlike-requires : tie.Need-unlike-requires
 unlike-requires c κs = search needs
@@ -88,7 +102,16 @@ returns-3 c =
     let at-unlike = c .before .unlike in
     let at-decide-joined = c .before .before .before .before .decide-joined in
     let at-start = c .before .before .before .before .before .before .before .before .before .before .before .before .before .before .before .before .before in
-    let w = at-start .pre .2 .few in (at-start .pre .1, λ test h. step-miss earlier (at-start .args .f .now) (at-start .args .b) _ _ test (λ (w : Rule). xor (permitsBoth test (rulesIn (at-start .args .f .now) (at-start .args .starts .now) (at-start .args .n) 0) (w .path) (elemsIn (at-start .args .k) (at-start .args .g .now) (at-start .args .p))) (at-start .args .v)) (oppose-in (at-start .args .f .now) (at-start .args .starts .now) (at-start .args .weights .now) (at-start .args .paths .now) (at-start .args .n) (at-start .pre .2 .few) (at-start .pre .4) (at-start .pre .5) (at-start .pre .3) test h _ (at-start .args .i) (at-decide-joined .result) (at-start .pre .0) (at-decide-joined .ensures) _ _ _ (permit-in _ _) (at-unlike .ensures) ∙ not-true _ (at-if3 .taken)))
+    let w = at-start .pre .2 .kept .few in
+    let a = at-start .args in
+    let f = a .f .now in
+    let also : (Rule → Bool) → Rule → Bool = λ test r. xor (permitsBoth test (rulesIn f (at-start .args .starts .now) (at-start .args .n) 0) (r .path) (elemsIn (at-start .args .k) (at-start .args .g .now) (at-start .args .p))) (at-start .args .v) in
+    record {
+      sound = at-start .pre .1;
+      numbered = λ e. e;
+      best = λ test h. step-miss earlier f (at-start .args .b) _ _ test (also test)
+          (oppose-in f (a .starts .now) (a .weights .now) (a .paths .now) (a .n) w (at-start .pre .2 .rules) (at-start .pre .2 .paths-are) test h _ (a .i) _ (at-start .pre .0) (at-decide-joined .ensures) _ _ _ (permit-in _ _) (at-unlike .ensures) ∙ not-true _ (at-if3 .taken));
+    }
 
 returns-4 : tie.Need-returns-4
 returns-4 c =
@@ -99,7 +122,17 @@ returns-4 c =
     let at-wins-earlier = c .before .before .before .before .before .before .wins-earlier in
     let at-if1 = c .before .before .before .before .before .before .before .before .if1 in
     let at-start = c .before .before .before .before .before .before .before .before .before .before .before .before .before .before .before .before .before in
-    let w = at-start .pre .2 .few in ((λ z. at-start .pre .4 _ (at-start .pre .0)), λ test h. step-take earlier (at-start .args .f .now) (at-start .args .b) _ _ test (λ (w : Rule). xor (permitsBoth test (rulesIn (at-start .args .f .now) (at-start .args .starts .now) (at-start .args .n) 0) (w .path) (elemsIn (at-start .args .k) (at-start .args .g .now) (at-start .args .p))) (at-start .args .v)) 1 (λ z. absurd (omega arith)) (fit test _ _ _ (omega arith) (h _ (at-start .pre .0)) (omega (arith, at-if1 .left))) (oppose-in (at-start .args .f .now) (at-start .args .starts .now) (at-start .args .weights .now) (at-start .args .paths .now) (at-start .args .n) (at-start .pre .2 .few) (at-start .pre .4) (at-start .pre .5) (at-start .pre .3) test h _ (at-start .args .i) (at-decide-joined .result) (at-start .pre .0) (at-decide-joined .ensures) _ _ _ (permit-in _ _) (at-unlike .ensures) ∙ not-false _ (at-if3 .left)) (sym (at-wins-earlier .ensures) ∙ not-false _ (at-if2 .left)))
+    let w = at-start .pre .2 .kept .few in
+    let a = at-start .args in
+    let f = a .f .now in
+    let also : (Rule → Bool) → Rule → Bool = λ test r. xor (permitsBoth test (rulesIn f (at-start .args .starts .now) (at-start .args .n) 0) (r .path) (elemsIn (at-start .args .k) (at-start .args .g .now) (at-start .args .p))) (at-start .args .v) in
+    record {
+      sound = λ z. at-start .pre .2 .rules .laid _ (at-start .pre .0);
+      numbered = λ e z. at-start .pre .0;
+      best = λ test h. step-take earlier f (at-start .args .b) _ _ test (also test) 1 (λ z. absurd (omega arith)) (fit test _ _ _ (omega arith) (h _ (at-start .pre .0)) (omega (arith, at-if1 .left)))
+          (oppose-in f (a .starts .now) (a .weights .now) (a .paths .now) (a .n) w (at-start .pre .2 .rules) (at-start .pre .2 .paths-are) test h _ (a .i) _ (at-start .pre .0) (at-decide-joined .ensures) _ _ _ (permit-in _ _) (at-unlike .ensures) ∙ not-false _ (at-if3 .left))
+          (sym (at-wins-earlier .ensures) ∙ not-false _ (at-if2 .left));
+    }
 
 pub oppose-spec : {M : Type 1} → statement M
 oppose-spec =

@@ -23,7 +23,15 @@ fill-requires : tie.Need-fill-requires
 fill-requires c κs =
     let at-draw = c .before .draw in
     let at-start = c .before .before .before .before .before .before .before .before .before .before .before in
-    let e = at-start .pre .4 in (at-draw .ensures, paths-laid (at-start .args .f .now) (at-start .args .starts .now) (at-start .args .paths .now) (at-start .args .n) (at-start .pre .2) (at-start .pre .1), at-start .pre .6, at-start .pre .7, at-start .pre .9, omega arith)
+    let few = at-start .pre .2 in
+    record {
+      seed = at-draw .ensures;
+      laid = paths-laid (at-start .args .f .now) (at-start .args .starts .now) (at-start .args .paths .now) (at-start .args .n) (at-start .pre .0 .laid) (at-start .pre .1 .paths-are);
+      each-weight = at-start .pre .1 .each-weight;
+      each-path = at-start .pre .1 .each-path;
+      asked = at-start .pre .3;
+      each-filter = omega arith;
+    }
 
 slice-aggregate-search : tie.Need-slice-aggregate-search
 slice-aggregate-search c = search needs
@@ -38,7 +46,24 @@ search-requires c κs =
     let at-link = c .before .before .before .before .before .before .before .link in
     let at-below = c .before .before .before .before .before .before .before .before .before .below in
     let at-start = c .before .before .before .before .before .before .before .before .before .before .before .before .before .before .before in
-    let e = at-start .pre .4 in (record { few = at-start .pre .4; laid = paths-laid (at-start .args .f .now) (at-start .args .starts .now) (at-start .args .paths .now) (at-start .args .n) (at-start .pre .2) (at-start .pre .1); packed = at-start .pre .0; start = at-below .ensures; nexts = at-link .ensures .1; filtered = (at-draw .result, at-fill .ensures .1) }, at-start .pre .1, at-start .pre .2, at-start .pre .3, at-start .pre .5, at-start .pre .6, at-start .pre .7, omega arith, omega arith, at-start .pre .9)
+    let few = at-start .pre .2 in
+    record {
+      rules = at-start .pre .0;
+      paths-are = at-start .pre .1 .paths-are;
+      kept = record {
+        few = few;
+        asked = at-start .pre .3;
+        each-weight = at-start .pre .1 .each-weight;
+        each-path = at-start .pre .1 .each-path;
+        each-next = omega arith;
+        each-filter = omega arith;
+        laid = paths-laid (at-start .args .f .now) (at-start .args .starts .now) (at-start .args .paths .now) (at-start .args .n) (at-start .pre .0 .laid) (at-start .pre .1 .paths-are);
+        packed = at-start .pre .1 .packed;
+        start = at-below .ensures;
+        nexts = at-link .ensures .1;
+        filtered = (at-draw .result, at-fill .ensures .1);
+      };
+    }
 
 returns : tie.Need-returns
 returns c = search needs

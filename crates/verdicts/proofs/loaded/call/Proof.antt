@@ -4,6 +4,7 @@ use mathlib.Core.Path.{sym, ap, _∙_}
 use Prim.Native.Nat.{ℕ}
 use lib.ListN.{length-replicate}
 use lib.Seq.{length-take-le}
+use Rattle.limits.specs.Limits.{maxPathBytes}
 use Rattle.path.specs.Path.{Path}
 use Rattle.path.specs.Faults.{keyTwice}
 use Rattle.verdict.specs.Verdict.{decider, tree}
@@ -25,7 +26,7 @@ returns c =
     let at-refused = c .refused in
     let at-if1 = c .before .if1 in
     let at-number = c .before .before .number in
-    λ t ready groups. at-refused .ensures ∙ either-early _ _ _ _ _ (at-number .ensures) _ _ _ (at-if1 .taken)
+    λ t holding groups. at-refused .ensures ∙ either-early _ _ _ _ _ (at-number .ensures) _ _ _ (at-if1 .taken)
 
 slice-aggregate-read-text : tie.Need-slice-aggregate-read-text
 slice-aggregate-read-text c = search needs
@@ -50,28 +51,29 @@ returns-2 c =
     let at-if1 = c .before .before .before .before .before .before .if1 in
     let at-number = c .before .before .before .before .before .before .before .number in
     let at-start = c .before .before .before .before .before .before .before .before .before .before .before .before .before .before in
-    λ t ready groups. at-refused2 .ensures ∙ either-unread _ _ _ _ _ (at-number .ensures) _ _ _ (at-if1 .left) (was-unread (at-start .args .text .now) _ (at-read-text .last .1 .0) (omega (arith, length-replicate {A = ℕ} 9377 0)) _ (at-read-text .ensures .0) _ (at-enum-told .given .1))
+    λ t holding groups. at-refused2 .ensures ∙ either-unread _ _ _ _ _ (at-number .ensures) _ _ _ (at-if1 .left) (was-unread (at-start .args .text .now) _ (at-read-text .last .1 .0) (omega (arith, length-replicate {A = ℕ} maxPathBytes 0)) _ (at-read-text .ensures .0) _ (at-enum-told .given .1))
 
 array-share-prefix-bytes : tie.Need-array-share-prefix-bytes
 array-share-prefix-bytes c =
     let at-filled = c .before .filled in
     let at-read-text = c .before .before .before .before .read-text in
     let at-start = c .before .before .before .before .before .before .before .before .before .before .before .before .before .before in
-    was-read (at-start .args .text .now) _ (at-read-text .last .1 .0) (omega (arith, length-replicate {A = ℕ} 9377 0)) _ (at-read-text .ensures .0) (at-read-text .ensures .1) _ (at-filled .given .1) .fits
+    was-read (at-start .args .text .now) _ (at-read-text .last .1 .0) (omega (arith, length-replicate {A = ℕ} maxPathBytes 0)) _ (at-read-text .ensures .0) (at-read-text .ensures .1) _ (at-filled .given .1) .fits
 
 slice-aggregate-g : tie.Need-slice-aggregate-g
 slice-aggregate-g c =
     let at-filled = c .before .before .filled in
     let at-read-text = c .before .before .before .before .before .read-text in
     let at-start = c .before .before .before .before .before .before .before .before .before .before .before .before .before .before .before in
-    sym (length-take-le _ _ (was-read (at-start .args .text .now) _ (at-read-text .last .1 .0) (omega (arith, length-replicate {A = ℕ} 9377 0)) _ (at-read-text .ensures .0) (at-read-text .ensures .1) _ (at-filled .given .1) .fits))
+    sym (length-take-le _ _ (was-read (at-start .args .text .now) _ (at-read-text .last .1 .0) (omega (arith, length-replicate {A = ℕ} maxPathBytes 0)) _ (at-read-text .ensures .0) (at-read-text .ensures .1) _ (at-filled .given .1) .fits))
 
 tree-answer-requires : tie.Need-tree-answer-requires
 tree-answer-requires c κs =
     let at-filled = c .before .before .before .filled in
     let at-read-text = c .before .before .before .before .before .before .read-text in
     let at-start = c .before .before .before .before .before .before .before .before .before .before .before .before .before .before .before .before in
-    let r = was-read (at-start .args .text .now) _ (at-read-text .last .1 .0) (omega (arith, length-replicate {A = ℕ} 9377 0)) _ (at-read-text .ensures .0) (at-read-text .ensures .1) _ (at-filled .given .1) in let b = path-bytes _ (r .path) (r .bytes) in (at-start .pre .0, (at-start .pre .1 .0, at-start .pre .1 .1, b .0, ap keyTwice (b .1) ∙ r .once))
+    let r = was-read (at-start .args .text .now) _ (at-read-text .last .1 .0) (omega (arith, length-replicate {A = ℕ} maxPathBytes 0)) _ (at-read-text .ensures .0) (at-read-text .ensures .1) _ (at-filled .given .1) in
+    (at-start .pre, path-bytes _ (r .path) (r .bytes) .0)
 
 returns-3 : tie.Need-returns-3
 unfolding request
@@ -83,14 +85,20 @@ returns-3 c =
     let at-if1 = c .before .before .before .before .before .before .before .before .before .if1 in
     let at-number = c .before .before .before .before .before .before .before .before .before .before .number in
     let at-start = c .before .before .before .before .before .before .before .before .before .before .before .before .before .before .before .before .before in
-    λ t ready groups. let r = was-read (at-start .args .text .now) _ (at-read-text .last .1 .0) (omega (arith, length-replicate {A = ℕ} 9377 0)) _ (at-read-text .ensures .0) (at-read-text .ensures .1) _ (at-filled .given .1) in ap verdicts.Tree (at-tree-answer .ensures t ready groups ∙ ap (λ (p : Path). spread (tree t (asked (at-start .args .user .now) (at-start .args .mode) (at-start .args .origin .now) p))) (path-bytes _ (r .path) (r .bytes) .1 ∙ sym (spelled-is (at-start .args .text .now) (r .path) (r .reads))) ∙ tree-judged _ _ _ _ _ (at-number .ensures) _ (at-if1 .left) _ (r .reads)) ∙ tree-one _ _ _ (at-if2 .taken)
+    let a = at-start .args in
+    let r = was-read (at-start .args .text .now) _ (at-read-text .last .1 .0) (omega (arith, length-replicate {A = ℕ} maxPathBytes 0)) _ (at-read-text .ensures .0) (at-read-text .ensures .1) _ (at-filled .given .1) in
+    let b = path-bytes _ (r .path) (r .bytes) in
+    λ t holding groups. ap verdicts.Tree (at-tree-answer .ensures t holding groups (ap keyTwice (b .1) ∙ r .once)
+    ∙ ap (λ (p : Path). spread (tree t (asked (a .user .now) (a .mode) (a .origin .now) p))) (b .1 ∙ sym (spelled-is (a .text .now) (r .path) (r .reads)))
+    ∙ tree-judged _ _ _ _ _ (at-number .ensures) _ (at-if1 .left) _ (r .reads)) ∙ tree-one _ _ _ (at-if2 .taken)
 
 path-answer-requires : tie.Need-path-answer-requires
 path-answer-requires c κs =
     let at-filled = c .before .before .before .filled in
     let at-read-text = c .before .before .before .before .before .before .read-text in
     let at-start = c .before .before .before .before .before .before .before .before .before .before .before .before .before .before .before .before in
-    let r = was-read (at-start .args .text .now) _ (at-read-text .last .1 .0) (omega (arith, length-replicate {A = ℕ} 9377 0)) _ (at-read-text .ensures .0) (at-read-text .ensures .1) _ (at-filled .given .1) in let b = path-bytes _ (r .path) (r .bytes) in (at-start .pre .0, (at-start .pre .1 .0, at-start .pre .1 .1, b .0))
+    let r = was-read (at-start .args .text .now) _ (at-read-text .last .1 .0) (omega (arith, length-replicate {A = ℕ} maxPathBytes 0)) _ (at-read-text .ensures .0) (at-read-text .ensures .1) _ (at-filled .given .1) in
+    (at-start .pre, path-bytes _ (r .path) (r .bytes) .0)
 
 returns-4 : tie.Need-returns-4
 unfolding request
@@ -102,7 +110,12 @@ returns-4 c =
     let at-if1 = c .before .before .before .before .before .before .before .before .before .if1 in
     let at-number = c .before .before .before .before .before .before .before .before .before .before .number in
     let at-start = c .before .before .before .before .before .before .before .before .before .before .before .before .before .before .before .before .before in
-    λ t ready groups. let r = was-read (at-start .args .text .now) _ (at-read-text .last .1 .0) (omega (arith, length-replicate {A = ℕ} 9377 0)) _ (at-read-text .ensures .0) (at-read-text .ensures .1) _ (at-filled .given .1) in ap verdicts.Path (at-path-answer .ensures t ready groups ∙ ap (λ (p : Path). decidedBy (decider t (asked (at-start .args .user .now) (at-start .args .mode) (at-start .args .origin .now) p))) (path-bytes _ (r .path) (r .bytes) .1 ∙ sym (spelled-is (at-start .args .text .now) (r .path) (r .reads))) ∙ path-judged _ _ _ _ _ (at-number .ensures) _ (at-if1 .left) _ (r .reads)) ∙ path-one _ _ _ (at-if2 .left)
+    let a = at-start .args in
+    let r = was-read (at-start .args .text .now) _ (at-read-text .last .1 .0) (omega (arith, length-replicate {A = ℕ} maxPathBytes 0)) _ (at-read-text .ensures .0) (at-read-text .ensures .1) _ (at-filled .given .1) in
+    let b = path-bytes _ (r .path) (r .bytes) in
+    λ t holding groups. ap verdicts.Path (at-path-answer .ensures t holding groups
+    ∙ ap (λ (p : Path). decidedBy (decider t (asked (a .user .now) (a .mode) (a .origin .now) p))) (b .1 ∙ sym (spelled-is (a .text .now) (r .path) (r .reads)))
+    ∙ path-judged _ _ _ _ _ (at-number .ensures) _ (at-if1 .left) _ (r .reads)) ∙ path-one _ _ _ (at-if2 .left)
 
 pub call-spec : {M : Type 1} → statement M
 call-spec =

@@ -1,6 +1,6 @@
 use Rattle.text.specs.Test.{if_then_else_}
-use Rattle.verdict.proofs.unless_so.Statement.{statement}
-use Rattle.verdict.proofs.unless_so.Tie as tie
+use Rattle.verdict.proofs.one_unless.Statement.{statement}
+use Rattle.verdict.proofs.one_unless.Tie as tie
 
 returns : tie.Need-returns
 unfolding if_then_else_
@@ -14,5 +14,5 @@ returns-2 c =
     let at-if1 = c .if1 in
     rw (at-if1 .left)
 
-pub unless-so-spec : {M : Type 1} → statement M
-unless-so-spec = tie.close (tie.spec returns returns-2)
+pub one-unless-spec : {M : Type 1} → statement M
+one-unless-spec = tie.close (tie.spec returns returns-2)
