@@ -12,7 +12,8 @@ use Rattle.text.specs.String.{Str}
 use Rattle.text.specs.Frame.{part}
 use Rattle.text.specs.Fill.{put}
 use Rattle.text.proofs.Filling.{put-length}
-use Rattle.line.specs.Lines.{lines, frame, digits, firstLine}
+use Rattle.line.specs.Lines.{lines, frame}
+use Rattle.line.specs.Decoding.{digits, firstLine}
 use Rattle.line.specs.declared.Line as lined
 use Rattle.line.specs.declared.Line.the-variants as hexed
 use Rattle.line.proofs.FirstLine.{Read, line-read, line-unhex}
