@@ -187,7 +187,7 @@ line-longer l f r e i j k =
 
 -- by how much the readable lines that can still follow are longer
 unfoldable spare : Earlier → ℕ
-spare b = (if eqb (b .kind) 0 then 12 else 0) + 4 * (64 - length (b .groups)) + 6 * (512 - length (b .members)) + 29 * (256 - length (b .ids))
+spare b = (if eqb (b .kind) 0 then 12 else 0) + 4 * (64 - length (b .groups)) + 6 * (512 - length (b .members)) + 29 * (256 - length (b .rules))
 
 spends : (b : Earlier) (e : Entry) → refusal b (reads e) ≡ 255 → slack e + spare (with b e) ≤ spare b
 unfolding slack spare with pastLimit kindOf outOfOrder if_then_else_ _or_
@@ -205,8 +205,8 @@ spends b (member m) h =
 spends b (rule r) h =
     let c = refusal-clear b (rule r) h in
     let o = or-false-r (unsized (r .subject) or unsizedShort (r .id)) _ (or-false-l _ (overLimit (r .path)) (c .1)) in
-    let l : length (b .ids) < 256 = leb-false 256 _ (or-false-r (ltb 32 (length (r .origin))) _ o) in
-    omega (arith, length-append (b .ids) (r .id ∷ []))
+    let l : length (b .rules) < 256 = leb-false 256 _ (or-false-r (ltb 32 (length (r .origin))) _ o) in
+    omega (arith, length-append (b .rules) (r ∷ []))
 
 after-with : (b : Earlier) (l f : Str) (e : Entry) → frame l ≡ some f → entryOf f ≡ some e → after b (lineOf l) ≡ with b e
 unfolding after lineOf decoded framed
