@@ -1,7 +1,7 @@
 -- A text is accepted exactly where each of its lines reads, and gets no number after the lines before it.
 use mathlib.Core.Path.{_≡_, refl, ap}
 use mathlib.Core.Bool.{Bool, true, false}
-use mathlib.Core.List.{List, [], _∷_, List·Memᴰ·head, List·Memᴰ·tail, List·Memᴰ·not-nil}
+use mathlib.Core.List.{List, [], _∷_, filterMap, List·Memᴰ·head, List·Memᴰ·tail, List·Memᴰ·not-nil}
 use Prim.Native.Nat.{ℕ, _+_}
 use native.Mathlib.Omega.{arith}
 use borrow.Author.Tests.{eqb-true}
@@ -12,7 +12,7 @@ use Rattle.text.specs.Refusal.{clear}
 use Rattle.text.proofs.Tests.{clash, by, and-l, and-r, both, on-cons}
 use Rattle.table.specs.Frame.{Entry}
 use Rattle.table.specs.Refusal.{Line, notHex, unreadable, reads, lineOf, Earlier, refusal, after, with}
-use Rattle.table.specs.Text.{judge, unless, collect, entries}
+use Rattle.table.specs.Text.{judge, unless, entries}
 use Rattle.table.specs.declared.Checked.the-variants.{Accepted}
 use Rattle.table.proofs.Entries.{entries-cons}
 
@@ -51,8 +51,8 @@ Readable ls = (l : Str) → l ∈ ls → readable (lineOf l) ≡ true
 
 clear-readable : (b : Earlier) (l : Line) → eqb (refusal b l) clear ≡ true → readable l ≡ true
 unfolding refusal readable
-clear-readable b notHex e = let z : _≡_ {A = ℕ} 2 255 = eqb-true _ _ e in absurd (omega arith)
-clear-readable b unreadable e = let z : _≡_ {A = ℕ} 3 255 = eqb-true _ _ e in absurd (omega arith)
+clear-readable b notHex e = let z : _≡_ {A = ℕ} 2 clear = eqb-true _ _ e in absurd (omega arith)
+clear-readable b unreadable e = let z : _≡_ {A = ℕ} 3 clear = eqb-true _ _ e in absurd (omega arith)
 clear-readable b (reads x) e = refl
 
 pub clean-readable : (b : Earlier) (ls : List Str) → clean b ls ≡ true → Readable ls
@@ -71,7 +71,7 @@ pub clean-entries : (b : Earlier) (ls : List Str) → Readable ls → clean b ls
 clean-entries b [] h = none-left
   where
     none-left : clean b [] ≡ cleanEntries b (entries [])
-    none-left = unfold clean cleanEntries entries collect in refl
+    none-left = unfold clean cleanEntries entries filterMap in refl
 clean-entries b (l ∷ ls) h = go (clean-entries (after b (lineOf l)) ls (λ x m. h x (List·Memᴰ·tail m))) (entry-of (lineOf l) (h l (List·Memᴰ·head refl)))
   where
     go : clean (after b (lineOf l)) ls ≡ cleanEntries (after b (lineOf l)) (entries ls) → (e : Entry) × (lineOf l ≡ reads e) → clean b (l ∷ ls) ≡ cleanEntries b (entries (l ∷ ls))

@@ -1,8 +1,8 @@
 -- Frames get no number exactly where tests hold that do not look at their order within a kind, and their kinds are in order.
 use mathlib.Core.Path.{_≡_, refl, sym, subst}
 use mathlib.Core.Bool.{Bool, true, false, not}
-use mathlib.Core.List.{List, [], _∷_, _++_, map, append-assoc, append-nil, List·Memᴰ·head, List·Memᴰ·tail, List·Memᴰ·not-nil}
-use mathlib.Core.Option.{Option}
+use mathlib.Core.List.{List, [], _∷_, _++_, filterMap, append-assoc, append-nil, List·Memᴰ·head, List·Memᴰ·tail, List·Memᴰ·not-nil}
+use mathlib.Core.Option.{Option, Option·elim}
 use Prim.Native.Nat.{ℕ, _+_, _≤_, _<_}
 use native.Mathlib.Omega.{arith}
 use borrow.Author.Tests.{eqb-true, leb-false, lt-leb, lt-ltb, not-true, not-false, ne-eqb}
@@ -12,11 +12,13 @@ use Rattle.text.specs.Test.{_and_, _or_, if_then_else_, _∈_, any, twice}
 use Rattle.text.specs.String.{Str, same}
 use Rattle.text.specs.Refusal.{_when_else_, clear}
 use Rattle.text.proofs.Tests.{clash, by, and-l, and-r, both, or-l, or-r, or-false-l, or-false-r, neither, on-cons, none-any, same→≡, ≡→same}
+use Rattle.limits.specs.Limits.{maxGroups, maxMembers, maxRules, maxShortString}
 use Rattle.path.specs.Faults.{unsized, overLimit, keyTwice}
 use Rattle.table.specs.Table.{Member, Rule}
 use Rattle.table.specs.Frame.{Entry, version, group, member, rule}
-use Rattle.table.specs.Refusal.{reads, Earlier, kindOf, outOfOrder, unsizedShort, pastLimit, strays, misplaces, sameMember, repeats, listed, unlisted, refusal, with}
-use Rattle.table.specs.Text.{maybe, collect, asGroup, asMember, asRule}
+use Rattle.table.specs.Refusal.{reads, Earlier, kindOf, outOfOrder, unsizedShort, pastLimit, strays, misplaces, sameMember, sameId, repeats, listed, unlisted, refusal, with}
+use Rattle.table.specs.Text.{asGroup, asMember, asRule}
+use Rattle.verdict.proofs.Choose.{same-id-turned}
 use Rattle.verdict.proofs.Twice.{first-alone, rest-alone, twice-append}
 use Rattle.acceptance.proofs.Clean.{cleanEntries}
 
@@ -33,8 +35,8 @@ pub record Clear (a b c d e f : Bool) : Type 0 where
 chain : Bool → Bool → Bool → Bool → Bool → Bool → ℕ
 chain a b c d e f = 4 when a else 5 when b else 6 when c else 7 when d else 8 when e else 9 when f else clear
 
-never : {X : Type 0} (n : ℕ) → n < 255 → eqb n 255 ≡ true → X
-never n h e = let z : n ≡ 255 = eqb-true _ _ e in absurd (omega arith)
+never : {X : Type 0} (n : ℕ) → n < clear → eqb n clear ≡ true → X
+never n h e = let z : n ≡ clear = eqb-true _ _ e in absurd (omega arith)
 
 chain-clear : (a b c d e f : Bool) → eqb (chain a b c d e f) clear ≡ true → Clear a b c d e f
 unfolding chain if_then_else_
@@ -67,7 +69,7 @@ unfoldable pub ownLimit : Entry → Bool
 ownLimit (version v t) = unsizedShort v
 ownLimit (group n) = unsized n
 ownLimit (member m) = unsized (m .group) or unsized (m .user)
-ownLimit (rule r) = ((unsized (r .subject) or unsizedShort (r .id)) or ltb 32 (length (r .origin))) or overLimit (r .path)
+ownLimit (rule r) = ((unsized (r .subject) or unsizedShort (r .id)) or ltb maxShortString (length (r .origin))) or overLimit (r .path)
 
 unfoldable pub ownTwice : Entry → Bool
 ownTwice (version v t) = false
@@ -87,68 +89,62 @@ unfoldable pub ordered : ℕ → List Entry → Bool
 ordered last [] = true
 ordered last (e ∷ es) = not (outOfOrder last (kindOf e)) and ordered (kindOf e) es
 
--- ---- all the groups, members and ids, with those before
+-- ---- all the groups, members and rules, with those before
 
 abbrev pub groupsIn : List Entry → List Str
-groupsIn es = collect asGroup es
+groupsIn es = filterMap asGroup es
 
 abbrev pub membersIn : List Entry → List Member
-membersIn es = collect asMember es
+membersIn es = filterMap asMember es
 
 abbrev pub rulesIn : List Entry → List Rule
-rulesIn es = collect asRule es
-
-abbrev pub ident : Rule → Str
-ident r = r .id
-
-abbrev pub idsIn : List Entry → List Str
-idsIn es = map ident (rulesIn es)
+rulesIn es = filterMap asRule es
 
 module _ (b : Earlier) (e : Entry) (es : List Entry) where
   groups-turn : with b e .groups ++ groupsIn es ≡ b .groups ++ groupsIn (e ∷ es)
   groups-turn = go e
     where
       go : (x : Entry) → with b x .groups ++ groupsIn es ≡ b .groups ++ groupsIn (x ∷ es)
-      go (version v t) = unfold with collect maybe asGroup in refl
-      go (group n) = unfold with collect maybe asGroup in append-assoc (b .groups) (n ∷ []) (groupsIn es)
-      go (member m) = unfold with collect maybe asGroup in refl
-      go (rule r) = unfold with collect maybe asGroup in refl
+      go (version v t) = unfold with filterMap Option·elim asGroup in refl
+      go (group n) = unfold with filterMap Option·elim asGroup in append-assoc (b .groups) (n ∷ []) (groupsIn es)
+      go (member m) = unfold with filterMap Option·elim asGroup in refl
+      go (rule r) = unfold with filterMap Option·elim asGroup in refl
 
   members-turn : with b e .members ++ membersIn es ≡ b .members ++ membersIn (e ∷ es)
   members-turn = go e
     where
       go : (x : Entry) → with b x .members ++ membersIn es ≡ b .members ++ membersIn (x ∷ es)
-      go (version v t) = unfold with collect maybe asMember in refl
-      go (group n) = unfold with collect maybe asMember in refl
-      go (member m) = unfold with collect maybe asMember in append-assoc (b .members) (m ∷ []) (membersIn es)
-      go (rule r) = unfold with collect maybe asMember in refl
+      go (version v t) = unfold with filterMap Option·elim asMember in refl
+      go (group n) = unfold with filterMap Option·elim asMember in refl
+      go (member m) = unfold with filterMap Option·elim asMember in append-assoc (b .members) (m ∷ []) (membersIn es)
+      go (rule r) = unfold with filterMap Option·elim asMember in refl
 
-  ids-turn : with b e .ids ++ idsIn es ≡ b .ids ++ idsIn (e ∷ es)
-  ids-turn = go e
+  rules-turn : with b e .rules ++ rulesIn es ≡ b .rules ++ rulesIn (e ∷ es)
+  rules-turn = go e
     where
-      go : (x : Entry) → with b x .ids ++ idsIn es ≡ b .ids ++ idsIn (x ∷ es)
-      go (version v t) = unfold with collect maybe asRule in refl
-      go (group n) = unfold with collect maybe asRule in refl
-      go (member m) = unfold with collect maybe asRule in refl
-      go (rule r) = unfold with collect maybe asRule in append-assoc (b .ids) (r .id ∷ []) (idsIn es)
+      go : (x : Entry) → with b x .rules ++ rulesIn es ≡ b .rules ++ rulesIn (x ∷ es)
+      go (version v t) = unfold with filterMap Option·elim asRule in refl
+      go (group n) = unfold with filterMap Option·elim asRule in refl
+      go (member m) = unfold with filterMap Option·elim asRule in refl
+      go (rule r) = unfold with filterMap Option·elim asRule in append-assoc (b .rules) (r ∷ []) (rulesIn es)
 
 -- ---- what is asked of all of them, whatever their order
 
 unfoldable pub astray : List Str → Rule → Bool
 astray groups r = r .byGroup and not (listed groups (r .subject))
 
-pub record Whole (groups : List Str) (members : List Member) (ids : List Str) : Type 0 where
-  pub few-groups : length groups ≤ 64
-  pub few-members : length members ≤ 512
-  pub few-rules : length ids ≤ 256
+pub record Whole (groups : List Str) (members : List Member) (rules : List Rule) : Type 0 where
+  pub few-groups : length groups ≤ maxGroups
+  pub few-members : length members ≤ maxMembers
+  pub few-rules : length rules ≤ maxRules
   pub new-groups : twice same groups ≡ false
   pub new-members : twice sameMember members ≡ false
-  pub new-ids : twice same ids ≡ false
+  pub new-ids : twice sameId rules ≡ false
 
 pub record Fine (b : Earlier) (es : List Entry) : Type 0 where
   pub kinds : ordered (b .kind) es ≡ true
   pub own : (e : Entry) → e ∈ es → Own e
-  pub whole : Whole (b .groups ++ groupsIn es) (b .members ++ membersIn es) (b .ids ++ idsIn es)
+  pub whole : Whole (b .groups ++ groupsIn es) (b .members ++ membersIn es) (b .rules ++ rulesIn es)
   pub members-listed : (m : Member) → m ∈ membersIn es → listed (b .groups ++ groupsIn es) (m .group) ≡ true
   pub rules-listed : (r : Rule) → r ∈ rulesIn es → astray (b .groups ++ groupsIn es) r ≡ false
 
@@ -229,23 +225,23 @@ own-of b e h = record { limit = size e (h .five); bytes = h .six; wildcards = h 
     again (rule r) k = unfold repeats ownTwice in or-false-r _ _ k
 
 abbrev Before : Earlier → Type 0
-Before b = Whole (b .groups) (b .members) (b .ids)
+Before b = Whole (b .groups) (b .members) (b .rules)
 
 one-longer : {A : Type 0} (xs : List A) (y : A) (n : ℕ) → length xs < n → length (xs ++ (y ∷ [])) ≤ n
 one-longer xs y n h = omega (arith, length-append xs (y ∷ []))
 
 module _ (b : Earlier) where
-  group-room : (n : Str) → pastLimit b (group n) ≡ false → length (b .groups) < 64
+  group-room : (n : Str) → pastLimit b (group n) ≡ false → length (b .groups) < maxGroups
   unfolding pastLimit
   group-room n h = leb-false _ _ (or-false-r (unsized n) _ h)
 
-  member-room : (m : Member) → pastLimit b (member m) ≡ false → length (b .members) < 512
+  member-room : (m : Member) → pastLimit b (member m) ≡ false → length (b .members) < maxMembers
   unfolding pastLimit
   member-room m h = leb-false _ _ (or-false-r (unsized (m .group) or unsized (m .user)) _ h)
 
-  rule-room : (r : Rule) → pastLimit b (rule r) ≡ false → length (b .ids) < 256
+  rule-room : (r : Rule) → pastLimit b (rule r) ≡ false → length (b .rules) < maxRules
   unfolding pastLimit
-  rule-room r h = leb-false _ _ (or-false-r (ltb 32 (length (r .origin))) _ (or-false-r (unsized (r .subject) or unsizedShort (r .id)) _ (or-false-l _ (overLimit (r .path)) h)))
+  rule-room r h = leb-false _ _ (or-false-r (ltb maxShortString (length (r .origin))) _ (or-false-r (unsized (r .subject) or unsizedShort (r .id)) _ (or-false-l _ (overLimit (r .path)) h)))
 
   group-new : (n : Str) → repeats b (group n) ≡ false → any (same n) (b .groups) ≡ false
   unfolding repeats
@@ -255,15 +251,15 @@ module _ (b : Earlier) where
   unfolding repeats
   member-new m h = h
 
-  rule-new : (r : Rule) → repeats b (rule r) ≡ false → any (same (r .id)) (b .ids) ≡ false
+  rule-new : (r : Rule) → repeats b (rule r) ≡ false → any (sameId r) (b .rules) ≡ false
   unfolding repeats
-  rule-new r h = or-false-l (any (same (r .id)) (b .ids)) _ h
+  rule-new r h = or-false-l (any (sameId r) (b .rules)) _ h
 
 grow : (b : Earlier) (e : Entry) → Before b → ClearOf b e → Before (with b e)
 unfolding with
 grow b (version v t) w h = w
 grow b (group n) w h = record {
-  few-groups = one-longer (b .groups) n 64 (group-room b n (h .five));
+  few-groups = one-longer (b .groups) n maxGroups (group-room b n (h .five));
   few-members = w .few-members;
   few-rules = w .few-rules;
   new-groups = snoc-new same same-turned (b .groups) n (w .new-groups) (group-new b n (h .eight));
@@ -272,7 +268,7 @@ grow b (group n) w h = record {
 }
 grow b (member m) w h = record {
   few-groups = w .few-groups;
-  few-members = one-longer (b .members) m 512 (member-room b m (h .five));
+  few-members = one-longer (b .members) m maxMembers (member-room b m (h .five));
   few-rules = w .few-rules;
   new-groups = w .new-groups;
   new-members = snoc-new sameMember member-turned (b .members) m (w .new-members) (member-new b m (h .eight));
@@ -281,10 +277,10 @@ grow b (member m) w h = record {
 grow b (rule r) w h = record {
   few-groups = w .few-groups;
   few-members = w .few-members;
-  few-rules = one-longer (b .ids) (r .id) 256 (rule-room b r (h .five));
+  few-rules = one-longer (b .rules) r maxRules (rule-room b r (h .five));
   new-groups = w .new-groups;
   new-members = w .new-members;
-  new-ids = snoc-new same same-turned (b .ids) (r .id) (w .new-ids) (rule-new b r (h .eight));
+  new-ids = snoc-new sameId same-id-turned (b .rules) r (w .new-ids) (rule-new b r (h .eight));
 }
 
 with-kind : (b : Earlier) (e : Entry) → with b e .kind ≡ kindOf e
@@ -297,17 +293,17 @@ with-kind b (rule r) = refl
 -- what holds of the members after e, and of e's own where it is one
 members-more : (P : Member → Type 0) (e : Entry) (es : List Entry) → ((m : Member) → e ≡ member m → P m) → ((m : Member) → m ∈ membersIn es → P m)
     → (m : Member) → m ∈ membersIn (e ∷ es) → P m
-members-more P (version v t) es h k = unfold collect maybe asMember in k
-members-more P (group n) es h k = unfold collect maybe asMember in k
-members-more P (member m) es h k = unfold collect maybe asMember in on-cons P (h m refl) k
-members-more P (rule r) es h k = unfold collect maybe asMember in k
+members-more P (version v t) es h k = unfold filterMap Option·elim asMember in k
+members-more P (group n) es h k = unfold filterMap Option·elim asMember in k
+members-more P (member m) es h k = unfold filterMap Option·elim asMember in on-cons P (h m refl) k
+members-more P (rule r) es h k = unfold filterMap Option·elim asMember in k
 
 rules-more : (P : Rule → Type 0) (e : Entry) (es : List Entry) → ((r : Rule) → e ≡ rule r → P r) → ((r : Rule) → r ∈ rulesIn es → P r)
     → (r : Rule) → r ∈ rulesIn (e ∷ es) → P r
-rules-more P (version v t) es h k = unfold collect maybe asRule in k
-rules-more P (group n) es h k = unfold collect maybe asRule in k
-rules-more P (member m) es h k = unfold collect maybe asRule in k
-rules-more P (rule r) es h k = unfold collect maybe asRule in on-cons P (h r refl) k
+rules-more P (version v t) es h k = unfold filterMap Option·elim asRule in k
+rules-more P (group n) es h k = unfold filterMap Option·elim asRule in k
+rules-more P (member m) es h k = unfold filterMap Option·elim asRule in k
+rules-more P (rule r) es h k = unfold filterMap Option·elim asRule in on-cons P (h r refl) k
 
 listed-here : (b : Earlier) (e : Entry) (m : Member) → unlisted b e ≡ false → e ≡ member m → listed (b .groups) (m .group) ≡ true
 listed-here b e m h i = go (subst (λ (x : Entry). unlisted b x ≡ false) i h)
@@ -321,8 +317,8 @@ astray-here b e r h i = go (subst (λ (x : Entry). unlisted b x ≡ false) i h)
     go : unlisted b (rule r) ≡ false → astray (b .groups) r ≡ false
     go k = unfold astray in (unfold unlisted in k)
 
-none-in : {A B : Type 0} (f : A → Option B) {x : B} → x ∈ collect f [] → ⊥
-unfolding collect
+none-in : {A B : Type 0} (f : A → Option B) {x : B} → x ∈ filterMap f [] → ⊥
+unfolding filterMap
 none-in f m = List·Memᴰ·not-nil m
 
 pub fine : (b : Earlier) (es : List Entry) → Before b → cleanEntries b es ≡ true → Fine b es
@@ -330,7 +326,7 @@ unfolding cleanEntries
 fine b [] w h = record {
   kinds = unfold ordered in refl;
   own = λ e m. absurd (List·Memᴰ·not-nil m);
-  whole = unfold collect in rw (append-nil, append-nil, append-nil) w;
+  whole = unfold filterMap in rw (append-nil, append-nil, append-nil) w;
   members-listed = λ m n. absurd (none-in asMember n);
   rules-listed = λ r n. absurd (none-in asRule n);
 }
@@ -346,7 +342,7 @@ fine b (e ∷ es) w h = step (refusal-clear b e (and-l _ _ h)) (λ v. fine (with
         record {
           kinds = unfold ordered in both _ _ (rw (c .four)) (rw (with-kind b e) at k);
           own = on-cons Own (own-of b e c) (f .own);
-          whole = rw (groups-turn b e es, members-turn b e es, ids-turn b e es) at wh;
+          whole = rw (groups-turn b e es, members-turn b e es, rules-turn b e es) at wh;
           members-listed = members-more _ e es (λ m i. listed-more (b .groups) (groupsIn (e ∷ es)) (m .group) (listed-here b e m (c .nine) i)) (rw (groups-turn b e es) at ml);
           rules-listed = rules-more _ e es (λ r i. astray-more (b .groups) (groupsIn (e ∷ es)) r (astray-here b e r (c .nine) i)) (rw (groups-turn b e es) at rl);
         }
@@ -355,7 +351,7 @@ fine b (e ∷ es) w h = step (refusal-clear b e (and-l _ _ h)) (λ v. fine (with
 
 -- after a member or a rule no group comes
 no-groups : (k : ℕ) (es : List Entry) → 3 ≤ k → ordered k es ≡ true → groupsIn es ≡ []
-unfolding ordered collect maybe asGroup
+unfolding ordered filterMap Option·elim asGroup
 no-groups k [] h o = refl
 no-groups k (version v t ∷ es) h o = clash (and-l _ _ o) (first-kind k h)
   where
@@ -389,32 +385,32 @@ module _ (b : Earlier) (e : Entry) (es : List Entry) (f : Fine b (e ∷ es)) whe
 shorter : {A : Type 0} (xs : List A) (y : A) (ys : List A) (n : ℕ) → length (xs ++ (y ∷ ys)) ≤ n → length xs < n
 shorter xs y ys n h = omega (arith, length-append xs (y ∷ ys))
 
-past : (b : Earlier) (e : Entry) (es : List Entry) → Own e → Whole (b .groups ++ groupsIn (e ∷ es)) (b .members ++ membersIn (e ∷ es)) (b .ids ++ idsIn (e ∷ es)) → pastLimit b e ≡ false
-unfolding pastLimit ownLimit collect maybe asGroup asMember asRule
+past : (b : Earlier) (e : Entry) (es : List Entry) → Own e → Whole (b .groups ++ groupsIn (e ∷ es)) (b .members ++ membersIn (e ∷ es)) (b .rules ++ rulesIn (e ∷ es)) → pastLimit b e ≡ false
+unfolding pastLimit ownLimit filterMap Option·elim asGroup asMember asRule
 past b (version v t) es o w = o .limit
-past b (group n) es o w = neither _ _ (o .limit) (lt-leb 64 (length (b .groups)) (shorter (b .groups) n (groupsIn es) 64 (w .few-groups)))
-past b (member m) es o w = neither _ _ (o .limit) (lt-leb 512 (length (b .members)) (shorter (b .members) m (membersIn es) 512 (w .few-members)))
+past b (group n) es o w = neither _ _ (o .limit) (lt-leb maxGroups (length (b .groups)) (shorter (b .groups) n (groupsIn es) maxGroups (w .few-groups)))
+past b (member m) es o w = neither _ _ (o .limit) (lt-leb maxMembers (length (b .members)) (shorter (b .members) m (membersIn es) maxMembers (w .few-members)))
 past b (rule r) es o w =
     let l = o .limit in
     let k = or-false-l _ (overLimit (r .path)) l in
     neither _ _
-    (neither _ _ (or-false-l _ (ltb 32 (length (r .origin))) k)
-    (neither _ _ (or-false-r (unsized (r .subject) or unsizedShort (r .id)) _ k) (lt-leb 256 (length (b .ids)) (shorter (b .ids) (r .id) (idsIn es) 256 (w .few-rules)))))
-    (or-false-r ((unsized (r .subject) or unsizedShort (r .id)) or ltb 32 (length (r .origin))) _ l)
+    (neither _ _ (or-false-l _ (ltb maxShortString (length (r .origin))) k)
+    (neither _ _ (or-false-r (unsized (r .subject) or unsizedShort (r .id)) _ k) (lt-leb maxRules (length (b .rules)) (shorter (b .rules) r (rulesIn es) maxRules (w .few-rules)))))
+    (or-false-r ((unsized (r .subject) or unsizedShort (r .id)) or ltb maxShortString (length (r .origin))) _ l)
 
-again : (b : Earlier) (e : Entry) (es : List Entry) → Own e → Whole (b .groups ++ groupsIn (e ∷ es)) (b .members ++ membersIn (e ∷ es)) (b .ids ++ idsIn (e ∷ es)) → repeats b e ≡ false
-unfolding repeats ownTwice collect maybe asGroup asMember asRule
+again : (b : Earlier) (e : Entry) (es : List Entry) → Own e → Whole (b .groups ++ groupsIn (e ∷ es)) (b .members ++ membersIn (e ∷ es)) (b .rules ++ rulesIn (e ∷ es)) → repeats b e ≡ false
+unfolding repeats ownTwice filterMap Option·elim asGroup asMember asRule
 again b (version v t) es o w = refl
 again b (group n) es o w = apart same same-turned (b .groups) n (groupsIn es) (w .new-groups)
 again b (member m) es o w = apart sameMember member-turned (b .members) m (membersIn es) (w .new-members)
-again b (rule r) es o w = neither _ _ (apart same same-turned (b .ids) (r .id) (idsIn es) (w .new-ids)) (o .keys)
+again b (rule r) es o w = neither _ _ (apart sameId same-id-turned (b .rules) r (rulesIn es) (w .new-ids)) (o .keys)
 
 -- the groups before a member or a rule are all of them
 groups-then : (b : Earlier) (e : Entry) (es : List Entry) → 3 ≤ kindOf e → ordered (kindOf e) es ≡ true → groupsIn (e ∷ es) ≡ groupsIn es → b .groups ++ groupsIn (e ∷ es) ≡ b .groups
 groups-then b e es h o i = rw (i, no-groups (kindOf e) es h o) (append-nil (b .groups))
 
 missing : (b : Earlier) (e : Entry) (es : List Entry) → Fine b (e ∷ es) → unlisted b e ≡ false
-unfolding unlisted collect maybe asGroup asMember asRule kindOf
+unfolding unlisted filterMap Option·elim asGroup asMember asRule kindOf
 missing b (version v t) es f = refl
 missing b (group n) es f = refl
 missing b (member m) es f =
@@ -427,14 +423,14 @@ missing b (rule r) es f = unlisted-rule (rw (groups-then b (rule r) es (omega ar
     unlisted-rule h = unfold astray in h
 
 members-tail : (e : Entry) (es : List Entry) {m : Member} → m ∈ membersIn es → m ∈ membersIn (e ∷ es)
-unfolding collect maybe asMember
+unfolding filterMap Option·elim asMember
 members-tail (version v t) es n = n
 members-tail (group g) es n = n
 members-tail (member m) es n = List·Memᴰ·tail n
 members-tail (rule r) es n = n
 
 rules-tail : (e : Entry) (es : List Entry) {r : Rule} → r ∈ rulesIn es → r ∈ rulesIn (e ∷ es)
-unfolding collect maybe asRule
+unfolding filterMap Option·elim asRule
 rules-tail (version v t) es n = n
 rules-tail (group g) es n = n
 rules-tail (member m) es n = n
@@ -444,7 +440,7 @@ fine-rest : (b : Earlier) (e : Entry) (es : List Entry) → Fine b (e ∷ es) �
 fine-rest b e es f = record {
   kinds = rw (with-kind b e) (rest-ordered b e es f);
   own = λ x m. f .own x (List·Memᴰ·tail m);
-  whole = rw (groups-turn b e es, members-turn b e es, ids-turn b e es) (f .whole);
+  whole = rw (groups-turn b e es, members-turn b e es, rules-turn b e es) (f .whole);
   members-listed = λ m n. rw (groups-turn b e es) (f .members-listed m (members-tail e es n));
   rules-listed = λ r n. rw (groups-turn b e es) (f .rules-listed r (rules-tail e es n));
 }

@@ -2,8 +2,8 @@
 -- and rules in another order.
 use mathlib.Core.Path.{_≡_, refl, sym, ap, _∙_}
 use mathlib.Core.Bool.{Bool, true, false, not}
-use mathlib.Core.List.{List, [], _∷_, map, List·Memᴰ·head, List·Memᴰ·tail, List·Memᴰ·not-nil, List·Permᴰ, List·Permᴰ·nil, List·Permᴰ·cons, List·Permᴰ·swap, List·Permᴰ·trans, Permᴰ·symm}
-use mathlib.Core.Option.{Option, none, some}
+use mathlib.Core.List.{List, [], _∷_, filterMap, List·Memᴰ·head, List·Memᴰ·tail, List·Memᴰ·not-nil, List·Permᴰ, List·Permᴰ·nil, List·Permᴰ·cons, List·Permᴰ·swap, List·Permᴰ·trans, Permᴰ·symm}
+use mathlib.Core.Option.{Option, none, some, Option·elim}
 use Prim.Native.Nat.{ℕ, suc, _≤_}
 use native.Mathlib.Omega.{arith}
 use borrow.Author.Tests.{leb-true, le-ltb, ne-eqb}
@@ -12,19 +12,21 @@ use lib.ListN.{length}
 use Rattle.text.specs.Test.{_and_, _or_, if_then_else_, _∈_, any, twice}
 use Rattle.text.specs.String.{Str, same, joined}
 use Rattle.text.proofs.Tests.{clash, by, and-l, and-r, both, on-cons}
+use Rattle.limits.specs.Limits.{maxTableText}
 use Rattle.line.specs.Lines.{lines, onto}
 use Rattle.table.specs.Table.{Rule}
 use Rattle.table.specs.Frame.{Entry, version, group, member, rule}
-use Rattle.table.specs.Refusal.{lineOf, kindOf, outOfOrder, listed, first, sameMember}
-use Rattle.table.specs.Text.{check, maybe, collect, read, entries, asGroup, asMember, asRule, table, tableOf}
+use Rattle.table.specs.Refusal.{lineOf, kindOf, outOfOrder, listed, first, sameMember, sameId}
+use Rattle.table.specs.Text.{check, read, entries, asGroup, asMember, asRule, table, tableOf}
 use Rattle.table.specs.declared.Checked.the-variants.{Accepted}
 use Rattle.path.specs.Faults.{keyTwice}
-use Rattle.verdict.specs.Laws.{sameId, Orderly, Reordered}
+use Rattle.verdict.specs.Laws.{Orderly, Reordered}
+use Rattle.verdict.proofs.Choose.{same-id-turned}
 use Rattle.verdict.proofs.Reorder.{perm-mem, perm-any, perm-twice}
 use Rattle.acceptance.specs.Reordering.{rising, ReorderedLines}
-use Rattle.acceptance.proofs.Permutations.{perm-length, perm-collect, perm-joined}
+use Rattle.acceptance.proofs.Permutations.{perm-length, perm-filterMap, perm-joined}
 use Rattle.acceptance.proofs.Clean.{clean, judge-clean, clean-judge, Readable, clean-readable, clean-entries}
-use Rattle.acceptance.proofs.Fine.{ownTwice, Own, Whole, Fine, ordered, rulesIn, ident, astray, fine, unfaulted, same-turned, member-turned}
+use Rattle.acceptance.proofs.Fine.{ownTwice, Own, Whole, Fine, ordered, rulesIn, astray, fine, unfaulted, same-turned, member-turned}
 
 -- ---- the kinds
 
@@ -35,11 +37,11 @@ asVersion (member m) = none
 asVersion (rule r) = none
 
 abbrev versionsIn : List Entry → List Entry
-versionsIn es = collect asVersion es
+versionsIn es = filterMap asVersion es
 
 -- after the first line no version comes
 no-version : (k : ℕ) (es : List Entry) → 1 ≤ k → ordered k es ≡ true → versionsIn es ≡ []
-unfolding ordered collect maybe asVersion kindOf outOfOrder if_then_else_ _or_
+unfolding ordered filterMap Option·elim asVersion kindOf outOfOrder if_then_else_ _or_
 no-version k [] h o = refl
 no-version k (version v t ∷ es) h o = clash (and-l _ _ o) (rw (ne-eqb k 0 (λ z. omega arith)))
 no-version k (group n ∷ es) h o = no-version 2 es (omega arith) (and-r _ _ o)
@@ -48,7 +50,7 @@ no-version k (rule r ∷ es) h o = no-version 4 es (omega arith) (and-r _ _ o)
 
 -- the first line is the version
 one-version : (e : Entry) (es : List Entry) → ordered 0 (e ∷ es) ≡ true → length (versionsIn (e ∷ es)) ≡ 1
-unfolding ordered collect maybe asVersion kindOf outOfOrder if_then_else_
+unfolding ordered filterMap Option·elim asVersion kindOf outOfOrder if_then_else_
 one-version (version v t) es o = ap (λ (l : List Entry). suc (length l)) (no-version 1 es (omega arith) (and-r _ _ o))
 one-version (group n) es o = clash (and-l _ _ o) refl
 one-version (member m) es o = clash (and-l _ _ o) refl
@@ -56,7 +58,7 @@ one-version (rule r) es o = clash (and-l _ _ o) refl
 
 -- where kinds never fall below 2, no version comes
 high : (k : ℕ) (es : List Entry) → 2 ≤ k → rising k es ≡ true → versionsIn es ≡ []
-unfolding rising collect maybe asVersion kindOf
+unfolding rising filterMap Option·elim asVersion kindOf
 high k [] h o = refl
 high k (version v t ∷ es) h o = let z : k ≤ 1 = leb-true _ _ (and-l _ _ o) in absurd (omega arith)
 high k (group n ∷ es) h o = high 2 es (omega arith) (and-r _ _ o)
@@ -68,7 +70,7 @@ unfolding outOfOrder if_then_else_ _or_
 kept k kind h i l = rw (ne-eqb k 0 (λ z. omega arith), ne-eqb kind 1 (λ z. omega arith), le-ltb kind k (leb-true _ _ l))
 
 rising-ordered : (k : ℕ) (es : List Entry) → 1 ≤ k → rising k es ≡ true → versionsIn es ≡ [] → ordered k es ≡ true
-unfolding rising ordered collect maybe asVersion kindOf
+unfolding rising ordered filterMap Option·elim asVersion kindOf
 rising-ordered k [] h o n = refl
 rising-ordered k (version v t ∷ es) h o n = let z : _≡_ {A = ℕ} 0 1 = cc in absurd (omega arith)
 rising-ordered k (group g ∷ es) h o n = both _ _ (kept k 2 h (omega arith) (and-l _ _ o)) (rising-ordered 2 es (omega arith) (and-r _ _ o) n)
@@ -83,7 +85,7 @@ too-many : (k : ℕ) (es : List Entry) → 2 ≤ k → rising k es ≡ true → 
 too-many k es h o n = let z : length (versionsIn es) ≡ 0 = ap length (high k es h o) in omega arith
 
 first-ordered : (es : List Entry) → rising 0 es ≡ true → length (versionsIn es) ≡ 1 → ordered 0 es ≡ true
-unfolding rising ordered collect maybe asVersion kindOf outOfOrder if_then_else_
+unfolding rising ordered filterMap Option·elim asVersion kindOf outOfOrder if_then_else_
 first-ordered [] o n = absurd (omega arith)
 first-ordered (version v t ∷ es) o n = both _ _ refl (rising-ordered 1 es (omega arith) (and-r _ _ o) (none-left (versionsIn es) (let z : length (versionsIn es) ≡ 0 = omega arith in z)))
 first-ordered (group g ∷ es) o n = absurd (too-many 2 es (omega arith) (and-r _ _ o) n)
@@ -100,15 +102,9 @@ kinds-again {es} {fs} p o r = go es p o
   where
     go : (xs : List Entry) → List·Permᴰ xs fs → ordered 0 xs ≡ true → ordered 0 fs ≡ true
     go [] p o = empty-again fs (sym (perm-length p))
-    go (x ∷ xs) p o = first-ordered fs r (sym (perm-length (perm-collect asVersion p)) ∙ one-version x xs o)
+    go (x ∷ xs) p o = first-ordered fs r (sym (perm-length (perm-filterMap asVersion p)) ∙ one-version x xs o)
 
 -- ---- the rest
-
-perm-map : {A B : Type 0} (f : A → B) {xs ys : List A} → List·Permᴰ xs ys → List·Permᴰ (map f xs) (map f ys)
-perm-map f List·Permᴰ·nil = List·Permᴰ·nil
-perm-map f (List·Permᴰ·cons e d) = List·Permᴰ·cons (ap f e) (perm-map f d)
-perm-map f (List·Permᴰ·swap e g) = List·Permᴰ·swap (ap f e) (ap f g)
-perm-map f (List·Permᴰ·trans d e) = List·Permᴰ·trans (perm-map f d) (perm-map f e)
 
 listed-again : {g h : List Str} → List·Permᴰ g h → (n : Str) → listed g n ≡ true → listed h n ≡ true
 unfolding listed
@@ -125,10 +121,9 @@ astray-again {g} {h} p r e =
 fine-again : {es fs : List Entry} → List·Permᴰ es fs → rising 0 fs ≡ true → Fine first es → Fine first fs
 unfolding first
 fine-again {es} {fs} p r f =
-    let g = perm-collect asGroup p in
-    let m = perm-collect asMember p in
-    let u = perm-collect asRule p in
-    let i = perm-map ident u in
+    let g = perm-filterMap asGroup p in
+    let m = perm-filterMap asMember p in
+    let u = perm-filterMap asRule p in
     let w = f .whole in
     record {
       kinds = kinds-again p (f .kinds) r;
@@ -136,16 +131,16 @@ fine-again {es} {fs} p r f =
       whole = record {
         few-groups = let k = perm-length g in omega (arith, w .few-groups, k);
         few-members = let k = perm-length m in omega (arith, w .few-members, k);
-        few-rules = let k = perm-length i in omega (arith, w .few-rules, k);
+        few-rules = let k = perm-length u in omega (arith, w .few-rules, k);
         new-groups = perm-twice same same-turned g (w .new-groups);
         new-members = perm-twice sameMember member-turned m (w .new-members);
-        new-ids = perm-twice same same-turned i (w .new-ids);
+        new-ids = perm-twice sameId same-id-turned u (w .new-ids);
       };
       members-listed = λ x n. listed-again g (x .group) (f .members-listed x (perm-mem (Permᴰ·symm m) n));
       rules-listed = λ x n. astray-again g x (f .rules-listed x (perm-mem (Permᴰ·symm u) n));
     }
 
-nothing-before : Whole (first .groups) (first .members) (first .ids)
+nothing-before : Whole (first .groups) (first .members) (first .rules)
 unfolding first twice
 nothing-before = record { few-groups = omega arith; few-members = omega arith; few-rules = omega arith; new-groups = refl; new-members = refl; new-ids = refl }
 
@@ -159,7 +154,7 @@ lines-again {xs} {ys} p r h =
     clean-entries first ys b ∙ unfaulted first (entries ys) (fine-again (entries-perm p) r f)
   where
     entries-perm : List·Permᴰ xs ys → List·Permᴰ (entries xs) (entries ys)
-    entries-perm q = unfold entries in perm-collect _ q
+    entries-perm q = unfold entries in perm-filterMap _ q
 
 -- ---- over texts
 
@@ -181,16 +176,16 @@ as-long : (x y : Str) → List·Permᴰ (lines x) (lines y) → length x ≡ len
 as-long x y p = sym (ap length (lines-joined x)) ∙ perm-joined p ∙ ap length (lines-joined y)
 
 -- an accepted text: neither too long nor empty, and its lines are clean
-check-opens : (s : Str) → check s ≡ Accepted → (ltb 32768 (length s) ≡ false) × (eqb (length s) 0 ≡ false) × (clean first (lines s) ≡ true)
+check-opens : (s : Str) → check s ≡ Accepted → (ltb maxTableText (length s) ≡ false) × (eqb (length s) 0 ≡ false) × (clean first (lines s) ≡ true)
 unfolding check if_then_else_
 check-opens s e =
-    by (ltb 32768 (length s))
+    by (ltb maxTableText (length s))
     (λ u. let e′ = rw u at e in let z : _≡_ {A = ℕ} 0 1 = cc in absurd (omega arith))
     (λ u. by (eqb (length s) 0)
     (λ v. let e′ = rw (u, v) at e in let z : _≡_ {A = ℕ} 0 1 = cc in absurd (omega arith))
     (λ v. let e′ = rw (u, v) at e in (u, v, judge-clean 1 first (lines s) e′)))
 
-check-closes : (s : Str) → ltb 32768 (length s) ≡ false → eqb (length s) 0 ≡ false → clean first (lines s) ≡ true → check s ≡ Accepted
+check-closes : (s : Str) → ltb maxTableText (length s) ≡ false → eqb (length s) 0 ≡ false → clean first (lines s) ≡ true → check s ≡ Accepted
 unfolding check if_then_else_
 check-closes s u v h = rw (u, v) (clean-judge 1 first (lines s) h)
 
@@ -198,32 +193,22 @@ pub accepted-again : (x y : Str) → check x ≡ Accepted → ReorderedLines x y
 accepted-again x y e p =
     let o = check-opens x e in
     let l = as-long x y (p .same) in
-    check-closes y (ap (ltb 32768) (sym l) ∙ o .0) (ap (λ (n : ℕ). eqb n 0) (sym l) ∙ o .1) (lines-again (p .same) (p .kinds) (o .2))
+    check-closes y (ap (ltb maxTableText) (sym l) ∙ o .0) (ap (λ (n : ℕ). eqb n 0) (sym l) ∙ o .1) (lines-again (p .same) (p .kinds) (o .2))
 
 pub tables-reordered : (x y : Str) → ReorderedLines x y → Reordered (tableOf x) (tableOf y)
 unfolding tableOf table entries
 tables-reordered x y p =
-    let q = perm-collect (λ (l : Str). read (lineOf l)) (p .same) in
-    record { groups = perm-collect asGroup q; members = perm-collect asMember q; rules = perm-collect asRule q }
+    let q = perm-filterMap (λ (l : Str). read (lineOf l)) (p .same) in
+    record { groups = perm-filterMap asGroup q; members = perm-filterMap asMember q; rules = perm-filterMap asRule q }
 
 -- what every accepted table is: no rule id twice, and no key twice in an element
-
-any-map : (f : Str → Bool) (rs : List Rule) → any f (map ident rs) ≡ any (λ (r : Rule). f (r .id)) rs
-unfolding any
-any-map f [] = refl
-any-map f (r ∷ rs) = ap (λ (t : Bool). f (r .id) or t) (any-map f rs)
-
-ids-alone : (rs : List Rule) → twice same (map ident rs) ≡ twice sameId rs
-unfolding twice sameId
-ids-alone [] = refl
-ids-alone (r ∷ rs) = rw (any-map (same (r .id)) rs) (ap (λ (t : Bool). any (λ (s : Rule). same (r .id) (s .id)) rs or t) (ids-alone rs))
 
 keys-of : (r : Rule) → Own (rule r) → keyTwice (r .path) ≡ false
 unfolding ownTwice
 keys-of r o = o .keys
 
 keys-once : (es : List Entry) → ((e : Entry) → e ∈ es → Own e) → (r : Rule) → r ∈ rulesIn es → keyTwice (r .path) ≡ false
-unfolding collect maybe asRule
+unfolding filterMap Option·elim asRule
 keys-once [] h = λ r m. absurd (List·Memᴰ·not-nil m)
 keys-once (version v t ∷ es) h = keys-once es (λ e m. h e (List·Memᴰ·tail m))
 keys-once (group n ∷ es) h = keys-once es (λ e m. h e (List·Memᴰ·tail m))
@@ -236,4 +221,4 @@ accepted-orderly x e =
     let o = check-opens x e in
     let a = clean-readable first (lines x) (o .2) in
     let f = fine first (entries (lines x)) nothing-before (sym (clean-entries first (lines x) a) ∙ o .2) in
-    record { ids = sym (ids-alone (rulesIn (entries (lines x)))) ∙ f .whole .new-ids; keys = keys-once (entries (lines x)) (f .own) }
+    record { ids = f .whole .new-ids; keys = keys-once (entries (lines x)) (f .own) }

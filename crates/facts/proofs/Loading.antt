@@ -7,6 +7,7 @@ use native.Mathlib.Omega.{arith}
 use borrow.Author.Tests.{eq-eqb, ne-eqb}
 use lib.Dec.{eqb}
 use lib.ListN.{length, take, getD}
+use Rattle.limits.specs.Limits.{maxGroups}
 use Rattle.text.specs.Test.{_or_, if_then_else_, any}
 use Rattle.text.specs.String.{Str}
 use Rattle.text.proofs.Tests.{by}
@@ -61,7 +62,7 @@ module _ (members : List Member) (user : Str) where
 
 -- ---- of a loaded table
 
-module _ {text buf : List ℕ} {u : ℕ} {c : Counts} {groups users owners ids starts holders : List ℕ} (K : Kept text buf u c groups users owners ids starts holders) where
+module _ {text buf : List ℕ} {u : ℕ} {c : Counts} {groups users owners starts holders : List ℕ} (K : Kept text buf u c groups users owners starts holders) where
   members-long : length (tableOf text .members) ≡ c .members
   unfolding membersIn
   members-long = ap length (K .holds .members-are) ∙ rows-length (memberIn (tableOf text .groups) owners (take u buf) users) (c .members) 0
@@ -71,7 +72,7 @@ module _ {text buf : List ℕ} {u : ℕ} {c : Counts} {groups users owners ids s
   rows-are = rw (K .accepts, named-long K, members-long, K .holds .rules-count)
 
   -- a group's number is one of a set's places
-  pub has-room : (g : ℕ) → g < c .groups → g < 64
+  pub has-room : (g : ℕ) → g < c .groups → g < maxGroups
   has-room g h = omega (arith, K .holds .few .0)
 
   module _ (user : Str) (g : ℕ) where

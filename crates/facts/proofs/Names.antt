@@ -1,6 +1,6 @@
 -- Names that are copied out of a loaded table.
-use mathlib.Core.Path.{_≡_, refl, sym, ap, _∙_}
-use mathlib.Core.List.{List, [], _∷_}
+use mathlib.Core.Path.{_≡_, refl, sym, ap, ap₂, _∙_}
+use mathlib.Core.List.{List, [], _∷_, map}
 use Prim.Native.Nat.{ℕ, zero, suc, _+_, _-_, _≤_, _<_}
 use native.Mathlib.Omega.{arith}
 use borrow.Author.Tests.{lt-ltb, le-ltb}
@@ -13,15 +13,19 @@ use Rattle.text.specs.Fill.{put, Wrote}
 use Rattle.text.proofs.Tests.{by}
 use Rattle.text.proofs.Filling.{wrote-nothing}
 use Rattle.place.specs.Place.{strEnd, strIn}
-use Rattle.rows.specs.Strings.{stringsIn}
-use Rattle.rows.proofs.Grow.{strings-length, strings-at}
+use Rattle.rows.specs.Strings.{stringsIn, rowsOf as listOf}
+use Rattle.rows.specs.Rules.{idStart, originStart}
+use Rattle.rows.proofs.RuleBytes.{rule-parts}
+use Rattle.rows.proofs.Grow.{rows-length, rows-at, strings-length, strings-at}
+use Rattle.table.specs.Table as table
 use Rattle.table.specs.Text.{check, tableOf}
 use Rattle.table.specs.declared.GroupNumber.{GroupNumber}
 use Rattle.table.specs.declared.RuleNumber.{RuleNumber}
 use Rattle.load.specs.declared.row.Counts.{Counts}
+use Rattle.load.specs.Held.{RulesAt}
 use Rattle.load.specs.Loaded.{Kept}
 use Rattle.facts.specs.declared.Row.the-variants.{Group, Rule}
-use Rattle.facts.specs.Facts.{nameOf, fitting}
+use Rattle.facts.specs.Facts.{nameOf, fitting, idsIn, Identified}
 
 -- ---- storing
 
@@ -60,13 +64,48 @@ module _ (f starts : List ℕ) (n k : ℕ) where
   pub number-at : (d d′ : List ℕ) (r : ℕ) → k < n → Wrote d 0 (fitting d (strIn f (getD starts k 0))) d′ r → Wrote d 0 (fitting d (getD (stringsIn f starts n 0) k [])) d′ r
   number-at d d′ r h w = rw (strings-at f starts n k h) w
 
+-- ---- the id of rule number k
+
+ids-read : (f starts : List ℕ) (rs : List table.Rule) (i : ℕ) → RulesAt f starts rs i → listOf (λ j. strIn f (idStart f (getD starts j 0))) (length rs) i ≡ map (λ (r : table.Rule). r .id) rs
+unfolding RulesAt listOf
+ids-read f starts [] i h = refl
+ids-read f starts (r ∷ rs) i h = ap₂ _∷_ (sym (rule-parts f (getD starts i 0) r (h .0 .0) (h .0 .1) .id)) (ids-read f starts rs (suc i) (h .1))
+
+ids-laid : (f starts : List ℕ) (rs : List table.Rule) (i : ℕ) → RulesAt f starts rs i → (j : ℕ) → j < length rs → originStart f (getD starts (i + j) 0) ≤ length f
+unfolding RulesAt
+ids-laid f starts [] i h j l = absurd (omega arith)
+ids-laid f starts (r ∷ rs) i h zero l = let e : i + 0 ≡ i = omega arith in rw e (rule-parts f (getD starts i 0) r (h .0 .0) (h .0 .1) .id-fits)
+ids-laid f starts (r ∷ rs) i h (suc j) l = let e : i + suc j ≡ suc i + j = omega arith in rw e (ids-laid f starts rs (suc i) (h .1) j (omega arith))
+
+pub id-inside : (f : List ℕ) (s : ℕ) → originStart f s ≤ length f → idStart f s ≤ length f
+unfolding strEnd
+id-inside f s h = omega arith
+
+module _ (f starts : List ℕ) (n k : ℕ) where
+  pub id-past : (d : List ℕ) → n ≤ k → Wrote d 0 (fitting d (getD (idsIn f starts n) k [])) d 0
+  unfolding idsIn
+  id-past d h = rw (beyond (listOf (λ j. strIn f (idStart f (getD starts j 0))) n 0) k (omega (arith, rows-length (λ j. strIn f (idStart f (getD starts j 0))) n 0))) (wrote-none d)
+
+  pub id-at : (d d′ : List ℕ) (r : ℕ) → k < n → Wrote d 0 (fitting d (strIn f (idStart f (getD starts k 0)))) d′ r → Wrote d 0 (fitting d (getD (idsIn f starts n) k [])) d′ r
+  unfolding idsIn
+  id-at d d′ r h w = let e : 0 + k ≡ k = omega arith in rw (rows-at (λ j. strIn f (idStart f (getD starts j 0))) n 0 k [] h, e) w
+
 -- ---- of a loaded table
 
-module _ {text buf : List ℕ} {u : ℕ} {c : Counts} {groups users owners ids starts holders : List ℕ} (K : Kept text buf u c groups users owners ids starts holders) where
+module _ {text buf : List ℕ} {u : ℕ} {c : Counts} {groups users owners starts holders : List ℕ} (K : Kept text buf u c groups users owners starts holders) where
   pub group-name : (g : GroupNumber) → getD (stringsIn (take u buf) groups (c .groups) 0) (g .0) [] ≡ nameOf (check text) (tableOf text) (Group g)
   unfolding nameOf
   group-name g = rw (K .accepts) (ap (λ (l : List Str). getD l (g .0) []) (sym (K .holds .groups-are)))
 
-  pub rule-id : (k : RuleNumber) → getD (stringsIn (take u buf) ids (c .rules) 0) (k .0) [] ≡ nameOf (check text) (tableOf text) (Rule k)
-  unfolding nameOf
-  rule-id k = rw (K .accepts) (ap (λ (l : List Str). getD l (k .0) []) (sym (K .holds .ids-are)))
+  rules-long : length (tableOf text .rules) ≡ c .rules
+  rules-long = K .holds .rules-count
+
+  pub identified : Identified (take u buf) starts (c .rules)
+  identified = record {
+    laid = λ i h. let z : 0 + i ≡ i = omega arith in rw z at (ids-laid (take u buf) starts (tableOf text .rules) 0 (K .holds .rules-are) i (omega (arith, rules-long)));
+    room = omega (arith, K .holds .long .of-starts, K .holds .few .2);
+  }
+
+  pub rule-id : (k : RuleNumber) → getD (idsIn (take u buf) starts (c .rules)) (k .0) [] ≡ nameOf (check text) (tableOf text) (Rule k)
+  unfolding nameOf idsIn
+  rule-id k = rw (K .accepts) (ap (λ (l : List Str). getD l (k .0) []) (rw rules-long at (ids-read (take u buf) starts (tableOf text .rules) 0 (K .holds .rules-are))))

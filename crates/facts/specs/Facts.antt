@@ -1,16 +1,19 @@
 -- Facts about a table, for the command line.
-use Prim.Native.Nat.{ℕ}
+use Prim.Native.Nat.{ℕ, _≤_, _<_}
 use mathlib.Core.Bool.{Bool, false}
-use mathlib.Core.List.{List, []}
+use mathlib.Core.List.{List, [], map}
 use lib.Dec.{eqb, ltb}
 use lib.ListN.{length, getD}
 use Rattle.text.specs.Test.{any, if_then_else_}
 use Rattle.text.specs.String.{Str}
 use Rattle.table.specs.Table.{Table}
+use Rattle.table.specs.Table as rule
+use Rattle.rows.specs.Strings.{rowsOf as listOf}
+use Rattle.rows.specs.Rules.{idStart, originStart}
+use Rattle.place.specs.Place.{strIn}
 use Rattle.table.specs.Group.{groupsOf}
 use Rattle.table.specs.declared.Checked.{Checked}
 use Rattle.table.specs.declared.Checked.the-variants as checked
-use Rattle.load.specs.Held.{idsOf}
 use Rattle.facts.specs.declared.Row.{Row}
 use Rattle.facts.specs.declared.Row.the-variants.{Group, Rule}
 use Rattle.facts.specs.declared.Rows.{Rows}
@@ -30,8 +33,19 @@ isListed checked.Accepted t user g = any (eqb g) (groupsOf t user)
 unfoldable pub nameOf : Checked → Table → Row → Str
 nameOf (checked.Refused n l) t row = []
 nameOf checked.Accepted t (Group g) = getD (t .groups) (g .0) []
-nameOf checked.Accepted t (Rule k) = getD (idsOf (t .rules)) (k .0) []
+nameOf checked.Accepted t (Rule k) = getD (map (λ (r : rule.Rule). r .id) (t .rules)) (k .0) []
 
 -- what is stored of a name into d: nothing where it does not fit
 unfoldable pub fitting : List ℕ → Str → Str
 fitting d s = if ltb (length d) (length s) then [] else s
+
+-- ---- ids by the positions of rules in decoded bytes
+
+-- those of n rules
+unfoldable pub idsIn : List ℕ → List ℕ → ℕ → List Str
+idsIn f starts n = listOf (λ j. strIn f (idStart f (getD starts j 0))) n 0
+
+-- they lie within the bytes, and `starts` has the rules' positions
+pub record Identified (f starts : List ℕ) (n : ℕ) : Type 0 where
+  pub laid : (i : ℕ) → i < n → originStart f (getD starts i 0) ≤ length f
+  pub room : n ≤ length starts

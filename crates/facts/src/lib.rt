@@ -1,13 +1,13 @@
 // Facts about a table text: how many rows of each kind it has, which groups list a user, what a group or a rule is called.
 ghost use mathlib.Core.Path.{_≡_};
 ghost use mathlib.Core.List.{[]};
-ghost use Prim.Native.Nat.{_≤_, _<_};
+ghost use Prim.Native.Nat.{_≤_};
 ghost use lib.ListN.{length, getD};
 ghost use Rattle.text.specs.Fill.{Wrote};
 ghost use Rattle.place.specs.Place.{strEnd, strIn};
-ghost use Rattle.rows.specs.Strings.{stringsIn, Laid};
+ghost use Rattle.rows.specs.Strings.{stringsIn, Listed};
 ghost use Rattle.table.specs.Text.{check, tableOf};
-ghost use Rattle.facts.specs.Facts.{rowsOf, isListed, nameOf, fitting};
+ghost use Rattle.facts.specs.Facts.{rowsOf, isListed, nameOf, fitting, idsIn, Identified};
 use load::Loaded;
 use table::GroupNumber;
 use table::RuleNumber;
@@ -29,20 +29,18 @@ pub enum Rows {
 pub fn count_rows(text: &[u8]) -> Rows
     ensures { λ r. ⌜ r ≡ rowsOf (check (now (text .entry))) (tableOf (now (text .entry))) ⌝ }
 {
-    let mut buf = [0u8; 16384];
-    let mut groups = [0u16; 64];
-    let mut users = [0u16; 512];
-    let mut owners = [0u8; 512];
-    let mut ids = [0u16; 256];
-    let mut starts = [0u16; 256];
-    let mut holders = [0u8; 256];
+    let mut buf = [0u8; limits::MAX_TABLE_BYTES];
+    let mut groups = [0u16; limits::MAX_GROUPS];
+    let mut users = [0u16; limits::MAX_MEMBERS];
+    let mut owners = [0u8; limits::MAX_MEMBERS];
+    let mut starts = [0u16; limits::MAX_RULES];
+    let mut holders = [0u8; limits::MAX_RULES];
     let l = load::load(
         text,
         &mut buf,
         &mut groups,
         &mut users,
         &mut owners,
-        &mut ids,
         &mut starts,
         &mut holders,
     );
@@ -63,20 +61,18 @@ pub fn count_rows(text: &[u8]) -> Rows
 pub fn is_listed(text: &[u8], user: &[u8], group: GroupNumber) -> bool
     ensures { λ r. ⌜ r ≡ isListed (check (now (text .entry))) (tableOf (now (text .entry))) (now (user .entry)) (group .0) ⌝ }
 {
-    let mut buf = [0u8; 16384];
-    let mut groups = [0u16; 64];
-    let mut users = [0u16; 512];
-    let mut owners = [0u8; 512];
-    let mut ids = [0u16; 256];
-    let mut starts = [0u16; 256];
-    let mut holders = [0u8; 256];
+    let mut buf = [0u8; limits::MAX_TABLE_BYTES];
+    let mut groups = [0u16; limits::MAX_GROUPS];
+    let mut users = [0u16; limits::MAX_MEMBERS];
+    let mut owners = [0u8; limits::MAX_MEMBERS];
+    let mut starts = [0u16; limits::MAX_RULES];
+    let mut holders = [0u8; limits::MAX_RULES];
     let l = load::load(
         text,
         &mut buf,
         &mut groups,
         &mut users,
         &mut owners,
-        &mut ids,
         &mut starts,
         &mut holders,
     );
@@ -113,8 +109,10 @@ fn copy_at(f: &[u8], at: usize, out: &mut [u8]) -> usize
 
 // The same for number k of n strings, whose positions are in `starts`.
 fn copy_number(f: &[u8], starts: &[u16], n: usize, k: usize, out: &mut [u8]) -> usize
-    requires { ⌜ Laid (now f) (now starts) n × (n ≤ length (now starts)) ⌝ }
-    ensures { λ r. ⌜ Wrote (now (out .entry)) 0 (fitting (now (out .entry)) (getD (stringsIn (now (f .entry)) (now (starts .entry)) n 0) k [])) (now (out .exit)) r ⌝ }
+    requires { ⌜ Listed (now f) (now starts) n ⌝ }
+    ensures { λ r. ⌜ Wrote (now (out .entry)) 0
+        (fitting (now (out .entry)) (getD (stringsIn (now (f .entry)) (now (starts .entry)) n 0) k []))
+        (now (out .exit)) r ⌝ }
 {
     if n <= k {
         return 0;
@@ -123,24 +121,39 @@ fn copy_number(f: &[u8], starts: &[u16], n: usize, k: usize, out: &mut [u8]) -> 
     copy_at(f, at, out)
 }
 
+// The same for the id of rule k of n, whose positions are in `starts`.
+fn copy_id(f: &[u8], starts: &[u16], n: usize, k: usize, out: &mut [u8]) -> usize
+    requires { ⌜ Identified (now f) (now starts) n ⌝ }
+    ensures { λ r. ⌜ Wrote (now (out .entry)) 0
+        (fitting (now (out .entry)) (getD (idsIn (now (f .entry)) (now (starts .entry)) n) k []))
+        (now (out .exit)) r ⌝ }
+{
+    if n <= k {
+        return 0;
+    }
+    let s = starts[k] as usize;
+    let at = place::str_end(f, s + table::RULE_SUBJECT);
+    copy_at(f, at, out)
+}
+
 // Puts the name of a row at the start of out, if it fits, and answers its length; 0 also where there is no such row.
 pub fn name_of(text: &[u8], row: Row, out: &mut [u8]) -> usize
-    ensures { λ r. ⌜ Wrote (now (out .entry)) 0 (fitting (now (out .entry)) (nameOf (check (now (text .entry))) (tableOf (now (text .entry))) row)) (now (out .exit)) r ⌝ }
+    ensures { λ r. ⌜ Wrote (now (out .entry)) 0
+        (fitting (now (out .entry)) (nameOf (check (now (text .entry))) (tableOf (now (text .entry))) row))
+        (now (out .exit)) r ⌝ }
 {
-    let mut buf = [0u8; 16384];
-    let mut groups = [0u16; 64];
-    let mut users = [0u16; 512];
-    let mut owners = [0u8; 512];
-    let mut ids = [0u16; 256];
-    let mut starts = [0u16; 256];
-    let mut holders = [0u8; 256];
+    let mut buf = [0u8; limits::MAX_TABLE_BYTES];
+    let mut groups = [0u16; limits::MAX_GROUPS];
+    let mut users = [0u16; limits::MAX_MEMBERS];
+    let mut owners = [0u8; limits::MAX_MEMBERS];
+    let mut starts = [0u16; limits::MAX_RULES];
+    let mut holders = [0u8; limits::MAX_RULES];
     let l = load::load(
         text,
         &mut buf,
         &mut groups,
         &mut users,
         &mut owners,
-        &mut ids,
         &mut starts,
         &mut holders,
     );
@@ -150,6 +163,6 @@ pub fn name_of(text: &[u8], row: Row, out: &mut [u8]) -> usize
     let f = &buf[..used];
     match row {
         Row::Group(g) => copy_number(f, &groups, counts.groups, g.0 as usize, out),
-        Row::Rule(k) => copy_number(f, &ids, counts.rules, k.0 as usize, out),
+        Row::Rule(k) => copy_id(f, &starts, counts.rules, k.0 as usize, out),
     }
 }

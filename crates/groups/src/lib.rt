@@ -11,20 +11,18 @@ use table::Counted;
 pub fn check_table(text: &[u8]) -> Checked
     ensures { λ r. ⌜ r ≡ check (now (text .entry)) ⌝ }
 {
-    let mut buf = [0u8; 16384];
-    let mut groups = [0u16; 64];
-    let mut users = [0u16; 512];
-    let mut owners = [0u8; 512];
-    let mut ids = [0u16; 256];
-    let mut starts = [0u16; 256];
-    let mut holders = [0u8; 256];
+    let mut buf = [0u8; limits::MAX_TABLE_BYTES];
+    let mut groups = [0u16; limits::MAX_GROUPS];
+    let mut users = [0u16; limits::MAX_MEMBERS];
+    let mut owners = [0u8; limits::MAX_MEMBERS];
+    let mut starts = [0u16; limits::MAX_RULES];
+    let mut holders = [0u8; limits::MAX_RULES];
     let l = load::load(
         text,
         &mut buf,
         &mut groups,
         &mut users,
         &mut owners,
-        &mut ids,
         &mut starts,
         &mut holders,
     );
@@ -41,20 +39,18 @@ pub fn check_table(text: &[u8]) -> Checked
 pub fn count_groups(text: &[u8], user: &[u8]) -> Counted
     ensures { λ r. ⌜ r ≡ groupCount (now (text .entry)) (now (user .entry)) ⌝ }
 {
-    let mut buf = [0u8; 16384];
-    let mut groups = [0u16; 64];
-    let mut users = [0u16; 512];
-    let mut owners = [0u8; 512];
-    let mut ids = [0u16; 256];
-    let mut starts = [0u16; 256];
-    let mut holders = [0u8; 256];
+    let mut buf = [0u8; limits::MAX_TABLE_BYTES];
+    let mut groups = [0u16; limits::MAX_GROUPS];
+    let mut users = [0u16; limits::MAX_MEMBERS];
+    let mut owners = [0u8; limits::MAX_MEMBERS];
+    let mut starts = [0u16; limits::MAX_RULES];
+    let mut holders = [0u8; limits::MAX_RULES];
     let l = load::load(
         text,
         &mut buf,
         &mut groups,
         &mut users,
         &mut owners,
-        &mut ids,
         &mut starts,
         &mut holders,
     );

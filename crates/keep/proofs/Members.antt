@@ -9,9 +9,11 @@ use borrow.Author.Tests.{leb-false, eqb-false, ltb-true, ltb-false, eq-eqb, ne-e
 use lib.Dec.{eqb, ltb, leb}
 use lib.ListN.{length, take, drop, getD, set, length-append, length-drop}
 use lib.Seq.{take-at}
+use Rattle.limits.specs.Limits.{maxTableBytes, maxMembers, maxString}
 use Rattle.text.specs.Test.{_and_, _or_, any, all}
 use Rattle.text.specs.Byte.{isPrint}
 use Rattle.text.specs.String.{Str, same}
+use Rattle.text.specs.Refusal.{clear}
 use Rattle.text.specs.Frame.{got, string, stringBytes, endOf, part}
 use Rattle.text.specs.declared.frame.End.{End}
 use Rattle.text.specs.declared.frame.End.the-variants.{At, Unread}
@@ -21,18 +23,19 @@ use Rattle.text.proofs.Codec.{Took, took-both, string-took, string-gives}
 use Rattle.path.specs.Faults.{unsized}
 use Rattle.sorted.specs.Spans.{spanOf}
 use Rattle.sorted.specs.declared.Found.{Found}
-use Rattle.hash_set.specs.Set.{Met, added, Holds}
+use Rattle.hash_set.specs.Set.{Met, added}
 use Rattle.hash_set.proofs.Sets.{holds-grows, added-long}
 use Rattle.rows.specs.Strings.{stringsIn, place, hashOf}
 use Rattle.rows.proofs.Grow.{rows-length, strings-length, place-any, place-le}
 use Rattle.table.specs.Table.{Member}
 use Rattle.table.specs.Frame.{member, entryOf}
 use Rattle.table.specs.Refusal.{Earlier, reads, framed, outOfOrder, kindOf, pastLimit, strays, stray, misplaces, sameMember, repeats, listed, unlisted, refusal}
-use Rattle.table.specs.Walk.{merged, unsizedBy}
+use Rattle.table.specs.Layout.{kindMember}
+use Rattle.table.specs.Walk.{OfKind, merged, unsizedBy}
 use Rattle.table.proofs.Numbers.{long-is, stray-is, number-four, number-plain, merged-clear}
 use Rattle.table.proofs.Frames.{member-unread, member-userless, member-off, member-read}
 use Rattle.table.proofs.Versions.{refused-unread, refused-read}
-use Rattle.keep.specs.Held.{membersIn, memberBytes, bytesOf, memberPlace, MemberKept}
+use Rattle.keep.specs.Held.{memberPlaces, firstMemberPlace, memberKeys, membersIn, memberBytes, bytesOf, memberPlace, InSet, MemberKept}
 use Rattle.keep.proofs.Names.{new-span, new-inside}
 
 -- ---- members as bytes
@@ -79,11 +82,11 @@ part-took f a t s k =
 
 -- ---- their places
 
-pub place-far : (y : Str) → (512 < memberPlace y) × (memberPlace y < 4609)
+pub place-far : (y : Str) → (maxMembers < memberPlace y) × (memberPlace y < memberKeys)
 unfolding memberPlace
 place-far y = (omega arith, omega arith)
 
-pub place-is-told : (y : Str) (h p : ℕ) → h ≡ hashOf y → p ≡ 513 + h % 4096 → p ≡ memberPlace y
+pub place-is-told : (y : Str) (h p : ℕ) → h ≡ hashOf y → p ≡ firstMemberPlace + h % memberPlaces → p ≡ memberPlace y
 unfolding memberPlace
 place-is-told y h p e i = rw (i, e)
 
@@ -104,7 +107,7 @@ place-small name f starts n p e = omega (arith, place-le name (stringsIn f start
 
 -- ---- the frame
 
-module _ (f : Str) (pre : (0 < length f) × (getD f 0 0 ≡ 3)) (r : End) (i : r ≡ endOf (string f 1)) where
+module _ (f : Str) (pre : OfKind kindMember f) (r : End) (i : r ≡ endOf (string f 1)) where
   pub member-short : (b : Earlier) → r ≡ Unread → 3 ≡ refusal b (framed (entryOf f))
   member-short b g = refused-unread b f (member-unread f (pre .0) (pre .1) (string-misses f 1 r i g))
 
@@ -129,7 +132,7 @@ module _ (f : Str) (pre : (0 < length f) × (getD f 0 0 ≡ 3)) (r : End) (i : r
         pub member-reads : entryOf f ≡ some (member this)
         member-reads = member-read f (pre .0) (pre .1) _ m (string-ends f 1 r i m g .0) _ t (string-ends f m s c t e .0) n
 
-        module _ (o : Bool) (last : ℕ) (q : o ≡ outOfOrder last 3) where
+        module _ (o : Bool) (last : ℕ) (q : o ≡ outOfOrder last kindMember) where
           order : (b : Earlier) → b .kind ≡ last → o ≡ outOfOrder (b .kind) (kindOf (member this))
           unfolding kindOf
           order b w = rw w q
@@ -138,22 +141,22 @@ module _ (f : Str) (pre : (0 < length f) × (getD f 0 0 ≡ 3)) (r : End) (i : r
           member-four b w h = refused-read b f _ 4 member-reads (number-four b _ (sym (order b w) ∙ h))
 
           module _ (h : o ≡ false) (old starts : List ℕ) (count : ℕ) (users owners keys : List ℕ) (k : ℕ)
-              (small : length old + length f ≤ 16384) (long : length keys ≡ 4609)
-              (H : Holds memberPlace old keys 512 (bytesOf (membersIn (stringsIn old starts count 0) owners old users k)))
+              (small : length old + length f ≤ maxTableBytes) (long : length keys ≡ memberKeys)
+              (H : InSet old starts count users owners keys k)
               (p place′ hash : ℕ) (u v x y : Bool) (z : Found)
-              (uu : u ≡ unsizedBy 64 (length name)) (vv : v ≡ unsizedBy 64 (length user)) (xx : x ≡ all isPrint name) (yy : y ≡ all isPrint user)
+              (uu : u ≡ unsizedBy maxString (length name)) (vv : v ≡ unsizedBy maxString (length user)) (xx : x ≡ all isPrint name) (yy : y ≡ all isPrint user)
               (pp : place′ ≡ place name (stringsIn old starts count 0)) (hh : hash ≡ hashOf (part f 1 t))
-              (zz : Met old keys 512 (513 + hash % 4096) (part f 1 t) z)
-              (mm : p ≡ merged 255 ((u || v) || leb 512 k) (not x || not y) (z .again) (eqb place′ count)) where
+              (zz : Met old keys maxMembers (firstMemberPlace + hash % memberPlaces) (part f 1 t) z)
+              (mm : p ≡ merged clear ((u || v) || leb maxMembers k) (not x || not y) (z .again) (eqb place′ count)) where
             -- the bytes after the kind byte
             key-is : part f 1 t ≡ memberBytes this
             unfolding memberBytes
             key-is = part-took f 1 t _ (took-both f 1 m t _ _ (string-took f 1 name m (string-ends f 1 r i m g .0)) (string-took f m user t (string-ends f m s c t e .0)))
 
-            spot : 513 + hash % 4096 ≡ memberPlace (part f 1 t)
-            spot = place-is-told (part f 1 t) hash (513 + hash % 4096) hh refl
+            spot : firstMemberPlace + hash % memberPlaces ≡ memberPlace (part f 1 t)
+            spot = place-is-told (part f 1 t) hash (firstMemberPlace + hash % memberPlaces) hh refl
 
-            met : Met old keys 512 (memberPlace (part f 1 t)) (part f 1 t) z
+            met : Met old keys maxMembers (memberPlace (part f 1 t)) (part f 1 t) z
             met = rw spot at zz
 
             again-is : z .again ≡ any (sameMember this) (membersIn (stringsIn old starts count 0) owners old users k)
@@ -163,10 +166,10 @@ module _ (f : Str) (pre : (0 < length f) × (getD f 0 0 ≡ 3)) (r : End) (i : r
             unfolding membersIn
             count-is = bytes-length _ ∙ rows-length _ k 0
 
-            pub spot-fits : 513 + hash % 4096 < length keys
+            pub spot-fits : firstMemberPlace + hash % memberPlaces < length keys
             spot-fits = omega arith
 
-            pub fits-is : z .at ≤ getD keys 512 0
+            pub fits-is : z .at ≤ getD keys maxMembers 0
             fits-is = met .fits
 
             pub member-graded : (b : Earlier) → b .kind ≡ last → b .groups ≡ stringsIn old starts count 0 → b .members ≡ membersIn (b .groups) owners old users k
@@ -175,24 +178,24 @@ module _ (f : Str) (pre : (0 < length f) × (getD f 0 0 ≡ 3)) (r : End) (i : r
             member-graded b w gg bb =
                 let members : b .members ≡ membersIn (stringsIn old starts count 0) owners old users k = bb ∙ ap (λ (l : List Str). membersIn l owners old users k) gg in
                 let long : length (b .members) ≡ k = ap length members ∙ rows-length _ k 0 in
-                let five : ((u || v) || leb 512 k) ≡ ((unsized name or unsized user) or leb 512 (length (b .members))) =
-                rw (long, uu, vv, long-is name (length name) refl, long-is user (length user) refl, or-is (unsized name) (unsized user)) (or-is (unsized name or unsized user) (leb 512 k)) in
+                let five : ((u || v) || leb maxMembers k) ≡ ((unsized name or unsized user) or leb maxMembers (length (b .members))) =
+                rw (long, uu, vv, long-is name (length name) refl, long-is user (length user) refl, or-is (unsized name) (unsized user)) (or-is (unsized name or unsized user) (leb maxMembers k)) in
                 let six : (not x || not y) ≡ (stray name or stray user) = rw (stray-is name x xx, stray-is user y yy) (or-is (stray name) (stray user)) in
                 let eight : z .again ≡ any (sameMember this) (b .members) = again-is ∙ ap (any (sameMember this)) (sym members) in
                 let nine : eqb place′ count ≡ not (listed (b .groups) name) = unlisted-is name (stringsIn old starts count 0) place′ count pp (sym (strings-length old starts count)) ∙ ap (λ (l : List Str). not (listed l name)) (sym gg) in
                 refused-read b f _ p member-reads (number-plain b _ (sym (order b w) ∙ h) p _ _ _ _ mm five six refl eight nine)
 
-            module _ (fine : p ≡ 255) where
-              clear-is : (((u || v) || leb 512 k) ≡ false) × (eqb place′ count ≡ false) × (z .again ≡ false)
-              clear-is = merged-clear 255 ((u || v) || leb 512 k) (not x || not y) (z .again) (eqb place′ count) (sym mm ∙ fine)
+            module _ (fine : p ≡ clear) where
+              clear-is : (((u || v) || leb maxMembers k) ≡ false) × (eqb place′ count ≡ false) × (z .again ≡ false)
+              clear-is = merged-clear clear ((u || v) || leb maxMembers k) (not x || not y) (z .again) (eqb place′ count) (sym mm ∙ fine)
 
-              pub member-room : k < 512
-              member-room = leb-false 512 k (or-false-r (u || v) _ (sym (or-is (u || v) (leb 512 k)) ∙ clear-is .0))
+              pub member-room : k < maxMembers
+              member-room = leb-false maxMembers k (or-false-r (u || v) _ (sym (or-is (u || v) (leb maxMembers k)) ∙ clear-is .0))
 
-              pub sorted-room : getD keys 512 0 < 512
+              pub sorted-room : getD keys maxMembers 0 < maxMembers
               sorted-room = omega (arith, H .few, count-is, member-room)
 
-              pub member-kept : (keys′ : List ℕ) → keys′ ≡ added keys 512 (513 + hash % 4096) (z .at) (spanOf (length old + 1) (length old + t))
+              pub member-kept : (keys′ : List ℕ) → keys′ ≡ added keys maxMembers (firstMemberPlace + hash % memberPlaces) (z .at) (spanOf (length old + 1) (length old + t))
                   → MemberKept (stringsIn old starts count 0) old f users owners k (set users k (length old + m)) (set owners k place′) keys′
               member-kept keys′ q =
                   let w = string-ends f m s c t e in
@@ -207,7 +210,7 @@ module _ (f : Str) (pre : (0 < length f) × (getD f 0 0 ≡ 3)) (r : End) (i : r
                     listed = listed-is name (stringsIn old starts count 0) place′ count pp (sym (strings-length old starts count)) (clear-is .1);
                     users-set = refl;
                     owners-set = ap (set owners k) pp;
-                    keys-long = ap length q ∙ added-long keys 512 (513 + hash % 4096) (z .at) _ (met .fits) (omega (arith, sorted-room)) ∙ long;
+                    keys-long = ap length q ∙ added-long keys maxMembers (firstMemberPlace + hash % memberPlaces) (z .at) _ (met .fits) (omega (arith, sorted-room)) ∙ long;
                     held =
                         rw (q, spot, ← key-is)
                         (holds-grows f (λ y. (place-far y .0, omega (arith, place-far y .1))) H (part f 1 t) z met (clear-is .2) (spanOf (length old + 1) (length old + t))

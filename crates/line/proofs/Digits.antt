@@ -13,7 +13,7 @@ use Rattle.text.specs.Byte.{isHex, hexValue, isDigit, within}
 use Rattle.text.specs.Fill.{put}
 use Rattle.text.proofs.Tests.{by, and-right, clash}
 use Rattle.text.proofs.Filling.{Pending, fill-start, fill-set, fill-byte, fill-done}
-use Rattle.line.specs.Lines.{digits}
+use Rattle.line.specs.Decoding.{digits}
 
 -- ---- a byte is a digit exactly if its value is below 16
 

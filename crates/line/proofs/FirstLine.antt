@@ -13,7 +13,8 @@ use Rattle.text.specs.Test.{_and_, if_then_else_}
 use Rattle.text.specs.Byte.{isHex}
 use Rattle.text.specs.String.{Str}
 use Rattle.text.proofs.Tests.{by, and-l, and-r, clash}
-use Rattle.line.specs.Lines.{onto, lines, pair, pairs, nonempty, frame, digits, taken, firstLine}
+use Rattle.line.specs.Lines.{onto, lines, pair, pairs, nonempty, frame}
+use Rattle.line.specs.Decoding.{digits, taken, firstLine}
 use Rattle.line.specs.declared.Line.{Line}
 use Rattle.line.specs.declared.Line.the-variants.{Frame, Bad}
 use Rattle.line.proofs.Digits.{digits-half}

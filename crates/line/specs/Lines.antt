@@ -4,12 +4,9 @@ use mathlib.Core.Bool.{Bool, true, false}
 use mathlib.Core.List.{List, [], _∷_}
 use mathlib.Core.Option.{Option, none, some}
 use lib.Dec.{eqb}
-use lib.ListN.{length}
 use Rattle.text.specs.Test.{_and_, if_then_else_}
 use Rattle.text.specs.Byte.{isHex, hexValue}
 use Rattle.text.specs.String.{Str}
-use Rattle.line.specs.declared.Line.{Line}
-use Rattle.line.specs.declared.Line.the-variants.{Frame, Bad}
 
 -- a byte before the lines of the rest: an LF is a line of its own, any other byte begins the first line
 unfoldable pub onto : Bool → ℕ → List Str → List Str
@@ -43,21 +40,3 @@ nonempty (some (b ∷ f)) = some (b ∷ f)
 -- "One frame a line: an even, nonzero count of digits 0-9a-f, then LF": the frame, where the line is one
 unfoldable pub frame : Str → Option Str
 frame l = nonempty (pairs l)
-
--- ---- the answers of the programs, which decode as far as there are digits
-
--- the bytes for which the leading pairs of digits stand
-unfoldable pub digits : Str → Str
-digits [] = []
-digits (x ∷ []) = []
-digits (x ∷ y ∷ s) = if isHex x and isHex y then (hexValue x * 16 + hexValue y) ∷ digits s else []
-
--- the length of the frame, and where the next line starts
-unfoldable pub taken : ℕ → Str → Option Str → Line
-taken from l none = Bad
-taken from l (some f) = Frame (length f) (from + length l)
-
--- the first of the lines that start at `from`
-unfoldable pub firstLine : ℕ → List Str → Line
-firstLine from [] = Bad
-firstLine from (l ∷ ls) = taken from l (frame l)

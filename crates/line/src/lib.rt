@@ -3,7 +3,8 @@ ghost use mathlib.Core.Path.{_≡_};
 ghost use Prim.Native.Nat.{_+_, _-_, _/_, _≤_};
 ghost use lib.ListN.{length, drop};
 ghost use Rattle.text.specs.Fill.{put};
-ghost use Rattle.line.specs.Lines.{lines, digits, firstLine};
+ghost use Rattle.line.specs.Lines.{lines};
+ghost use Rattle.line.specs.Decoding.{digits, firstLine};
 
 pub enum Line {
     // A frame of len bytes; the next line starts at next.
@@ -15,7 +16,8 @@ pub enum Line {
 // Decodes the pairs of digits from `from` on into out from `at` on, and answers how many they are.
 fn decode(text: &[u8], from: usize, out: &mut [u8], at: usize) -> usize
     requires { ⌜ (from ≤ length (now text)) × (at + (length (now text) - from) / 2 ≤ length (now out)) ⌝ }
-    ensures { λ r. ⌜ (r ≡ length (digits (drop from (now (text .entry))))) × (now (out .exit) ≡ put (now (out .entry)) at (digits (drop from (now (text .entry))))) ⌝ }
+    ensures { λ r. ⌜ r ≡ length (digits (drop from (now (text .entry)))) ⌝ }
+    ensures { λ _. ⌜ now (out .exit) ≡ put (now (out .entry)) at (digits (drop from (now (text .entry)))) ⌝ }
 {
     let mut i = from;
     let mut k = at;
@@ -35,7 +37,8 @@ fn decode(text: &[u8], from: usize, out: &mut [u8], at: usize) -> usize
 // The line that starts at `from`. Its digits are decoded into out from `at` on.
 pub fn read_line(text: &[u8], from: usize, out: &mut [u8], at: usize) -> Line
     requires { ⌜ (from ≤ length (now text)) × (at + (length (now text) - from) / 2 ≤ length (now out)) ⌝ }
-    ensures { λ r. ⌜ (r ≡ firstLine from (lines (drop from (now (text .entry))))) × (now (out .exit) ≡ put (now (out .entry)) at (digits (drop from (now (text .entry))))) ⌝ }
+    ensures { λ r. ⌜ r ≡ firstLine from (lines (drop from (now (text .entry)))) ⌝ }
+    ensures { λ _. ⌜ now (out .exit) ≡ put (now (out .entry)) at (digits (drop from (now (text .entry)))) ⌝ }
 {
     let len = decode(text, from, out, at);
     let end = from + 2 * len;

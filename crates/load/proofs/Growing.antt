@@ -1,13 +1,14 @@
 -- One row more is held.
 use mathlib.Core.Path.{_≡_, refl, sym, ap, _∙_}
 use mathlib.Core.Bool.{true, false}
-use mathlib.Core.List.{List, [], _∷_, _++_, append-nil}
+use mathlib.Core.List.{List, [], _∷_, _++_}
 use Prim.Native.Nat.{ℕ, suc, _+_, _-_, _≤_, _<_}
 use native.Mathlib.Omega.{arith}
 use borrow.Author.Tests.{eqb-true, eqb-false}
 use lib.Dec.{eqb}
 use lib.ListN.{length, getD, set, length-append, length-set, List·getD-append}
 use lib.Seq.{getD-set-same, getD-set-other}
+use Rattle.limits.specs.Limits.{maxMembers, maxRules}
 use Rattle.text.specs.Test.{if_then_else_, any}
 use Rattle.text.specs.String.{Str, same}
 use Rattle.text.specs.Frame.{got, string}
@@ -21,15 +22,14 @@ use Rattle.rows.proofs.Grow.{rows-same, rows-grow, strings-length, string-front
 use Rattle.table.specs.Table.{Member, Rule}
 use Rattle.table.specs.Frame.{version, group, member, rule, ruleBody}
 use Rattle.table.specs.Refusal.{Earlier, with}
-use Rattle.table.specs.Text.{maybe, asRule}
 use Rattle.table.proofs.Inside.{inside-string, inside-rule, reads-more, reads-after}
 use Rattle.keep.specs.Held.{Named, memberIn, membersIn, Owned, bytesOf, memberPlace, GroupKept, MemberKept}
 use Rattle.keep.proofs.Names.{named-longer}
 use Rattle.keep.proofs.Members.{bytes-snoc, place-far}
-use Rattle.keep_rule.specs.Kept.{idPlace, RuleKept}
-use Rattle.keep_rule.proofs.Rules.{id-far}
+use Rattle.keep_rule.specs.Kept.{idsOf, idPlace, RuleKept}
+use Rattle.keep_rule.proofs.Rules.{ids-length, ids-snoc, id-far}
 use Rattle.load.specs.declared.row.Counts.{Counts}
-use Rattle.load.specs.Held.{idsOf, RulesAt, HoldersAt, Holds, Held, counted}
+use Rattle.load.specs.Held.{RulesAt, HoldersAt, Holds, Held, counted}
 
 -- ---- a string that was read
 
@@ -37,13 +37,6 @@ use Rattle.load.specs.Held.{idsOf, RulesAt, HoldersAt, Holds, Held, coun
 new-string : (old f : List ℕ) (at : ℕ) (s : Str) (t : ℕ) → string f at ≡ got s t
     → (strIn (old ++ f) (length old + at) ≡ s) × (strEnd (old ++ f) (length old + at) ≤ length (old ++ f))
 new-string old f at s t i = let r = str-read (old ++ f) (length old + at) s (length old + t) (reads-after string inside-string old f at s t i) in (sym (r .1), r .0)
-
--- ---- ids
-
-ids-snoc : (rs : List Rule) (r : Rule) → idsOf (rs ++ (r ∷ [])) ≡ idsOf rs ++ (r .id ∷ [])
-unfolding idsOf
-ids-snoc [] r = refl
-ids-snoc (x ∷ rs) r = ap (λ (l : List Str). x .id ∷ l) (ids-snoc rs r)
 
 -- ---- rules
 
@@ -85,8 +78,8 @@ holders-stay groups name holders (r ∷ rs) i h = (
 
 -- ---- the bytes grow
 
-module _ {named : List Str} {members : List Member} {rules : List Rule} {old : List ℕ} {c : Counts} {groups users owners ids starts holders : List ℕ} (f : List ℕ)
-    (H : Holds named members rules old c groups users owners ids starts holders) where
+module _ {named : List Str} {members : List Member} {rules : List Rule} {old : List ℕ} {c : Counts} {groups users owners starts holders : List ℕ} (f : List ℕ)
+    (H : Holds named members rules old c groups users owners starts holders) where
   user-stays : (j : ℕ) → j < c .members → strIn (old ++ f) (getD users j 0) ≡ strIn old (getD users j 0)
   user-stays j k = string-front old f (getD users j 0) (H .users-laid j k)
 
@@ -96,17 +89,15 @@ module _ {named : List Str} {members : List Member} {rules : List Rule} {old : L
       rows-same (memberIn named owners (old ++ f) users) (memberIn named owners old users) (c .members) 0
       (λ j a b i. record { group = getD named (getD owners j 0) []; user = user-stays j (omega arith) i })
 
-  pub holds-stay : (k : ℕ) → Holds named members rules (old ++ f) (record { kind = k; groups = c .groups; members = c .members; rules = c .rules }) groups users owners ids starts holders
+  pub holds-stay : (k : ℕ) → Holds named members rules (old ++ f) (record { kind = k; groups = c .groups; members = c .members; rules = c .rules }) groups users owners starts holders
   holds-stay k = record {
     groups-are = H .groups-are ∙ sym (strings-stay old f groups (c .groups) (H .groups-laid));
     members-are = H .members-are ∙ sym members-stay;
-    ids-are = H .ids-are ∙ sym (strings-stay old f ids (c .rules) (H .ids-laid));
     rules-are = rules-stay old f starts rules 0 (H .rules-are);
     rules-count = H .rules-count;
     holders-are = H .holders-are;
     groups-laid = laid-stays old f groups (c .groups) (H .groups-laid);
     users-laid = laid-stays old f users (c .members) (H .users-laid);
-    ids-laid = laid-stays old f ids (c .rules) (H .ids-laid);
     owned = H .owned;
     distinct = H .distinct;
     few = H .few;
@@ -115,37 +106,36 @@ module _ {named : List Str} {members : List Member} {rules : List Rule} {old : L
 
 -- ---- each kind
 
-same-arrays : {b : Earlier} {rules : List Rule} {f : List ℕ} {c : Counts} {groups users owners ids ids′ starts starts′ holders holders′ names ms is : List ℕ}
-    → ids′ ≡ ids → starts′ ≡ starts → holders′ ≡ holders
-    → Held b rules f c groups users owners ids starts holders names ms is → Held b rules f c groups users owners ids′ starts′ holders′ names ms is
-same-arrays d s h H = rw (d, s, h) H
+same-arrays : {b : Earlier} {f : List ℕ} {c : Counts} {groups users owners starts starts′ holders holders′ names ms is : List ℕ}
+    → starts′ ≡ starts → holders′ ≡ holders
+    → Held b f c groups users owners starts holders names ms is → Held b f c groups users owners starts′ holders′ names ms is
+same-arrays s h H = rw (s, h) H
 
-module _ {b : Earlier} {rules : List Rule} {old : List ℕ} {c : Counts} {groups users owners ids starts holders names ms is : List ℕ} (f : List ℕ)
-    (G : Held b rules old c groups users owners ids starts holders names ms is) where
-  H : Holds (b .groups) (b .members) rules old c groups users owners ids starts holders
+module _ {b : Earlier} {old : List ℕ} {c : Counts} {groups users owners starts holders names ms is : List ℕ} (f : List ℕ)
+    (G : Held b old c groups users owners starts holders names ms is) where
+  H : Holds (b .groups) (b .members) (b .rules) old c groups users owners starts holders
   H = G .holds
 
   names-stay : Named (old ++ f) names (c .groups) (b .groups)
   names-stay = named-longer (G .named) f
 
-  members-set-stays : InSet memberPlace (old ++ f) ms 512 (bytesOf (b .members))
+  members-set-stays : InSet memberPlace (old ++ f) ms maxMembers (bytesOf (b .members))
   members-set-stays = holds-longer f (λ y. place-far y .0) (G .members-set)
 
-  ids-set-stays : InSet idPlace (old ++ f) is 256 (b .ids)
+  ids-set-stays : InSet idPlace (old ++ f) is maxRules (idsOf (b .rules))
   ids-set-stays = holds-longer f (λ y. id-far y .0) (G .ids-set)
 
-  pub grow-version : (v t : Str) → Held (with b (version v t)) (rules ++ maybe (asRule (version v t)) []) (old ++ f) (counted c 1) groups users owners ids starts holders names ms is
-  unfolding with counted if_then_else_ maybe asRule
+  pub grow-version : (v t : Str) → Held (with b (version v t)) (old ++ f) (counted c 1) groups users owners starts holders names ms is
+  unfolding with counted if_then_else_
   grow-version v t =
-      rw (append-nil rules)
-      (record { kind = refl; told-ids = G .told-ids; holds = holds-stay f H 1; named = names-stay; members-set = members-set-stays; ids-set = ids-set-stays; sets-long = G .sets-long })
+      (record { kind = refl; holds = holds-stay f H 1; named = names-stay; members-set = members-set-stays; ids-set = ids-set-stays; sets-long = G .sets-long })
 
   module _ {groups′ names′ : List ℕ} (K : GroupKept old f groups (c .groups) groups′ names′) (fresh : any (same (K .name)) (b .groups) ≡ false) where
     v : ℕ
     v = length old + 1
 
     wide : c .groups < length groups
-    wide = omega (arith, H .long .0, K .room)
+    wide = omega (arith, H .long .of-groups, K .room)
 
     new : (strIn (old ++ f) (length old + 1) ≡ K .name) × (strEnd (old ++ f) (length old + 1) ≤ length (old ++ f))
     new = new-string old f 1 (K .name) (length f) (K .stands)
@@ -159,30 +149,28 @@ module _ {b : Earlier} {rules : List Rule} {old : List ℕ} {c : Counts} {groups
     unfolding membersIn
     same-members = rows-same (memberIn (b .groups ++ (K .name ∷ [])) owners (old ++ f) users) (memberIn (b .groups) owners old users) (c .members) 0 (λ j a k. same-member j (omega arith))
 
-    holds-group : Holds (b .groups ++ (K .name ∷ [])) (b .members) rules (old ++ f) (record { kind = 2; groups = c .groups + 1; members = c .members; rules = c .rules }) (set groups (c .groups) (length old + 1)) users owners ids starts holders
+    holds-group : Holds (b .groups ++ (K .name ∷ [])) (b .members) (b .rules) (old ++ f) (record { kind = 2; groups = c .groups + 1; members = c .members; rules = c .rules }) (set groups (c .groups) (length old + 1)) users owners starts holders
     holds-group =
         let S = holds-stay f H 2 in
         record {
           groups-are = ap (λ (l : List Str). l ++ (K .name ∷ [])) (H .groups-are) ∙ sym (strings-grow old f groups (c .groups) (length old + 1) (H .groups-laid) wide (K .name) (new .0));
           members-are = H .members-are ∙ sym same-members;
-          ids-are = S .ids-are;
           rules-are = S .rules-are;
           rules-count = S .rules-count;
-          holders-are = holders-stay (b .groups) (K .name) holders rules 0 (H .holders-are);
+          holders-are = holders-stay (b .groups) (K .name) holders (b .rules) 0 (H .holders-are);
           groups-laid = laid-grow old f groups (c .groups) (length old + 1) (H .groups-laid) wide (new .1);
           users-laid = S .users-laid;
-          ids-laid = S .ids-laid;
           owned = λ j k. omega (arith, H .owned j k);
           distinct = twice-snoc (b .groups) (K .name) (H .distinct) fresh;
           few = (omega (arith, K .room), H .few .1, H .few .2);
-          long = (length-set groups (c .groups) (length old + 1) ∙ H .long .0, H .long .1, H .long .2, H .long .3, H .long .4, H .long .5);
+          long = record { of-groups = length-set groups (c .groups) (length old + 1) ∙ H .long .of-groups; of-users = H .long .of-users; of-owners = H .long .of-owners; of-starts = H .long .of-starts; of-holders = H .long .of-holders };
         }
 
-    pub grow-group : Held (with b (group (K .name))) (rules ++ maybe (asRule (group (K .name))) []) (old ++ f) (counted c 2) groups′ users owners ids starts holders names′ ms is
-    unfolding with counted if_then_else_ maybe asRule
+    pub grow-group : Held (with b (group (K .name))) (old ++ f) (counted c 2) groups′ users owners starts holders names′ ms is
+    unfolding with counted if_then_else_
     grow-group =
-        rw (append-nil rules, K .starts-set)
-        (record { kind = refl; told-ids = G .told-ids; holds = holds-group; named = rw (H .groups-are) (K .named); members-set = members-set-stays; ids-set = ids-set-stays; sets-long = G .sets-long })
+        rw (K .starts-set)
+        (record { kind = refl; holds = holds-group; named = rw (H .groups-are) (K .named); members-set = members-set-stays; ids-set = ids-set-stays; sets-long = G .sets-long })
 
   module _ {users′ owners′ ms′ : List ℕ} (K : MemberKept (stringsIn old groups (c .groups) 0) old f users owners (c .members) users′ owners′ ms′) where
     abbrev n : ℕ
@@ -198,10 +186,10 @@ module _ {b : Earlier} {rules : List Rule} {old : List ℕ} {c : Counts} {groups
     os = set owners n p
 
     wide-users : n < length users
-    wide-users = omega (arith, H .long .1, K .room)
+    wide-users = omega (arith, H .long .of-users, K .room)
 
     wide-owners : n < length owners
-    wide-owners = omega (arith, H .long .2, K .room)
+    wide-owners = omega (arith, H .long .of-owners, K .room)
 
     new-user : (strIn (old ++ f) (length old + K .at) ≡ K .user) × (strEnd (old ++ f) (length old + K .at) ≤ length (old ++ f))
     new-user = new-string old f (K .at) (K .user) (length f) (K .stands)
@@ -232,37 +220,34 @@ module _ {b : Earlier} {rules : List Rule} {old : List ℕ} {c : Counts} {groups
         (λ t. let z : j ≡ n = eqb-true _ _ t in rw (z, new-owner) (omega (arith, K .listed, strings-length old groups (c .groups))))
         (λ t. let z : j ≡ n → ⊥ = eqb-false _ _ t in let y : j < n = omega arith in rw (old-owner j y) (H .owned j y))
 
-    holds-member : Holds (b .groups) (b .members ++ (record { group = K .group; user = K .user } ∷ [])) rules (old ++ f) (record { kind = 3; groups = c .groups; members = n + 1; rules = c .rules }) groups us os ids starts holders
+    holds-member : Holds (b .groups) (b .members ++ (record { group = K .group; user = K .user } ∷ [])) (b .rules) (old ++ f) (record { kind = 3; groups = c .groups; members = n + 1; rules = c .rules }) groups us os starts holders
     holds-member =
         let S = holds-stay f H 3 in
         record {
           groups-are = S .groups-are;
           members-are = sym grown-members;
-          ids-are = S .ids-are;
           rules-are = S .rules-are;
           rules-count = S .rules-count;
           holders-are = S .holders-are;
           groups-laid = S .groups-laid;
           users-laid = laid-grow old f users n (length old + K .at) (H .users-laid) wide-users (new-user .1);
-          ids-laid = S .ids-laid;
           owned = owned-grow;
           distinct = H .distinct;
           few = (H .few .0, omega (arith, K .room), H .few .2);
-          long = (H .long .0, length-set users n (length old + K .at) ∙ H .long .1, length-set owners n p ∙ H .long .2, H .long .3, H .long .4, H .long .5);
+          long = record { of-groups = H .long .of-groups; of-users = length-set users n (length old + K .at) ∙ H .long .of-users; of-owners = length-set owners n p ∙ H .long .of-owners; of-starts = H .long .of-starts; of-holders = H .long .of-holders };
         }
 
-    grown-set : InSet memberPlace (old ++ f) ms′ 512 (bytesOf (b .members ++ (record { group = K .group; user = K .user } ∷ [])))
+    grown-set : InSet memberPlace (old ++ f) ms′ maxMembers (bytesOf (b .members ++ (record { group = K .group; user = K .user } ∷ [])))
     grown-set =
         let m : b .members ≡ membersIn (stringsIn old groups (c .groups) 0) owners old users n = H .members-are ∙ ap (λ (l : List Str). membersIn l owners old users n) (H .groups-are) in
         rw (bytes-snoc (b .members) (record { group = K .group; user = K .user }), m) (K .held)
 
-    pub grow-member : Held (with b (member (record { group = K .group; user = K .user }))) (rules ++ maybe (asRule (member (record { group = K .group; user = K .user }))) []) (old ++ f) (counted c 3) groups users′ owners′ ids starts holders names ms′ is
-    unfolding with counted if_then_else_ maybe asRule
+    pub grow-member : Held (with b (member (record { group = K .group; user = K .user }))) (old ++ f) (counted c 3) groups users′ owners′ starts holders names ms′ is
+    unfolding with counted if_then_else_
     grow-member =
-        rw (append-nil rules, K .users-set, K .owners-set)
+        rw (K .users-set, K .owners-set)
         (record {
           kind = refl;
-          told-ids = G .told-ids;
           holds = holds-member;
           named = names-stay;
           members-set = grown-set;
@@ -270,60 +255,48 @@ module _ {b : Earlier} {rules : List Rule} {old : List ℕ} {c : Counts} {groups
           sets-long = (K .keys-long, G .sets-long .1);
         })
 
-  module _ {ids′ starts′ holders′ is′ : List ℕ} (K : RuleKept (stringsIn old groups (c .groups) 0) old f ids starts holders (c .rules) ids′ starts′ holders′ is′) where
+  module _ {starts′ holders′ is′ : List ℕ} (K : RuleKept (stringsIn old groups (c .groups) 0) old f starts holders is (c .rules) starts′ holders′ is′) where
     abbrev m : ℕ
     m = c .rules
 
     abbrev x : Rule
     x = K .kept
 
-    abbrev ds : List ℕ
-    ds = set ids m (length old + K .at)
-
-    wide-ids : m < length ids
-    wide-ids = omega (arith, H .long .3, K .room)
-
     wide-starts : m < length starts
-    wide-starts = omega (arith, H .long .4, K .room)
+    wide-starts = omega (arith, H .long .of-starts, K .room)
 
     wide-holders : m < length holders
-    wide-holders = omega (arith, H .long .5, K .room)
+    wide-holders = omega (arith, H .long .of-holders, K .room)
 
-    new-id : (strIn (old ++ f) (length old + K .at) ≡ x .id) × (strEnd (old ++ f) (length old + K .at) ≤ length (old ++ f))
-    new-id = new-string old f (K .at) (x .id) (K .last) (K .stands)
+    rules-long : length (b .rules ++ (x ∷ [])) ≡ m + 1
+    rules-long = length-append (b .rules) (x ∷ []) ∙ ap (λ (k : ℕ). k + 1) (H .rules-count)
 
-    rules-long : length (rules ++ (x ∷ [])) ≡ m + 1
-    rules-long = length-append rules (x ∷ []) ∙ ap (λ (k : ℕ). k + 1) (H .rules-count)
-
-    holds-rule : Holds (b .groups) (b .members) (rules ++ (x ∷ [])) (old ++ f) (record { kind = 4; groups = c .groups; members = c .members; rules = m + 1 }) groups users owners ds (set starts m (length old + 1)) (set holders m (K .holder))
+    holds-rule : Holds (b .groups) (b .members) (b .rules ++ (x ∷ [])) (old ++ f) (record { kind = 4; groups = c .groups; members = c .members; rules = m + 1 }) groups users owners (set starts m (length old + 1)) (set holders m (K .holder))
     holds-rule =
         let S = holds-stay f H 4 in
         record {
           groups-are = S .groups-are;
           members-are = S .members-are;
-          ids-are = ids-snoc rules x ∙ ap (λ (l : List Str). l ++ (x .id ∷ [])) (H .ids-are) ∙ sym (strings-grow old f ids m (length old + K .at) (H .ids-laid) wide-ids (x .id) (new-id .0));
-          rules-are = rules-grow old f starts rules 0 m (length old + 1) x (length old + length f) (omega (arith, H .rules-count)) wide-starts (H .rules-are) (reads-after ruleBody inside-rule old f 1 x (length f) (K .body));
+          rules-are = rules-grow old f starts (b .rules) 0 m (length old + 1) x (length old + length f) (omega (arith, H .rules-count)) wide-starts (H .rules-are) (reads-after ruleBody inside-rule old f 1 x (length f) (K .body));
           rules-count = rules-long;
-          holders-are = holders-grow (b .groups) holders rules 0 m (K .holder) x (omega (arith, H .rules-count)) wide-holders (H .holders-are) (λ t. rw (H .groups-are) (K .held t));
+          holders-are = holders-grow (b .groups) holders (b .rules) 0 m (K .holder) x (omega (arith, H .rules-count)) wide-holders (H .holders-are) (λ t. rw (H .groups-are) (K .held t));
           groups-laid = S .groups-laid;
           users-laid = S .users-laid;
-          ids-laid = laid-grow old f ids m (length old + K .at) (H .ids-laid) wide-ids (new-id .1);
           owned = H .owned;
           distinct = H .distinct;
           few = (H .few .0, H .few .1, omega (arith, K .room));
-          long = (H .long .0, H .long .1, H .long .2, length-set ids m (length old + K .at) ∙ H .long .3, length-set starts m (length old + 1) ∙ H .long .4, length-set holders m (K .holder) ∙ H .long .5);
+          long = record { of-groups = H .long .of-groups; of-users = H .long .of-users; of-owners = H .long .of-owners; of-starts = length-set starts m (length old + 1) ∙ H .long .of-starts; of-holders = length-set holders m (K .holder) ∙ H .long .of-holders };
         }
 
-    pub grow-rule : Held (with b (rule x)) (rules ++ maybe (asRule (rule x)) []) (old ++ f) (counted c 4) groups users owners ids′ starts′ holders′ names ms is′
-    unfolding with counted if_then_else_ maybe asRule
+    pub grow-rule : Held (with b (rule x)) (old ++ f) (counted c 4) groups users owners starts′ holders′ names ms is′
+    unfolding with counted if_then_else_
     grow-rule =
-        same-arrays (K .ids-set) (K .starts-set) (K .holders-set)
+        same-arrays (K .starts-set) (K .holders-set)
         (record {
           kind = refl;
-          told-ids = ap (λ (l : List Str). l ++ (x .id ∷ [])) (G .told-ids) ∙ sym (ids-snoc rules x);
           holds = holds-rule;
           named = names-stay;
           members-set = members-set-stays;
-          ids-set = rw (G .told-ids ∙ H .ids-are) (K .ids-held);
+          ids-set = rw (ids-snoc (b .rules) x) (K .ids-held (idsOf (b .rules)) (record { held = G .ids-set; counted = ids-length (b .rules) ∙ H .rules-count }));
           sets-long = (G .sets-long .0, K .keys-long);
         })

@@ -1,26 +1,29 @@
 -- A turn of `load`, and each way out of it.
 use mathlib.Core.Path.{_≡_, refl, sym, ap, _∙_}
-use mathlib.Core.List.{List, [], _∷_, _++_, append-nil}
-use mathlib.Core.Option.{none, some}
+use mathlib.Core.List.{List, [], _∷_, _++_, filterMap, append-nil}
+use mathlib.Core.Option.{Option, none, some, Option·elim}
 use Prim.Native.Nat.{ℕ, _+_, _-_, _/_, _≤_, _<_}
 use native.Mathlib.Omega.{arith}
 use borrow.Author.Tests.{eq-eqb, ne-eqb, le-ltb, lt-ltb}
 use lib.ListN.{length, take, drop, getD, drop-of-length-le}
 use lib.Seq.{length-take-le, take-at, drop-at, take-add, getD-take, getD-drop, append-snoc}
+use Rattle.limits.specs.Limits.{maxTableText, maxTableBytes, maxMembers, maxRules}
 use Rattle.text.specs.Test.{if_then_else_, any, twice}
 use Rattle.text.specs.String.{Str}
+use Rattle.text.specs.Refusal.{clear}
 use Rattle.text.specs.Frame.{part}
 use Rattle.text.specs.Fill.{put}
 use Rattle.text.proofs.Filling.{put-length}
-use Rattle.line.specs.Lines.{lines, frame, digits, firstLine}
+use Rattle.line.specs.Lines.{lines, frame}
+use Rattle.line.specs.Decoding.{digits, firstLine}
 use Rattle.line.specs.declared.Line as lined
 use Rattle.line.specs.declared.Line.the-variants as hexed
 use Rattle.line.proofs.FirstLine.{Read, line-read, line-unhex}
 use Rattle.table.specs.Table.{Member, Rule}
 use Rattle.table.specs.Frame.{Entry, version, group, member, rule, entryOf}
 use Rattle.table.specs.Refusal.{Line, notHex, reads, framed, decoded, lineOf, Earlier, first, with, after, refusal}
-use Rattle.table.specs.Text.{unless, judge, check, maybe, collect, entries, asGroup, asMember, asRule, table, tableOf}
-use Rattle.table.proofs.Entries.{entries-cons, collect-cons}
+use Rattle.table.specs.Text.{unless, judge, check, entries, asGroup, asMember, asRule, table, tableOf}
+use Rattle.table.proofs.Entries.{entries-cons}
 use Rattle.table.specs.declared.Checked.{Checked}
 use Rattle.table.specs.declared.Checked.the-variants as checked
 use Rattle.load.specs.declared.row.Counts.{Counts}
@@ -28,9 +31,9 @@ use Rattle.load.specs.declared.Loaded.the-variants.{Table, Refused}
 use Rattle.rows.specs.Strings.{rowsOf, stringsIn}
 use Rattle.sorted.proofs.Growing.{none as none-sorted, none-there as no-name}
 use Rattle.hash_set.proofs.Sets.{holds-none}
-use Rattle.keep.specs.Held.{membersIn, bytesOf, memberPlace}
-use Rattle.keep_rule.specs.Kept.{idPlace}
-use Rattle.load.specs.Held.{idsOf, RulesAt, HoldersAt, Held, counted}
+use Rattle.keep.specs.Held.{memberKeys, membersIn, bytesOf, memberPlace}
+use Rattle.keep_rule.specs.Kept.{idsOf, idKeys, idPlace}
+use Rattle.load.specs.Held.{RulesAt, HoldersAt, Long, Held, counted}
 use Rattle.load.specs.Loaded.{Grown, Outcome}
 
 -- ---- stored bytes
@@ -55,13 +58,13 @@ judge-line : (n : ℕ) (b : Earlier) (l : Str) (ls : List Str) (x : Line) → li
 unfolding judge
 judge-line n b l ls x e = rw e
 
-unless-not : (n line : ℕ) (next : Checked) → (n ≡ 255 → ⊥) → unless n line next ≡ checked.Refused n line
+unless-not : (n line : ℕ) (next : Checked) → (n ≡ clear → ⊥) → unless n line next ≡ checked.Refused n line
 unfolding unless if_then_else_
-unless-not n line next h = rw (ne-eqb n 255 h)
+unless-not n line next h = rw (ne-eqb n clear h)
 
-unless-clear : (n line : ℕ) (next : Checked) → n ≡ 255 → unless n line next ≡ next
+unless-clear : (n line : ℕ) (next : Checked) → n ≡ clear → unless n line next ≡ next
 unfolding unless if_then_else_
-unless-clear n line next h = rw (eq-eqb n 255 h)
+unless-clear n line next h = rw (eq-eqb n clear h)
 
 line-hex : (l f : Str) → frame l ≡ some f → lineOf l ≡ framed (entryOf f)
 unfolding lineOf decoded
@@ -77,91 +80,94 @@ framed-some f e i = rw i
 
 -- ---- what an entry adds
 
-with-groups : (b : Earlier) (e : Entry) (rest : List Str) → b .groups ++ maybe (asGroup e) rest ≡ with b e .groups ++ rest
-unfolding maybe asGroup with
+-- one more, if there is one
+abbrev filterMap-one : {A : Type 0} → Option A → List A → List A
+filterMap-one x xs = Option·elim x xs (λ y. y ∷ xs)
+
+filterMap-cons : {A : Type 0} (f : Entry → Option A) (e : Entry) (es : List Entry) → filterMap f (e ∷ es) ≡ filterMap-one (f e) (filterMap f es)
+unfolding filterMap
+filterMap-cons f e es = refl
+
+with-groups : (b : Earlier) (e : Entry) (rest : List Str) → b .groups ++ filterMap-one (asGroup e) rest ≡ with b e .groups ++ rest
+unfolding Option·elim asGroup with
 with-groups b (version v t) rest = refl
 with-groups b (group n) rest = sym (append-snoc (b .groups) n rest)
 with-groups b (member m) rest = refl
 with-groups b (rule r) rest = refl
 
-with-members : (b : Earlier) (e : Entry) (rest : List Member) → b .members ++ maybe (asMember e) rest ≡ with b e .members ++ rest
-unfolding maybe asMember with
+with-members : (b : Earlier) (e : Entry) (rest : List Member) → b .members ++ filterMap-one (asMember e) rest ≡ with b e .members ++ rest
+unfolding Option·elim asMember with
 with-members b (version v t) rest = refl
 with-members b (group n) rest = refl
 with-members b (member m) rest = sym (append-snoc (b .members) m rest)
 with-members b (rule r) rest = refl
 
-more-rules : (rules : List Rule) (e : Entry) (rest : List Rule) → rules ++ maybe (asRule e) rest ≡ (rules ++ maybe (asRule e) []) ++ rest
-unfolding maybe asRule
-more-rules rules (version v t) rest = ap (λ (l : List Rule). l ++ rest) (sym (append-nil rules))
-more-rules rules (group n) rest = ap (λ (l : List Rule). l ++ rest) (sym (append-nil rules))
-more-rules rules (member m) rest = ap (λ (l : List Rule). l ++ rest) (sym (append-nil rules))
-more-rules rules (rule r) rest = sym (append-snoc rules r rest)
+with-rules : (b : Earlier) (e : Entry) (rest : List Rule) → b .rules ++ filterMap-one (asRule e) rest ≡ with b e .rules ++ rest
+unfolding Option·elim asRule with
+with-rules b (version v t) rest = refl
+with-rules b (group n) rest = refl
+with-rules b (member m) rest = refl
+with-rules b (rule r) rest = sym (append-snoc (b .rules) r rest)
 
 -- ---- the invariant
 
-pub record Going (text buf : List ℕ) (c : Counts) (groups users owners ids starts holders names ms is : List ℕ) (from used number : ℕ) : Type 0 where
+pub record Going (text buf : List ℕ) (c : Counts) (groups users owners starts holders names ms is : List ℕ) (from used number : ℕ) : Type 0 where
   pub b : Earlier
-  pub rules : List Rule
   pub judged : check text ≡ judge number b (lines (drop from text))
-  pub held : Held b rules (take used buf) c groups users owners ids starts holders names ms is
-  pub groups-left : tableOf text .groups ≡ b .groups ++ collect asGroup (entries (lines (drop from text)))
-  pub members-left : tableOf text .members ≡ b .members ++ collect asMember (entries (lines (drop from text)))
-  pub rules-left : tableOf text .rules ≡ rules ++ collect asRule (entries (lines (drop from text)))
+  pub held : Held b (take used buf) c groups users owners starts holders names ms is
+  pub groups-left : tableOf text .groups ≡ b .groups ++ filterMap asGroup (entries (lines (drop from text)))
+  pub members-left : tableOf text .members ≡ b .members ++ filterMap asMember (entries (lines (drop from text)))
+  pub rules-left : tableOf text .rules ≡ b .rules ++ filterMap asRule (entries (lines (drop from text)))
   pub paced : used + used + number ≡ from + 1
-  pub within : (from ≤ length text) × (length text ≤ 32768) × (16384 ≤ length buf)
+  pub within : (from ≤ length text) × (length text ≤ maxTableText) × (maxTableBytes ≤ length buf)
 
-start-table : (text : List ℕ) → (tableOf text .groups ≡ [] ++ collect asGroup (entries (lines (drop 0 text)))) × (tableOf text .members ≡ [] ++ collect asMember (entries (lines (drop 0 text)))) × (tableOf text .rules ≡ [] ++ collect asRule (entries (lines (drop 0 text))))
+start-table : (text : List ℕ) → (tableOf text .groups ≡ [] ++ filterMap asGroup (entries (lines (drop 0 text)))) × (tableOf text .members ≡ [] ++ filterMap asMember (entries (lines (drop 0 text)))) × (tableOf text .rules ≡ [] ++ filterMap asRule (entries (lines (drop 0 text))))
 unfolding tableOf table
 start-table text = (refl, refl, refl)
 
 module _ (text : List ℕ) where
-  pub over : 32768 < length text → check text ≡ checked.Refused 1 0
+  pub over : maxTableText < length text → check text ≡ checked.Refused 1 0
   unfolding check if_then_else_
-  over h = rw (lt-ltb 32768 (length text) h)
+  over h = rw (lt-ltb maxTableText (length text) h)
 
-  module _ (fits : length text ≤ 32768) where
+  module _ (fits : length text ≤ maxTableText) where
     pub none-there : length text ≡ 0 → check text ≡ checked.Refused 4 1
     unfolding check if_then_else_
-    none-there h = rw (le-ltb 32768 (length text) fits, eq-eqb (length text) 0 h)
+    none-there h = rw (le-ltb maxTableText (length text) fits, eq-eqb (length text) 0 h)
 
     check-judges : (length text ≡ 0 → ⊥) → check text ≡ judge 1 first (lines text)
     unfolding check if_then_else_
-    check-judges h = rw (le-ltb 32768 (length text) fits, ne-eqb (length text) 0 h)
+    check-judges h = rw (le-ltb maxTableText (length text) fits, ne-eqb (length text) 0 h)
 
     -- nothing is held yet
-    pub load-start : (length text ≡ 0 → ⊥) → (buf groups users owners ids starts holders names ms is : List ℕ) → 16384 ≤ length buf
-        → (length groups ≡ 64) × (length users ≡ 512) × (length owners ≡ 512) × (length ids ≡ 256) × (length starts ≡ 256) × (length holders ≡ 256)
-        → (length ms ≡ 4609) × (length is ≡ 2305) → ((p : ℕ) → getD ms p 0 ≡ 0) → ((p : ℕ) → getD is p 0 ≡ 0)
-        → Going text buf (record { kind = 0; groups = 0; members = 0; rules = 0 }) groups users owners ids starts holders names ms is 0 0 1
+    pub load-start : (length text ≡ 0 → ⊥) → (buf groups users owners starts holders names ms is : List ℕ) → maxTableBytes ≤ length buf
+        → Long groups users owners starts holders
+        → (length ms ≡ memberKeys) × (length is ≡ idKeys) → ((p : ℕ) → getD ms p 0 ≡ 0) → ((p : ℕ) → getD is p 0 ≡ 0)
+        → Going text buf (record { kind = 0; groups = 0; members = 0; rules = 0 }) groups users owners starts holders names ms is 0 0 1
     unfolding first stringsIn membersIn rowsOf idsOf RulesAt HoldersAt twice any bytesOf
-    load-start h buf groups users owners ids starts holders names ms is room long sets ms-none is-none =
+    load-start h buf groups users owners starts holders names ms is room long sets ms-none is-none =
         let t = start-table text in
         record {
           b = first;
-          rules = [];
           judged = check-judges h;
           held = record {
             kind = refl;
-            told-ids = refl;
             holds = record {
               groups-are = refl;
               members-are = refl;
-              ids-are = refl;
               rules-are = tt;
               rules-count = refl;
               holders-are = tt;
               groups-laid = λ i k. absurd (omega arith);
               users-laid = λ i k. absurd (omega arith);
-              ids-laid = λ i k. absurd (omega arith);
               owned = λ i k. absurd (omega arith);
               distinct = refl;
               few = (omega arith, omega arith, omega arith);
               long = long;
             };
             named = record { sorted = none-sorted [] names; told = λ y. sym (no-name [] names y) };
-            members-set = holds-none memberPlace [] ms 512 ms-none;
-            ids-set = holds-none idPlace [] is 256 is-none;
+            members-set = holds-none memberPlace [] ms maxMembers ms-none;
+            ids-set = holds-none idPlace [] is maxRules is-none;
             sets-long = sets;
           };
           groups-left = t .0;
@@ -173,21 +179,21 @@ module _ (text : List ℕ) where
 
 -- ---- the end
 
-module _ {text buf : List ℕ} {c : Counts} {groups users owners ids starts holders names ms is : List ℕ} {from used number : ℕ}
-    (G : Going text buf c groups users owners ids starts holders names ms is from used number) where
+module _ {text buf : List ℕ} {c : Counts} {groups users owners starts holders names ms is : List ℕ} {from used number : ℕ}
+    (G : Going text buf c groups users owners starts holders names ms is from used number) where
   pub line-room : (from ≤ length text) × (used + (length text - from) / 2 ≤ length buf)
   line-room = (G .within .0, omega (arith, G .paced, G .within))
 
-  pub number-room : number ≤ 32769
+  pub number-room : number ≤ maxTableText + 1
   number-room = omega (arith, G .paced, G .within)
 
-  pub load-end : length text ≤ from → Outcome text (Table used c) buf groups users owners ids starts holders
-  unfolding Outcome judge lines entries collect
+  pub load-end : length text ≤ from → Outcome text (Table used c) buf groups users owners starts holders
+  unfolding Outcome judge lines entries filterMap
   load-end h =
       let n : drop from text ≡ [] = drop-of-length-le text h in
       let g : tableOf text .groups ≡ G .b .groups = G .groups-left ∙ rw n (append-nil (G .b .groups)) in
       let m : tableOf text .members ≡ G .b .members = G .members-left ∙ rw n (append-nil (G .b .members)) in
-      let r : tableOf text .rules ≡ G .rules = G .rules-left ∙ rw n (append-nil (G .rules)) in
+      let r : tableOf text .rules ≡ G .b .rules = G .rules-left ∙ rw n (append-nil (G .b .rules)) in
       record {
         accepts = G .judged ∙ rw n;
         within = (omega (arith, G .paced, G .within), omega (arith, G .paced, G .within));
@@ -214,13 +220,13 @@ module _ {text buf : List ℕ} {c : Counts} {groups users owners ids starts hold
     here : used ≤ length buf
     here = omega (arith, G .paced, G .within)
 
-    pub row-room : (used < used + len) × (used + len ≤ length buf) × (used + len ≤ 16384)
+    pub row-room : (used < used + len) × (used + len ≤ length buf) × (used + len ≤ maxTableBytes)
     row-room = (omega (arith, R .some′), omega (arith, G .paced, G .within, R .goes, R .ends), omega (arith, G .paced, G .within, R .goes, R .ends))
 
     pub same-long : length buf′ ≡ length buf
     same-long = ap length o ∙ put-length buf used f (omega (arith, row-room .1, R .size))
 
-    pub row-fits : (used < used + len) × (used + len ≤ length buf′) × (used + len ≤ 16384)
+    pub row-fits : (used < used + len) × (used + len ≤ length buf′) × (used + len ≤ maxTableBytes)
     row-fits = (row-room .0, omega (arith, row-room .1, same-long), row-room .2)
 
     pub goes-on : (from < next) × (next ≤ length text)
@@ -232,7 +238,7 @@ module _ {text buf : List ℕ} {c : Counts} {groups users owners ids starts hold
     frame-same : part buf′ used (used + len) ≡ f
     frame-same = ap (λ (l : List ℕ). part l used (used + len)) o ∙ put-part buf used f here (used + len) (ap (λ (n : ℕ). used + n) (R .size))
 
-    pub held-again : Held (G .b) (G .rules) (take used buf′) c groups users owners ids starts holders names ms is
+    pub held-again : Held (G .b) (take used buf′) c groups users owners starts holders names ms is
     held-again = rw old-same (G .held)
 
     line-is : lineOf (R .line) ≡ framed (entryOf (part buf′ used (used + len)))
@@ -241,17 +247,17 @@ module _ {text buf : List ℕ} {c : Counts} {groups users owners ids starts hold
     judged-line : check text ≡ unless (refusal (G .b) (framed (entryOf (part buf′ used (used + len))))) number (judge (number + 1) (after (G .b) (framed (entryOf (part buf′ used (used + len))))) (lines (drop next text)))
     judged-line = G .judged ∙ ap (judge number (G .b)) (R .first) ∙ judge-line number (G .b) (R .line) (lines (drop next text)) _ line-is
 
-    module _ {groups′ users′ owners′ ids′ starts′ holders′ names′ ms′ is′ : List ℕ} (m : ℕ)
-        (ens : (b : Earlier) (rules : List Rule) → Held b rules (take used buf′) c groups users owners ids starts holders names ms is
-        → (m ≡ refusal b (framed (entryOf (part buf′ used (used + len))))) × (m ≡ 255 → Grown b rules (take used buf′) (part buf′ used (used + len)) c groups′ users′ owners′ ids′ starts′ holders′ names′ ms′ is′)) where
-      pub load-refused : (m ≡ 255 → ⊥) → check text ≡ checked.Refused m number
+    module _ {groups′ users′ owners′ starts′ holders′ names′ ms′ is′ : List ℕ} (m : ℕ)
+        (ens : (b : Earlier) → Held b (take used buf′) c groups users owners starts holders names ms is
+        → (m ≡ refusal b (framed (entryOf (part buf′ used (used + len))))) × (m ≡ clear → Grown b (take used buf′) (part buf′ used (used + len)) c groups′ users′ owners′ starts′ holders′ names′ ms′ is′)) where
+      pub load-refused : (m ≡ clear → ⊥) → check text ≡ checked.Refused m number
       load-refused n =
-          let q = ens (G .b) (G .rules) held-again .0 in
+          let q = ens (G .b) held-again .0 in
           judged-line ∙ ap (λ (k : ℕ). unless k number (judge (number + 1) (after (G .b) (framed (entryOf (part buf′ used (used + len))))) (lines (drop next text)))) (sym q) ∙ unless-not m number _ n
 
-      module _ (fine : m ≡ 255) where
-        W : Grown (G .b) (G .rules) (take used buf′) (part buf′ used (used + len)) c groups′ users′ owners′ ids′ starts′ holders′ names′ ms′ is′
-        W = ens (G .b) (G .rules) held-again .1 fine
+      module _ (fine : m ≡ clear) where
+        W : Grown (G .b) (take used buf′) (part buf′ used (used + len)) c groups′ users′ owners′ starts′ holders′ names′ ms′ is′
+        W = ens (G .b) held-again .1 fine
 
         reads-this : framed (entryOf (part buf′ used (used + len))) ≡ reads (W .this)
         reads-this = framed-some (part buf′ used (used + len)) (W .this) (W .reads)
@@ -259,25 +265,24 @@ module _ {text buf : List ℕ} {c : Counts} {groups users owners ids starts hold
         entries-here : entries (lines (drop from text)) ≡ W .this ∷ entries (lines (drop next text))
         entries-here = ap entries (R .first) ∙ entries-cons (R .line) (lines (drop next text)) (W .this) (line-is ∙ reads-this)
 
-        pub load-again : (c′ : Counts) → c′ ≡ counted c (getD buf′ used 0) → Going text buf′ c′ groups′ users′ owners′ ids′ starts′ holders′ names′ ms′ is′ next (used + len) (number + 1)
+        pub load-again : (c′ : Counts) → c′ ≡ counted c (getD buf′ used 0) → Going text buf′ c′ groups′ users′ owners′ starts′ holders′ names′ ms′ is′ next (used + len) (number + 1)
         unfolding after
         load-again c′ p =
-            let q = ens (G .b) (G .rules) held-again .0 in
+            let q = ens (G .b) held-again .0 in
             let l : len ≡ used + len - used = omega arith in
             let t : take (used + len) buf′ ≡ take used buf′ ++ part buf′ used (used + len) = take-add used len buf′ ∙ ap (λ (k : ℕ). take used buf′ ++ take k (drop used buf′)) l in
             let k : c′ ≡ counted c (getD (part buf′ used (used + len)) 0 0) = p ∙ ap (counted c) (sym (part-first buf′ used (used + len) (row-room .0))) in
             record {
               b = with (G .b) (W .this);
-              rules = G .rules ++ maybe (asRule (W .this)) [];
               judged =
                   judged-line
                   ∙ ap (λ (k : ℕ). unless k number (judge (number + 1) (after (G .b) (framed (entryOf (part buf′ used (used + len))))) (lines (drop next text)))) (sym q)
                   ∙ unless-clear m number _ fine
                   ∙ ap (λ (x : Line). judge (number + 1) (after (G .b) x) (lines (drop next text))) reads-this;
               held = rw (t, k) (W .held);
-              groups-left = G .groups-left ∙ ap (λ (x : List Entry). G .b .groups ++ collect asGroup x) entries-here ∙ ap (λ (x : List Str). G .b .groups ++ x) (collect-cons asGroup (W .this) (entries (lines (drop next text)))) ∙ with-groups (G .b) (W .this) _;
-              members-left = G .members-left ∙ ap (λ (x : List Entry). G .b .members ++ collect asMember x) entries-here ∙ ap (λ (x : List Member). G .b .members ++ x) (collect-cons asMember (W .this) (entries (lines (drop next text)))) ∙ with-members (G .b) (W .this) _;
-              rules-left = G .rules-left ∙ ap (λ (x : List Entry). G .rules ++ collect asRule x) entries-here ∙ ap (λ (x : List Rule). G .rules ++ x) (collect-cons asRule (W .this) (entries (lines (drop next text)))) ∙ more-rules (G .rules) (W .this) _;
+              groups-left = G .groups-left ∙ ap (λ (x : List Entry). G .b .groups ++ filterMap asGroup x) entries-here ∙ ap (λ (x : List Str). G .b .groups ++ x) (filterMap-cons asGroup (W .this) (entries (lines (drop next text)))) ∙ with-groups (G .b) (W .this) _;
+              members-left = G .members-left ∙ ap (λ (x : List Entry). G .b .members ++ filterMap asMember x) entries-here ∙ ap (λ (x : List Member). G .b .members ++ x) (filterMap-cons asMember (W .this) (entries (lines (drop next text)))) ∙ with-members (G .b) (W .this) _;
+              rules-left = G .rules-left ∙ ap (λ (x : List Entry). G .b .rules ++ filterMap asRule x) entries-here ∙ ap (λ (x : List Rule). G .b .rules ++ x) (filterMap-cons asRule (W .this) (entries (lines (drop next text)))) ∙ with-rules (G .b) (W .this) _;
               paced = omega (arith, G .paced, R .goes);
               within = (R .ends, G .within .1, omega (arith, same-long, G .within .2));
             }

@@ -2,6 +2,7 @@
 ghost use mathlib.Core.Path.{_≡_};
 ghost use Prim.Native.Nat.{_≤_};
 ghost use lib.ListN.{length};
+ghost use Rattle.limits.specs.Limits.{maxTableBytes, maxGroups, maxMembers, maxRules};
 ghost use Rattle.load.specs.Loaded.{Outcome};
 use crate::row::Counts;
 use line::Line;
@@ -15,33 +16,37 @@ pub enum Loaded {
 }
 
 // Reads the text line by line, and stops at the first faulty line. `buf` gets the decoded frames, half as long as the text at most;
-// `groups`, `users` and `ids` get the positions of strings in the decoded bytes, `starts` those of the rules' frames after the kind byte;
+// `groups` and `users` get the positions of strings in the decoded bytes, `starts` those of the rules' frames after the kind byte;
 // `owners` and `holders` the numbers of the groups of members and of rules.
 pub fn load(
     text: &[u8],
     buf: &mut [u8],
-    groups: &mut [u16; 64],
-    users: &mut [u16; 512],
-    owners: &mut [u8; 512],
-    ids: &mut [u16; 256],
-    starts: &mut [u16; 256],
-    holders: &mut [u8; 256],
+    groups: &mut [u16; limits::MAX_GROUPS],
+    users: &mut [u16; limits::MAX_MEMBERS],
+    owners: &mut [u8; limits::MAX_MEMBERS],
+    starts: &mut [u16; limits::MAX_RULES],
+    holders: &mut [u8; limits::MAX_RULES],
 ) -> Loaded
-    requires { ⌜ 16384 ≤ length (now buf) ⌝ }
-    requires { ⌜ (length (now groups) ≡ 64) × (length (now users) ≡ 512) × (length (now owners) ≡ 512) × (length (now ids) ≡ 256) × (length (now starts) ≡ 256) × (length (now holders) ≡ 256) ⌝ }
-    ensures { λ r. ⌜ Outcome (now (text .entry)) r (now (buf .exit)) (now (groups .exit)) (now (users .exit)) (now (owners .exit)) (now (ids .exit)) (now (starts .exit)) (now (holders .exit)) ⌝ }
+    requires { ⌜ maxTableBytes ≤ length (now buf) ⌝ }
+    requires { ⌜ (length (now groups) ≡ maxGroups)
+        × (length (now users) ≡ maxMembers)
+        × (length (now owners) ≡ maxMembers)
+        × (length (now starts) ≡ maxRules)
+        × (length (now holders) ≡ maxRules) ⌝ }
+    ensures { λ r. ⌜ Outcome (now (text .entry)) r (now (buf .exit))
+        (now (groups .exit)) (now (users .exit)) (now (owners .exit)) (now (starts .exit)) (now (holders .exit)) ⌝ }
 {
-    if 32768 < text.len() {
+    if limits::MAX_TABLE_TEXT < text.len() {
         return Loaded::Refused { number: 1, line: 0 };
     }
     if text.len() == 0 {
         return Loaded::Refused { number: 4, line: 1 };
     }
     // the group names, by hash and sorted; the sets of members and of ids
-    let mut hints = [0u8; 1024];
-    let mut names = [0u32; 64];
-    let mut member_keys = [0u32; 4609];
-    let mut id_keys = [0u32; 2305];
+    let mut hints = [0u8; keep::HINT_PLACES];
+    let mut names = [0u32; limits::MAX_GROUPS];
+    let mut member_keys = [0u32; keep::MEMBER_KEYS];
+    let mut id_keys = [0u32; keep_rule::ID_KEYS];
     let mut c = Counts {
         kind: 0,
         groups: 0,
@@ -69,14 +74,13 @@ pub fn load(
             &mut hints,
             users,
             owners,
-            ids,
             starts,
             holders,
             &mut names,
             &mut member_keys,
             &mut id_keys,
         );
-        if number != 255 {
+        if number != limits::CLEAR {
             return Loaded::Refused {
                 number: number,
                 line: line,

@@ -1,10 +1,10 @@
 // A row of any kind.
 ghost use mathlib.Core.Path.{_≡_};
-ghost use mathlib.Core.List.{List};
-ghost use Prim.Native.Nat.{_+_, _≤_, _<_};
+ghost use Prim.Native.Nat.{_≤_, _<_};
 ghost use lib.ListN.{length, take};
+ghost use Rattle.limits.specs.Limits.{maxTableBytes, maxGroups, maxMembers, maxRules};
+ghost use Rattle.text.specs.Refusal.{clear};
 ghost use Rattle.text.specs.Frame.{part};
-ghost use Rattle.table.specs.Table.{Rule};
 ghost use Rattle.table.specs.Frame.{entryOf};
 ghost use Rattle.table.specs.Refusal.{Earlier, framed, refusal};
 ghost use Rattle.load.specs.Held.{Held, counted};
@@ -20,28 +20,28 @@ pub struct Counts {
 
 // The counts after one row more, of that kind.
 pub fn after(c: Counts, kind: u8) -> Counts
-    requires { ⌜ (c .groups ≤ 64) × (c .members ≤ 512) × (c .rules ≤ 256) ⌝ }
+    requires { ⌜ (c .groups ≤ maxGroups) × (c .members ≤ maxMembers) × (c .rules ≤ maxRules) ⌝ }
     ensures { λ r. ⌜ r ≡ counted c kind ⌝ }
 {
-    if kind == 2 {
+    if kind == table::KIND_GROUP {
         return Counts {
-            kind: 2,
+            kind: table::KIND_GROUP,
             groups: c.groups + 1,
             members: c.members,
             rules: c.rules,
         };
     }
-    if kind == 3 {
+    if kind == table::KIND_MEMBER {
         return Counts {
-            kind: 3,
+            kind: table::KIND_MEMBER,
             groups: c.groups,
             members: c.members + 1,
             rules: c.rules,
         };
     }
-    if kind == 4 {
+    if kind == table::KIND_RULE {
         return Counts {
-            kind: 4,
+            kind: table::KIND_RULE,
             groups: c.groups,
             members: c.members,
             rules: c.rules + 1,
@@ -55,37 +55,45 @@ pub fn after(c: Counts, kind: u8) -> Counts
     }
 }
 
-// The number of the frame that stands from `used` to `end`, after the rows before it. It is kept where that is 255.
+// The number of the frame that stands from `used` to `end`, after the rows before it. It is kept where that is CLEAR.
 pub fn take_row(
     buf: &[u8],
     used: usize,
     end: usize,
     c: Counts,
-    groups: &mut [u16; 64],
-    hints: &mut [u8; 1024],
-    users: &mut [u16; 512],
-    owners: &mut [u8; 512],
-    ids: &mut [u16; 256],
-    starts: &mut [u16; 256],
-    holders: &mut [u8; 256],
-    names: &mut [u32; 64],
-    memberkeys: &mut [u32; 4609],
-    idkeys: &mut [u32; 2305],
+    groups: &mut [u16; limits::MAX_GROUPS],
+    hints: &mut [u8; keep::HINT_PLACES],
+    users: &mut [u16; limits::MAX_MEMBERS],
+    owners: &mut [u8; limits::MAX_MEMBERS],
+    starts: &mut [u16; limits::MAX_RULES],
+    holders: &mut [u8; limits::MAX_RULES],
+    names: &mut [u32; limits::MAX_GROUPS],
+    memberkeys: &mut [u32; keep::MEMBER_KEYS],
+    idkeys: &mut [u32; keep_rule::ID_KEYS],
 ) -> u8
-    requires { ⌜ (used < end) × (end ≤ length (now buf)) × (end ≤ 16384) ⌝ }
-    requires { ⌜ ((b : Earlier) × (rules : List Rule) × Held b rules (take used (now buf)) c (now groups) (now users) (now owners) (now ids) (now starts) (now holders) (now names) (now memberkeys) (now idkeys)) ⌝ }
-    ensures { λ r. ⌜ ((b : Earlier) (rules : List Rule) → Held b rules (take used (now (buf .entry))) c (now (groups .entry)) (now (users .entry)) (now (owners .entry)) (now (ids .entry)) (now (starts .entry)) (now (holders .entry)) (now (names .entry)) (now (memberkeys .entry)) (now (idkeys .entry)) → (r ≡ refusal b (framed (entryOf (part (now (buf .entry)) used end)))) × (r ≡ 255 → Grown b rules (take used (now (buf .entry))) (part (now (buf .entry)) used end) c (now (groups .exit)) (now (users .exit)) (now (owners .exit)) (now (ids .exit)) (now (starts .exit)) (now (holders .exit)) (now (names .exit)) (now (memberkeys .exit)) (now (idkeys .exit)))) ⌝ }
+    requires { ⌜ (used < end) × (end ≤ length (now buf)) × (end ≤ maxTableBytes) ⌝ }
+    requires { ⌜ ((b : Earlier)
+        × Held b (take used (now buf)) c (now groups) (now users) (now owners) (now starts) (now holders)
+        (now names) (now memberkeys) (now idkeys)) ⌝ }
+    ensures { λ r. ⌜ ((b : Earlier)
+        → Held b (take used (now (buf .entry))) c (now (groups .entry)) (now (users .entry)) (now (owners .entry)) (now (starts .entry)) (now (holders .entry))
+        (now (names .entry)) (now (memberkeys .entry)) (now (idkeys .entry))
+        → (r ≡ refusal b (framed (entryOf (part (now (buf .entry)) used end))))
+        × (r ≡ clear
+        → Grown b (take used (now (buf .entry))) (part (now (buf .entry)) used end) c
+        (now (groups .exit)) (now (users .exit)) (now (owners .exit)) (now (starts .exit)) (now (holders .exit))
+        (now (names .exit)) (now (memberkeys .exit)) (now (idkeys .exit)))) ⌝ }
 {
     let old = &buf[..used];
     let f = &buf[used..end];
     let k = f[0];
-    if k == 1 {
+    if k == table::KIND_VERSION {
         return table::frame::version_number(f, c.kind);
     }
-    if k == 2 {
+    if k == table::KIND_GROUP {
         return keep::take_group(old, f, c.kind, groups, c.groups, hints, names);
     }
-    if k == 3 {
+    if k == table::KIND_MEMBER {
         return keep::take_member(
             old,
             f,
@@ -100,7 +108,7 @@ pub fn take_row(
             memberkeys,
         );
     }
-    if k == 4 {
+    if k == table::KIND_RULE {
         return keep_rule::take_rule(
             old,
             f,
@@ -109,7 +117,6 @@ pub fn take_row(
             c.groups,
             hints,
             names,
-            ids,
             starts,
             holders,
             c.rules,

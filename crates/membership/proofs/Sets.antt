@@ -9,6 +9,7 @@ use borrow.Author.Tests.{eqb-true, eqb-false}
 use lib.Dec.{eqb}
 use lib.Count.{ones, ones-step, trailingZeros}
 use lib.ListN.{length, getD}
+use Rattle.limits.specs.Limits.{maxGroups}
 use Rattle.text.specs.Test.{_and_, _or_, if_then_else_, any, twice}
 use Rattle.text.specs.String.{Str, same}
 use Rattle.text.proofs.Tests.{by, same-refl, neither, and-l}
@@ -210,5 +211,5 @@ module _ (named : List Str) (members : List Member) (user : Str) (f users owners
   pub count-is : ones (setIn user f users owners n 0 0) ≡ length (memberships members user 0 named)
   count-is = ones-count members user 0 named (setIn user f users owners n 0 0) answers
 
-  pub first-is : (k : ℕ) (ks : List ℕ) → length named ≤ 64 → memberships members user 0 named ≡ k ∷ ks → k ≡ trailingZeros 64 (setIn user f users owners n 0 0)
-  first-is k ks l e = let h : k ≡ 0 + trailingZeros 64 (setIn user f users owners n 0 0) = zeros-first members user 0 named 64 _ k ks l answers e in omega arith
+  pub first-is : (k : ℕ) (ks : List ℕ) → length named ≤ maxGroups → memberships members user 0 named ≡ k ∷ ks → k ≡ trailingZeros maxGroups (setIn user f users owners n 0 0)
+  first-is k ks l e = let h : k ≡ 0 + trailingZeros maxGroups (setIn user f users owners n 0 0) = zeros-first members user 0 named maxGroups _ k ks l answers e in omega arith

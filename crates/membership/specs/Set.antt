@@ -1,14 +1,17 @@
--- A set of group numbers below 64 is a number: its binary digit at g is 1 for each group g in the set.
-use Prim.Native.Nat.{ℕ, zero, suc, _/_, _%_, _^_}
+-- A set of group numbers is a number: its binary digit at g is 1 for each group g in the set.
+use Prim.Native.Nat.{ℕ, zero, suc, _/_, _%_, _^_, _≤_}
 use mathlib.Core.Bool.{Bool}
 use mathlib.Core.List.{List}
 use lib.Dec.{eqb}
 use lib.Bits.{bitOr}
 use lib.Count.{ones, trailingZeros}
-use lib.ListN.{getD}
+use lib.ListN.{length, getD}
+use Rattle.limits.specs.Limits.{maxGroups}
 use Rattle.text.specs.Test.{if_then_else_}
 use Rattle.text.specs.String.{Str, same}
 use Rattle.place.specs.Place.{strIn}
+use Rattle.rows.specs.Strings.{Listed}
+use Rattle.keep.specs.Held.{Owned}
 use Rattle.table.specs.Group.{badUser}
 use Rattle.table.specs.declared.Counted.{Counted}
 use Rattle.table.specs.declared.Counted.the-variants.{Count, NoGroup, Declined}
@@ -23,8 +26,13 @@ insertOf set g = bitOr set (2 ^ g)
 abbrev pub hasOf : ℕ → ℕ → Bool
 hasOf set g = eqb (set / 2 ^ g % 2) 1
 
--- the set, and the groups of those of n members, from number i on, that are the user: `users` has the position of each member's user in the bytes f,
--- `owners` the number of its group
+-- what a search among n members needs: `users` has the position of each one's user in the bytes f, `owners` the number of its group
+pub record Members (f users owners : List ℕ) (n : ℕ) : Type 0 where
+  pub listed : Listed f users n
+  pub room : n ≤ length owners
+  pub owned : Owned owners n maxGroups
+
+-- the set, and the groups of those of n members, from number i on, that are the user
 unfoldable pub setIn : Str → List ℕ → List ℕ → List ℕ → ℕ → ℕ → ℕ → ℕ
 setIn user f users owners zero i set = set
 setIn user f users owners (suc n) i set =
@@ -39,4 +47,4 @@ unfoldable pub countIn : Str → ℕ → Counted
 countIn user set =
     if badUser user then Declined 20 0
     else if eqb (ones set) 0 then NoGroup
-    else Count (ones set) (record { 0 = trailingZeros 64 set })
+    else Count (ones set) (record { 0 = trailingZeros maxGroups set })

@@ -2,19 +2,18 @@
 ghost use mathlib.Core.Path.{_≡_};
 ghost use Prim.Native.Nat.{_≤_, _<_};
 ghost use lib.ListN.{length};
+ghost use Rattle.limits.specs.Limits.{maxGroups};
 ghost use Rattle.text.specs.Test.{if_then_else_};
 ghost use Rattle.text.specs.String.{same};
 ghost use Rattle.place.specs.Place.{strEnd, strIn};
-ghost use Rattle.rows.specs.Strings.{Laid};
-ghost use Rattle.keep.specs.Held.{Owned};
-ghost use Rattle.membership.specs.Set.{insertOf, hasOf, setIn, groupOf, countIn};
+ghost use Rattle.membership.specs.Set.{insertOf, hasOf, Members, setIn, groupOf, countIn};
 use table::Counted;
 use table::GroupNumber;
 use table::RuleNumber;
 
 // The set with group g.
-pub fn insert(set: u64, g: GroupNumber) -> u64
-    requires { ⌜ g .0 < 64 ⌝ }
+fn insert(set: u64, g: GroupNumber) -> u64
+    requires { ⌜ g .0 < maxGroups ⌝ }
     ensures { λ r. ⌜ r ≡ insertOf set (g .0) ⌝ }
 {
     let n = g.0;
@@ -23,7 +22,7 @@ pub fn insert(set: u64, g: GroupNumber) -> u64
 
 // Group g is in the set.
 pub fn has(set: u64, g: GroupNumber) -> bool
-    requires { ⌜ g .0 < 64 ⌝ }
+    requires { ⌜ g .0 < maxGroups ⌝ }
     ensures { λ r. ⌜ r ≡ hasOf set (g .0) ⌝ }
 {
     let n = g.0;
@@ -41,7 +40,7 @@ pub fn group_of(holders: &[u8], rule: RuleNumber) -> GroupNumber
 
 // The group is put in where the string at `at` is the user.
 fn join(set: u64, g: GroupNumber, f: &[u8], at: usize, user: &[u8]) -> u64
-    requires { ⌜ (g .0 < 64) × (strEnd (now f) at ≤ length (now f)) ⌝ }
+    requires { ⌜ (g .0 < maxGroups) × (strEnd (now f) at ≤ length (now f)) ⌝ }
     ensures { λ r. ⌜ r ≡ (if same (now (user .entry)) (strIn (now (f .entry)) at) then insertOf set (g .0) else set) ⌝ }
 {
     if rows::is_at(f, at, user) {
@@ -52,7 +51,7 @@ fn join(set: u64, g: GroupNumber, f: &[u8], at: usize, user: &[u8]) -> u64
 
 // The set of the user's groups, by the first n members.
 pub fn memberships(f: &[u8], users: &[u16], owners: &[u8], n: usize, user: &[u8]) -> u64
-    requires { ⌜ Laid (now f) (now users) n × (n ≤ length (now users)) × (n ≤ length (now owners)) × Owned (now owners) n 64 ⌝ }
+    requires { ⌜ Members (now f) (now users) (now owners) n ⌝ }
     ensures { λ r. ⌜ r ≡ setIn (now (user .entry)) (now (f .entry)) (now (users .entry)) (now (owners .entry)) n 0 0 ⌝ }
 {
     let mut set: u64 = 0;
@@ -67,10 +66,10 @@ pub fn memberships(f: &[u8], users: &[u16], owners: &[u8], n: usize, user: &[u8]
 
 // The count of the user's groups, by the first n members.
 pub fn count_in(f: &[u8], users: &[u16], owners: &[u8], n: usize, user: &[u8]) -> Counted
-    requires { ⌜ Laid (now f) (now users) n × (n ≤ length (now users)) × (n ≤ length (now owners)) × Owned (now owners) n 64 ⌝ }
+    requires { ⌜ Members (now f) (now users) (now owners) n ⌝ }
     ensures { λ r. ⌜ r ≡ countIn (now (user .entry)) (setIn (now (user .entry)) (now (f .entry)) (now (users .entry)) (now (owners .entry)) n 0 0) ⌝ }
 {
-    if table::frame::is_unsized(64, user.len()) | !text::string::all_print(user) {
+    if table::is_bad_user(user) {
         return Counted::Declined {
             number: 20,
             line: 0,

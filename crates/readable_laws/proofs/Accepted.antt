@@ -30,7 +30,7 @@ use Rattle.path_text.proofs.Sound.{escaped-plain, escaped-mark}
 use Rattle.line.specs.Lines.{lines, frame}
 use Rattle.table.specs.Table.{Rule}
 use Rattle.table.specs.Frame.{Entry, version, group, member, rule, unknown, code, versionBody, groupBody, memberBody, ruleBody, ruleEntry, body, entry, whole, entryOf}
-use Rattle.table.specs.Refusal.{reads, framed, decoded, lineOf, Earlier, unsizedShort, pastLimit, stray, strays, misplaces, repeats, refusal, first, after}
+use Rattle.table.specs.Refusal.{reads, framed, decoded, lineOf, Earlier, unsizedShort, pastLimit, stray, strays, misplaces, sameId, repeats, refusal, first, after}
 use Rattle.table.specs.Text.{unless, judge, check}
 use Rattle.table.specs.declared.Checked.the-variants.{Accepted, Refused}
 use Rattle.table.proofs.Numbers.{refusal-clear}
@@ -273,9 +273,9 @@ fine b (rule r) h =
     let o = or-false-l _ _ (or-false-r (unsized (r .subject) or unsizedShort (r .id)) _ l) in
     let s = or-false-l _ _ (c .2) in
     let t = or-false-r (stray (r .subject)) _ s in
-    let ov = or-false-r ((unsized (r .subject) or unsizedShort (r .id)) or (ltb maxShortString (length (r .origin)) or leb maxRules (length (b .ids)))) _ (c .1) in
+    let ov = or-false-r ((unsized (r .subject) or unsizedShort (r .id)) or (ltb maxShortString (length (r .origin)) or leb maxRules (length (b .rules)))) _ (c .1) in
     let sb = or-false-r (stray (r .subject) or (stray (r .id) or stray (r .origin))) _ (c .2) in
-    let kt = or-false-r (any (same (r .id)) (b .ids)) _ (c .4) in
+    let kt = or-false-r (any (sameId r) (b .rules)) _ (c .4) in
     let g : not (overLimit (r .path) or strayByte (r .path) or misplaced (r .path) or keyTwice (r .path)) ≡ true = faultless (overLimit (r .path)) (strayByte (r .path)) (misplaced (r .path)) (keyTwice (r .path)) ov sb (c .3) kt in (
       (sized (r .subject) (or-false-l _ _ si), prints (r .subject) (or-false-l _ _ s)),
       (short (r .id) (or-false-r (unsized (r .subject)) _ si), prints (r .id) (or-false-l _ _ t)),

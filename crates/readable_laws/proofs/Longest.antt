@@ -189,7 +189,7 @@ line-longer l f r e i j k =
 
 -- by how much the readable lines that can still follow are longer
 unfoldable spare : Earlier → ℕ
-spare b = (if eqb (b .kind) 0 then 12 else 0) + 4 * (maxGroups - length (b .groups)) + 6 * (maxMembers - length (b .members)) + 29 * (maxRules - length (b .ids))
+spare b = (if eqb (b .kind) 0 then 12 else 0) + 4 * (maxGroups - length (b .groups)) + 6 * (maxMembers - length (b .members)) + 29 * (maxRules - length (b .rules))
 
 spends : (b : Earlier) (e : Entry) → refusal b (reads e) ≡ clear → slack e + spare (with b e) ≤ spare b
 unfolding slack spare with pastLimit kindOf outOfOrder if_then_else_ _or_
@@ -207,8 +207,8 @@ spends b (member m) h =
 spends b (rule r) h =
     let c = refusal-clear b (rule r) h in
     let o = or-false-r (unsized (r .subject) or unsizedShort (r .id)) _ (or-false-l _ (overLimit (r .path)) (c .1)) in
-    let l : length (b .ids) < maxRules = leb-false maxRules _ (or-false-r (ltb maxShortString (length (r .origin))) _ o) in
-    omega (arith, length-append (b .ids) (r .id ∷ []))
+    let l : length (b .rules) < maxRules = leb-false maxRules _ (or-false-r (ltb maxShortString (length (r .origin))) _ o) in
+    omega (arith, length-append (b .rules) (r ∷ []))
 
 after-with : (b : Earlier) (l f : Str) (e : Entry) → frame l ≡ some f → entryOf f ≡ some e → after b (lineOf l) ≡ with b e
 unfolding after lineOf decoded framed

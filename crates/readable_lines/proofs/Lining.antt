@@ -16,7 +16,8 @@ use Rattle.text.specs.Fill.{put, Wrote}
 use Rattle.text.proofs.Tests.{by}
 use Rattle.text.proofs.Filling.{wrote-long, wrote-more, wrote-byte}
 use Rattle.text_search.specs.Search.{until, is}
-use Rattle.line.specs.Lines.{lines, onto, digits, firstLine}
+use Rattle.line.specs.Lines.{lines, onto}
+use Rattle.line.specs.Decoding.{digits, firstLine}
 use Rattle.line.specs.declared.Line.{Line}
 use Rattle.line.specs.declared.Line.the-variants.{Frame, Bad}
 use Rattle.line.proofs.FirstLine.{Read, line-read, line-unhex}

@@ -14,7 +14,8 @@ use Rattle.text.specs.Frame.{got, unread, _>>=_, ret, part, stringBytes}
 use Rattle.text.specs.Fill.{put}
 use Rattle.text.proofs.Tests.{and-l}
 use Rattle.text.proofs.Filling.{wrote-byte, wrote-nothing}
-use Rattle.line.specs.Lines.{lines, frame, digits, firstLine}
+use Rattle.line.specs.Lines.{lines, frame}
+use Rattle.line.specs.Decoding.{digits, firstLine}
 use Rattle.line.specs.declared.Line.{Line}
 use Rattle.line.specs.declared.Line.the-variants.{Frame, Bad}
 use Rattle.line.proofs.FirstLine.{Read, line-read, line-unhex, lines-cons}

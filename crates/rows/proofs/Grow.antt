@@ -47,19 +47,15 @@ module _ {A : Type 0} where
   rows-at g (suc n) i zero d h = let e : i + 0 ≡ i = omega arith in rw e
   rows-at g (suc n) i (suc j) d h = let e : i + suc j ≡ suc i + j = omega arith in rows-at g n (suc i) j d (omega arith) ∙ ap g (sym e)
 
-pub strings-rows : (f starts : List ℕ) (n i : ℕ) → stringsIn f starts n i ≡ rowsOf (λ j. strIn f (getD starts j 0)) n i
-unfolding stringsIn rowsOf
-strings-rows f starts zero i = refl
-strings-rows f starts (suc n) i = ap (λ (l : List Str). strIn f (getD starts i 0) ∷ l) (strings-rows f starts n (suc i))
-
 pub strings-length : (f starts : List ℕ) (n : ℕ) → length (stringsIn f starts n 0) ≡ n
-strings-length f starts n = ap length (strings-rows f starts n 0) ∙ rows-length _ n 0
+unfolding stringsIn
+strings-length f starts n = rows-length _ n 0
 
 pub strings-at : (f starts : List ℕ) (n j : ℕ) → j < n → getD (stringsIn f starts n 0) j [] ≡ strIn f (getD starts j 0)
+unfolding stringsIn
 strings-at f starts n j h =
     let a : 0 + j ≡ j = omega arith in
-    ap (λ (l : List Str). getD l j []) (strings-rows f starts n 0) ∙ rows-at (λ j. strIn f (getD starts j 0)) n 0 j [] h
-    ∙ ap (λ (k : ℕ). strIn f (getD starts k 0)) a
+    rows-at (λ j. strIn f (getD starts j 0)) n 0 j [] h ∙ ap (λ (k : ℕ). strIn f (getD starts k 0)) a
 
 -- ---- bytes after the string
 
@@ -85,10 +81,9 @@ module _ (f g starts : List ℕ) (n v : ℕ) (laid : Laid f starts n) (long : n 
   old-string j h = ap (strIn (f ++ g)) (old-start j h) ∙ string-front f g (getD starts j 0) (laid j h)
 
   pub strings-grow : (s : Str) → strIn (f ++ g) v ≡ s → stringsIn (f ++ g) (set starts n v) (n + 1) 0 ≡ stringsIn f starts n 0 ++ (s ∷ [])
+  unfolding stringsIn
   strings-grow s e =
-      strings-rows (f ++ g) (set starts n v) (n + 1) 0
-      ∙ rows-grow (λ j. strIn f (getD starts j 0)) (λ j. strIn (f ++ g) (getD (set starts n v) j 0)) n s old-string (ap (strIn (f ++ g)) new-start ∙ e)
-      ∙ ap (λ (l : List Str). l ++ (s ∷ [])) (sym (strings-rows f starts n 0))
+      rows-grow (λ j. strIn f (getD starts j 0)) (λ j. strIn (f ++ g) (getD (set starts n v) j 0)) n s old-string (ap (strIn (f ++ g)) new-start ∙ e)
 
   pub laid-grow : strEnd (f ++ g) v ≤ length (f ++ g) → Laid (f ++ g) (set starts n v) (n + 1)
   laid-grow e j h =
@@ -105,10 +100,9 @@ module _ (f g starts : List ℕ) (n : ℕ) (laid : Laid f starts n) where
   laid-stays j h = rw (past-front f g (getD starts j 0) (laid j h)) (omega (arith, laid j h, length-append f g))
 
   pub strings-stay : stringsIn (f ++ g) starts n 0 ≡ stringsIn f starts n 0
+  unfolding stringsIn
   strings-stay =
-      strings-rows (f ++ g) starts n 0
-      ∙ rows-same (λ j. strIn (f ++ g) (getD starts j 0)) (λ j. strIn f (getD starts j 0)) n 0 (λ j p q. string-front f g (getD starts j 0) (laid j (omega arith)))
-      ∙ sym (strings-rows f starts n 0)
+      rows-same (λ j. strIn (f ++ g) (getD starts j 0)) (λ j. strIn f (getD starts j 0)) n 0 (λ j p q. string-front f g (getD starts j 0) (laid j (omega arith)))
 
 -- ---- places of distinct strings
 

@@ -11,7 +11,7 @@ use borrow.Author.Tests.{le-ltb, lt-ltb}
 use Rattle.text.specs.Test.{_and_, if_then_else_}
 use Rattle.text.specs.String.{Str, same}
 use Rattle.place.specs.Place.{strEnd, strIn}
-use Rattle.rows.specs.Strings.{stringsIn, place}
+use Rattle.rows.specs.Strings.{rowsOf, stringsIn, place}
 
 -- where a string lies
 module _ (f : List ℕ) (at : ℕ) (h : strEnd f at ≤ length f) where
@@ -23,7 +23,7 @@ module _ (f : List ℕ) (at : ℕ) (h : strEnd f at ≤ length f) where
 
 module _ (f starts : List ℕ) (n : ℕ) (name : Str) (i : ℕ) where
   strings-cons : i < n → stringsIn f starts (n - i) i ≡ strIn f (getD starts i 0) ∷ stringsIn f starts (n - (i + 1)) (i + 1)
-  unfolding stringsIn
+  unfolding stringsIn rowsOf
   strings-cons h = let e : n - i ≡ suc (n - (i + 1)) = omega arith in rw (e, add-one)
 
   pub find-pass : (w : ℕ) → i < n → same name (strIn f (getD starts i 0)) ≡ false
@@ -36,7 +36,7 @@ module _ (f starts : List ℕ) (n : ℕ) (name : Str) (i : ℕ) where
   find-hit w h e g = let k : place name (stringsIn f starts (n - i) i) ≡ 0 = rw (strings-cons h, e) in omega arith
 
   pub find-end : (w : ℕ) → i ≤ n → n ≤ i → w ≡ i + place name (stringsIn f starts (n - i) i) → n ≡ w
-  unfolding place stringsIn
+  unfolding place stringsIn rowsOf
   find-end w l h g = let e : n - i ≡ 0 = omega arith in let k : place name (stringsIn f starts (n - i) i) ≡ 0 = rw e in omega arith
 
 pub find-start : (f starts : List ℕ) (n : ℕ) (name : Str) → place name (stringsIn f starts n 0) ≡ 0 + place name (stringsIn f starts (n - 0) 0)

@@ -1,8 +1,10 @@
 -- Rows of a table by arrays of positions: `starts` has the position of each row's string (its length byte) in the decoded bytes f.
 use Prim.Native.Nat.{ℕ, zero, suc, _/_, _≤_, _<_}
+use mathlib.Core.Path.{_≡_}
+use mathlib.Core.Bool.{false}
 use mathlib.Core.List.{List, [], _∷_}
 use lib.ListN.{length, getD}
-use Rattle.text.specs.Test.{if_then_else_}
+use Rattle.text.specs.Test.{if_then_else_, twice}
 use Rattle.text.specs.String.{Str, same}
 use Rattle.place.specs.Place.{strEnd, strIn}
 use Rattle.hash.specs.declared.Seed.{Seed}
@@ -15,12 +17,21 @@ rowsOf g (suc n) i = g i ∷ rowsOf g n (suc i)
 
 -- n strings, from number i on
 unfoldable pub stringsIn : List ℕ → List ℕ → ℕ → ℕ → List Str
-stringsIn f starts zero i = []
-stringsIn f starts (suc n) i = strIn f (getD starts i 0) ∷ stringsIn f starts n (suc i)
+stringsIn f starts n i = rowsOf (λ j. strIn f (getD starts j 0)) n i
 
 -- the first n strings lie within the bytes
 abbrev pub Laid : List ℕ → List ℕ → ℕ → Type 0
 Laid f starts n = (i : ℕ) → i < n → strEnd f (getD starts i 0) ≤ length f
+
+-- what a lookup among them needs
+pub record Listed (f starts : List ℕ) (n : ℕ) : Type 0 where
+  pub laid : Laid f starts n
+  pub room : n ≤ length starts
+
+-- and where no two of them are alike
+pub record Distinct (f starts : List ℕ) (n : ℕ) : Type 0 where
+  pub listed : Listed f starts n
+  pub distinct : twice same (stringsIn f starts n 0) ≡ false
 
 -- the number of the first string that is the name; where none is, how many there are
 unfoldable pub place : Str → List Str → ℕ
@@ -32,6 +43,13 @@ place name (s ∷ ss) = if same name s then 0 else suc (place name ss)
 abbrev pub factors : Seed
 factors = record { first = 1201626857; second = 1150305587 }
 
--- the upper 13 of the 32 bits of `mix`: a number below 8,192 that equal strings share
+-- how many numbers the hash gives: the upper 13 bits of the 32 of `mix`
+abbrev pub hashes : ℕ
+hashes = 8192
+
+abbrev pub hashStep : ℕ
+hashStep = 4294967296 / hashes
+
+-- a number below `hashes` that equal strings share
 unfoldable pub hashOf : Str → ℕ
-hashOf s = mix factors 0 s / 524288
+hashOf s = mix factors 0 s / hashStep

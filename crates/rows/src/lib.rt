@@ -1,13 +1,12 @@
 // Strings of decoded rows, found by an array of positions: lookups, and a hash that says where to look first.
 ghost use mathlib.Core.Path.{_≡_};
-ghost use mathlib.Core.Bool.{false};
-ghost use Prim.Native.Nat.{_≤_, _<_};
+ghost use Prim.Native.Nat.{_≤_};
 ghost use lib.ListN.{length, getD};
 ghost use lib.Dec.{ltb};
-ghost use Rattle.text.specs.Test.{_and_, twice};
+ghost use Rattle.text.specs.Test.{_and_};
 ghost use Rattle.text.specs.String.{same};
 ghost use Rattle.place.specs.Place.{strEnd, strIn};
-ghost use Rattle.rows.specs.Strings.{stringsIn, Laid, place, hashOf};
+ghost use Rattle.rows.specs.Strings.{stringsIn, Listed, Distinct, place, hashOf};
 use hash::Seed;
 
 // The string at `at` is the name.
@@ -23,7 +22,7 @@ pub fn is_at(f: &[u8], at: usize, name: &[u8]) -> bool
 
 // The number of the first of n strings that is the name; n where none is.
 pub fn find(f: &[u8], starts: &[u16], n: usize, name: &[u8]) -> usize
-    requires { ⌜ Laid (now f) (now starts) n × (n ≤ length (now starts)) ⌝ }
+    requires { ⌜ Listed (now f) (now starts) n ⌝ }
     ensures { λ r. ⌜ r ≡ place (now (name .entry)) (stringsIn (now (f .entry)) (now (starts .entry)) n 0) ⌝ }
 {
     let mut i = 0;
@@ -39,7 +38,7 @@ pub fn find(f: &[u8], starts: &[u16], n: usize, name: &[u8]) -> usize
 
 // String number i is the name, and one of the first n.
 pub fn is_number(f: &[u8], starts: &[u16], n: usize, i: usize, name: &[u8]) -> bool
-    requires { ⌜ Laid (now f) (now starts) n × (n ≤ length (now starts)) ⌝ }
+    requires { ⌜ Listed (now f) (now starts) n ⌝ }
     ensures { λ r. ⌜ r ≡ (ltb i n and same (now (name .entry)) (strIn (now (f .entry)) (getD (now (starts .entry)) i 0))) ⌝ }
 {
     if n <= i {
@@ -51,7 +50,7 @@ pub fn is_number(f: &[u8], starts: &[u16], n: usize, i: usize, name: &[u8]) -> b
 
 // The same where no two of the strings are alike: number `hint` is tried first.
 pub fn find_from(f: &[u8], starts: &[u16], n: usize, hint: usize, name: &[u8]) -> usize
-    requires { ⌜ Laid (now f) (now starts) n × (n ≤ length (now starts)) × (twice same (stringsIn (now f) (now starts) n 0) ≡ false) ⌝ }
+    requires { ⌜ Distinct (now f) (now starts) n ⌝ }
     ensures { λ r. ⌜ r ≡ place (now (name .entry)) (stringsIn (now (f .entry)) (now (starts .entry)) n 0) ⌝ }
 {
     if is_number(f, starts, n, hint, name) {
@@ -60,7 +59,12 @@ pub fn find_from(f: &[u8], starts: &[u16], n: usize, hint: usize, name: &[u8]) -
     find(f, starts, n, name)
 }
 
-// A number below 8,192 that equal strings share.
+// How many numbers the hash gives: the upper 13 bits of the 32 of `mix`.
+const HASHES: usize = 8192;
+
+const HASH_STEP: usize = 4294967296 / HASHES;
+
+// A number below HASHES that equal strings share.
 pub fn hash(s: &[u8]) -> usize
     ensures { λ r. ⌜ r ≡ hashOf (now (s .entry)) ⌝ }
 {
@@ -68,5 +72,5 @@ pub fn hash(s: &[u8]) -> usize
         first: 1201626857,
         second: 1150305587,
     };
-    hash::mix(factors, 0, s) / 524288
+    hash::mix(factors, 0, s) / HASH_STEP
 }

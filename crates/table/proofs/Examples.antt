@@ -1,6 +1,7 @@
 -- Texts of rule tables with their answers, by computation.
 use mathlib.Core.Path.{_≡_, refl}
-use mathlib.Core.List.{List, [], _∷_, _++_}
+use mathlib.Core.List.{List, [], _∷_, _++_, filterMap}
+use mathlib.Core.Option.{Option·elim}
 use Prim.Native.Nat.{ℕ, _+_, _*_}
 use Prim.Native.String.{String}
 use Rattle.text.specs.Test.{_and_, _or_, if_then_else_, all, any, twice}
@@ -10,8 +11,8 @@ use Rattle.path.specs.Bytes.{key, element, path}
 use Rattle.path.specs.Faults.{unsized, keyOver, elemOver, overLimit, outsideName, outsideValue, keyStray, elemStray, strayByte, halfWild, keyMisplaced, elemMisplaced, misplaced, keyTwice}
 use Rattle.line.specs.Lines.{onto, lines, pair, pairs, nonempty, frame}
 use Rattle.table.specs.Frame.{unknown, code, versionBody, groupBody, memberBody, ruleBody, ruleEntry, body, entry, whole, entryOf}
-use Rattle.table.specs.Refusal.{framed, decoded, lineOf, kindOf, outOfOrder, unsizedShort, pastLimit, stray, strays, misplaces, sameMember, repeats, listed, unlisted, refusal, first, with, after}
-use Rattle.table.specs.Text.{unless, judge, check, maybe, collect, read, entries, asGroup, asMember, asRule, versionOf, timeOf, table, tableOf}
+use Rattle.table.specs.Refusal.{framed, decoded, lineOf, kindOf, outOfOrder, unsizedShort, pastLimit, stray, strays, misplaces, sameMember, sameId, repeats, listed, unlisted, refusal, first, with, after}
+use Rattle.table.specs.Text.{unless, judge, check, read, entries, asGroup, asMember, asRule, versionOf, timeOf, table, tableOf}
 use Rattle.table.specs.Group.{lists, numbered, memberships, groupsOf, counted, badUser, countFor, groupCount}
 use Rattle.table.specs.declared.Checked.{Checked}
 use Rattle.table.specs.declared.Checked.the-variants.{Accepted, Refused}
@@ -77,7 +78,7 @@ checked :
     × (order ≡ 260 ∷ 516 ∷ 1028 ∷ [])
     × (strings ≡ 517 ∷ 518 ∷ 519 ∷ 515 ∷ 519 ∷ 519 ∷ 0 ∷ [])
     × (against ≡ 776 ∷ 1032 ∷ 776 ∷ 520 ∷ 521 ∷ 521 ∷ 774 ∷ [])
-unfolding good hex frames order strings against _and_ _or_ if_then_else_ all any twice same _>>=_ ret byte run string times key element path unsized keyOver elemOver overLimit outsideName outsideValue keyStray elemStray strayByte halfWild keyMisplaced elemMisplaced misplaced keyTwice onto lines pair pairs nonempty frame unknown code versionBody groupBody memberBody ruleBody ruleEntry body entry whole entryOf framed decoded lineOf kindOf outOfOrder unsizedShort pastLimit stray strays misplaces sameMember repeats listed unlisted refusal first with after unless judge check checkWord
+unfolding good hex frames order strings against _and_ _or_ if_then_else_ all any twice same _>>=_ ret byte run string times key element path unsized keyOver elemOver overLimit outsideName outsideValue keyStray elemStray strayByte halfWild keyMisplaced elemMisplaced misplaced keyTwice onto lines pair pairs nonempty frame unknown code versionBody groupBody memberBody ruleBody ruleEntry body entry whole entryOf framed decoded lineOf kindOf outOfOrder unsizedShort pastLimit stray strays misplaces sameMember sameId repeats listed unlisted refusal first with after unless judge check checkWord
 checked = (refl, refl, refl, refl, refl, refl)
 
 -- ---- groups of a user
@@ -93,5 +94,5 @@ counts : List ℕ
 counts = count (bytes "u") five ∷ count (bytes "v") five ∷ count (bytes "w") five ∷ count [] five ∷ count [] ("" ∷ []) ∷ []
 
 counted-right : counts ≡ 131584 ∷ 65792 ∷ 0 ∷ 20 ∷ 258 ∷ []
-unfolding count counts _and_ _or_ if_then_else_ all any twice same _>>=_ ret byte run string times key element path unsized keyOver elemOver overLimit outsideName outsideValue keyStray elemStray strayByte halfWild keyMisplaced elemMisplaced misplaced keyTwice onto lines pair pairs nonempty frame unknown code versionBody groupBody memberBody ruleBody ruleEntry body entry whole entryOf framed decoded lineOf kindOf outOfOrder unsizedShort pastLimit stray strays misplaces sameMember repeats listed unlisted refusal first with after unless judge check checkWord maybe collect read entries asGroup asMember asRule versionOf timeOf table tableOf lists numbered memberships groupsOf counted badUser countFor groupCount countWord
+unfolding count counts _and_ _or_ if_then_else_ all any twice same _>>=_ ret byte run string times key element path unsized keyOver elemOver overLimit outsideName outsideValue keyStray elemStray strayByte halfWild keyMisplaced elemMisplaced misplaced keyTwice onto lines pair pairs nonempty frame unknown code versionBody groupBody memberBody ruleBody ruleEntry body entry whole entryOf framed decoded lineOf kindOf outOfOrder unsizedShort pastLimit stray strays misplaces sameMember sameId repeats listed unlisted refusal first with after unless judge check checkWord filterMap Option·elim read entries asGroup asMember asRule versionOf timeOf table tableOf lists numbered memberships groupsOf counted badUser countFor groupCount countWord
 counted-right = refl

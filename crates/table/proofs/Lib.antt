@@ -5,3 +5,4 @@ pub mod Versions
 pub mod Inside
 pub mod Entries
 pub mod Examples
+pub mod Users

@@ -11,6 +11,7 @@ use Rattle.text.specs.Byte.{isPrint}
 use Rattle.text.specs.String.{Str}
 use Rattle.text.specs.Refusal.{_when_else_, clear}
 use Rattle.text.proofs.Tests.{or-false-l, or-is}
+use Rattle.limits.specs.Limits.{maxShortString, maxString}
 use Rattle.path.specs.Faults.{unsized, overLimit, strayByte, misplaced, keyTwice, leastRefusal, pathRefusal}
 use Rattle.table.specs.Table.{Rule}
 use Rattle.table.specs.Frame.{Entry, rule}
@@ -29,13 +30,13 @@ order-later last kind e = rw (ne-eqb last 0 e) (or-is (eqb kind 1) (ltb kind las
 
 -- ---- strings
 
-pub long-is : (s : Str) (n : ℕ) → n ≡ length s → unsizedBy 64 n ≡ unsized s
+pub long-is : (s : Str) (n : ℕ) → n ≡ length s → unsizedBy maxString n ≡ unsized s
 unfolding unsized
-long-is s n e = rw e (or-is (eqb (length s) 0) (ltb 64 (length s)))
+long-is s n e = rw e (or-is (eqb (length s) 0) (ltb maxString (length s)))
 
-pub short-is : (s : Str) (n : ℕ) → n ≡ length s → unsizedBy 32 n ≡ unsizedShort s
+pub short-is : (s : Str) (n : ℕ) → n ≡ length s → unsizedBy maxShortString n ≡ unsizedShort s
 unfolding unsizedShort
-short-is s n e = rw e (or-is (eqb (length s) 0) (ltb 32 (length s)))
+short-is s n e = rw e (or-is (eqb (length s) 0) (ltb maxShortString (length s)))
 
 pub stray-is : (s : Str) (t : Bool) → t ≡ all isPrint s → not t ≡ stray s
 unfolding stray
@@ -49,7 +50,7 @@ number-four b e h = rw h
 
 -- ---- a frame without a path
 
-merged-plain : (five six eight nine : Bool) → merged 255 five six eight nine ≡ (5 when five else 6 when six else 7 when false else 8 when eight else 9 when nine else clear)
+merged-plain : (five six eight nine : Bool) → merged clear five six eight nine ≡ (5 when five else 6 when six else 7 when false else 8 when eight else 9 when nine else clear)
 unfolding merged if_then_else_
 merged-plain true six eight nine = refl
 merged-plain false true eight nine = refl
@@ -84,7 +85,7 @@ module _ (b : Earlier) where
   unfolding refusal if_then_else_ tail
   tail-is e h = rw h
 
-  pub number-plain : (e : Entry) → outOfOrder (b .kind) (kindOf e) ≡ false → (r : ℕ) (five six eight nine : Bool) → r ≡ merged 255 five six eight nine
+  pub number-plain : (e : Entry) → outOfOrder (b .kind) (kindOf e) ≡ false → (r : ℕ) (five six eight nine : Bool) → r ≡ merged clear five six eight nine
       → five ≡ pastLimit b e → six ≡ strays e → false ≡ misplaces e → eight ≡ repeats b e → nine ≡ unlisted b e → r ≡ refusal b (reads e)
   unfolding tail
   number-plain e h r five six eight nine g p q m x y = g ∙ merged-plain five six eight nine ∙ rw (p, q, m, x, y) (sym (tail-is e h))
@@ -101,12 +102,12 @@ module _ (b : Earlier) where
 
 -- ---- no number
 
-when-clear : (n m : ℕ) (t : Bool) → n < 255 → (n when t else m) ≡ 255 → (t ≡ false) × (m ≡ 255)
+when-clear : (n m : ℕ) (t : Bool) → n < clear → (n when t else m) ≡ clear → (t ≡ false) × (m ≡ clear)
 unfolding if_then_else_
 when-clear n m true h e = absurd (omega arith)
 when-clear n m false h e = (refl, e)
 
-pub merged-clear : (p : ℕ) (five six eight nine : Bool) → merged p five six eight nine ≡ 255 → (five ≡ false) × (nine ≡ false) × (eight ≡ false)
+pub merged-clear : (p : ℕ) (five six eight nine : Bool) → merged p five six eight nine ≡ clear → (five ≡ false) × (nine ≡ false) × (eight ≡ false)
 unfolding merged
 merged-clear p five six eight nine e =
     let a = when-clear 5 _ (five || eqb p 5) (omega arith) e in
@@ -117,7 +118,7 @@ merged-clear p five six eight nine e =
     (or-false-l five (eqb p 5) (sym (or-is five (eqb p 5)) ∙ a .0), n .0, or-false-l eight (eqb p 8) (sym (or-is eight (eqb p 8)) ∙ d .0))
 
 -- a line that nothing refuses
-pub refusal-clear : (b : Earlier) (e : Entry) → refusal b (reads e) ≡ 255
+pub refusal-clear : (b : Earlier) (e : Entry) → refusal b (reads e) ≡ clear
     → (outOfOrder (b .kind) (kindOf e) ≡ false) × (pastLimit b e ≡ false) × (strays e ≡ false) × (misplaces e ≡ false) × (repeats b e ≡ false) × (unlisted b e ≡ false)
 unfolding refusal
 refusal-clear b e h =

@@ -10,6 +10,8 @@ use Rattle.text.specs.String.{Str}
 use Rattle.text.specs.Frame.{string, endOf, part}
 use Rattle.text.specs.declared.frame.End.{End}
 use Rattle.text.specs.declared.frame.End.the-variants.{At, Unread}
+use Rattle.text.specs.Refusal.{clear}
+use Rattle.limits.specs.Limits.{maxShortString}
 use Rattle.text.proofs.Frames.{string-ends, string-misses}
 use Rattle.table.specs.Frame.{Entry, version, entryOf}
 use Rattle.table.specs.Refusal.{Earlier, reads, framed, outOfOrder, kindOf, pastLimit, strays, misplaces, repeats, unlisted, refusal}
@@ -46,7 +48,7 @@ module _ (f : Str) (pre : (0 < length f) × (getD f 0 0 ≡ 1)) (r : End) (i : r
       pub version-four : o ≡ true → 4 ≡ refusal b (framed (entryOf f))
       version-four h = refused-read b f _ 4 reading (number-four b _ (sym order ∙ h))
 
-      pub version-graded : o ≡ false → (m : ℕ) (five p : Bool) → m ≡ merged 255 five (not p) false false → five ≡ unsizedBy 32 (length (part f 2 t)) → p ≡ all isPrint (part f 2 t)
+      pub version-graded : o ≡ false → (m : ℕ) (five p : Bool) → m ≡ merged clear five (not p) false false → five ≡ unsizedBy maxShortString (length (part f 2 t)) → p ≡ all isPrint (part f 2 t)
           → m ≡ refusal b (framed (entryOf f))
       unfolding pastLimit strays misplaces repeats unlisted
       version-graded h m five p x y z =

@@ -9,9 +9,10 @@ use Rattle.text.specs.Test.{_and_, _or_, if_then_else_, all, any}
 use Rattle.text.specs.Byte.{isPrint}
 use Rattle.text.specs.String.{Str, same}
 use Rattle.text.specs.Refusal.{_when_else_, clear}
+use Rattle.limits.specs.Limits.{maxGroups, maxMembers, maxRules, maxShortString}
 use Rattle.path.specs.Faults.{unsized, overLimit, strayByte, misplaced, keyTwice}
 use Rattle.line.specs.Lines.{frame}
-use Rattle.table.specs.Table.{Member}
+use Rattle.table.specs.Table.{Member, Rule}
 use Rattle.table.specs.Frame.{Entry, version, group, member, rule, entryOf}
 
 -- what a line is: not a hex line, a hex line whose frame does not read, or one that holds an entry
@@ -31,12 +32,12 @@ decoded (some f) = framed (entryOf f)
 unfoldable pub lineOf : Str → Line
 lineOf l = decoded (frame l)
 
--- what the lines before a line tell: the kind of the last of them (0 where there is none), the groups, the members and the rules' ids
+-- what the lines before a line tell: the kind of the last of them (0 where there is none), the groups, the members and the rules
 pub record Earlier : Type 0 where
   pub kind : ℕ
   pub groups : List Str
   pub members : List Member
-  pub ids : List Str
+  pub rules : List Rule
 
 -- the kind byte
 unfoldable pub kindOf : Entry → ℕ
@@ -55,15 +56,15 @@ outOfOrder last kind = if eqb last 0 then not (eqb kind 1) else (eqb kind 1 or l
 
 -- "Version, id and origin have at most 32 bytes; .. only origin may be empty."
 unfoldable pub unsizedShort : Str → Bool
-unsizedShort s = eqb (length s) 0 or ltb 32 (length s)
+unsizedShort s = eqb (length s) 0 or ltb maxShortString (length s)
 
 -- "At most 64 groups, 512 members, 256 rules": so many stand before already
 unfoldable pub pastLimit : Earlier → Entry → Bool
 pastLimit b (version v t) = unsizedShort v
-pastLimit b (group n) = unsized n or leb 64 (length (b .groups))
-pastLimit b (member m) = (unsized (m .group) or unsized (m .user)) or leb 512 (length (b .members))
+pastLimit b (group n) = unsized n or leb maxGroups (length (b .groups))
+pastLimit b (member m) = (unsized (m .group) or unsized (m .user)) or leb maxMembers (length (b .members))
 pastLimit b (rule r) =
-    ((unsized (r .subject) or unsizedShort (r .id)) or (ltb 32 (length (r .origin)) or leb 256 (length (b .ids)))) or overLimit (r .path)
+    ((unsized (r .subject) or unsizedShort (r .id)) or (ltb maxShortString (length (r .origin)) or leb maxRules (length (b .rules)))) or overLimit (r .path)
 
 -- ---- 6: "a byte outside its set"
 
@@ -91,11 +92,14 @@ misplaces (rule r) = misplaced (r .path)
 unfoldable pub sameMember : Member → Member → Bool
 sameMember m n = same (m .group) (n .group) and same (m .user) (n .user)
 
+unfoldable pub sameId : Rule → Rule → Bool
+sameId r s = same (r .id) (s .id)
+
 unfoldable pub repeats : Earlier → Entry → Bool
 repeats b (version v t) = false
 repeats b (group n) = any (same n) (b .groups)
 repeats b (member m) = any (sameMember m) (b .members)
-repeats b (rule r) = any (same (r .id)) (b .ids) or keyTwice (r .path)
+repeats b (rule r) = any (sameId r) (b .rules) or keyTwice (r .path)
 
 -- ---- 9: "group not listed"
 
@@ -127,14 +131,14 @@ refusal b (reads e) =
 
 -- before the first line
 unfoldable pub first : Earlier
-first = record { kind = 0; groups = []; members = []; ids = [] }
+first = record { kind = 0; groups = []; members = []; rules = [] }
 
 -- with one entry more
 unfoldable pub with : Earlier → Entry → Earlier
-with b (version v t) = record { kind = 1; groups = b .groups; members = b .members; ids = b .ids }
-with b (group n) = record { kind = 2; groups = b .groups ++ (n ∷ []); members = b .members; ids = b .ids }
-with b (member m) = record { kind = 3; groups = b .groups; members = b .members ++ (m ∷ []); ids = b .ids }
-with b (rule r) = record { kind = 4; groups = b .groups; members = b .members; ids = b .ids ++ (r .id ∷ []) }
+with b (version v t) = record { kind = 1; groups = b .groups; members = b .members; rules = b .rules }
+with b (group n) = record { kind = 2; groups = b .groups ++ (n ∷ []); members = b .members; rules = b .rules }
+with b (member m) = record { kind = 3; groups = b .groups; members = b .members ++ (m ∷ []); rules = b .rules }
+with b (rule r) = record { kind = 4; groups = b .groups; members = b .members; rules = b .rules ++ (r ∷ []) }
 
 -- after one line more
 unfoldable pub after : Earlier → Line → Earlier

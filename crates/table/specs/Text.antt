@@ -1,10 +1,11 @@
 -- A whole rule table text: refused at its first faulty line, or the table that it holds.
 use Prim.Native.Nat.{ℕ, _+_}
 use mathlib.Core.Bool.{Bool, true, false}
-use mathlib.Core.List.{List, [], _∷_}
+use mathlib.Core.List.{List, [], _∷_, filterMap}
 use mathlib.Core.Option.{Option, none, some}
 use lib.Dec.{eqb, ltb}
 use lib.ListN.{length}
+use Rattle.limits.specs.Limits.{maxTableText}
 use Rattle.text.specs.Test.{if_then_else_}
 use Rattle.text.specs.String.{Str}
 use Rattle.text.specs.Refusal.{clear}
@@ -29,7 +30,7 @@ judge number before (l ∷ ls) = unless (refusal before (lineOf l)) number (judg
 -- "table text over 32,768 bytes (line 0)"; "empty text counts here, at line 1"
 unfoldable pub check : Str → Checked
 check text =
-    if ltb 32768 (length text) then Refused 1 0
+    if ltb maxTableText (length text) then Refused 1 0
     else if eqb (length text) 0 then Refused 4 1
     else judge 1 first (lines text)
 
@@ -39,16 +40,6 @@ isAccepted (Refused n l) = false
 
 -- ---- the table
 
--- one more, if there is one
-unfoldable pub maybe : {A : Type 0} → Option A → List A → List A
-maybe none xs = xs
-maybe (some x) xs = x ∷ xs
-
--- what f finds, in order
-unfoldable pub collect : {A B : Type 0} → (A → Option B) → List A → List B
-collect f [] = []
-collect f (x ∷ xs) = maybe (f x) (collect f xs)
-
 -- what a line holds
 unfoldable pub read : Line → Option Entry
 read notHex = none
@@ -57,7 +48,7 @@ read (reads e) = some e
 
 -- what the lines hold, in order
 unfoldable pub entries : List Str → List Entry
-entries ls = collect (λ (l : Str). read (lineOf l)) ls
+entries ls = filterMap (λ (l : Str). read (lineOf l)) ls
 
 -- the groups, members and rules of the entries, each apart
 unfoldable pub asGroup : Entry → Option Str
@@ -95,7 +86,7 @@ timeOf (rule r ∷ es) = []
 
 -- "Rules and groups are numbered from 0 in text order."
 unfoldable pub table : List Entry → Table
-table es = record { version = versionOf es; time = timeOf es; groups = collect asGroup es; members = collect asMember es; rules = collect asRule es }
+table es = record { version = versionOf es; time = timeOf es; groups = filterMap asGroup es; members = filterMap asMember es; rules = filterMap asRule es }
 
 -- the table that an accepted text holds
 unfoldable pub tableOf : Str → Table

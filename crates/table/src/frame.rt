@@ -1,12 +1,12 @@
 // The frames of a rule table: where their strings end, and what refuses them.
 ghost use mathlib.Core.Path.{_≡_};
-ghost use Prim.Native.Nat.{_<_};
-ghost use lib.ListN.{length, getD};
 ghost use mathlib.Core.Option.{some};
 ghost use Rattle.text.specs.String.{Str};
+ghost use Rattle.text.specs.Refusal.{clear};
+ghost use Rattle.table.specs.Layout.{kindVersion, kindRule};
 ghost use Rattle.table.specs.Frame.{version, entryOf};
 ghost use Rattle.table.specs.Refusal.{Earlier, framed, outOfOrder, refusal};
-ghost use Rattle.table.specs.Walk.{merged, unsizedBy, RuleRead};
+ghost use Rattle.table.specs.Walk.{OfKind, merged, unsizedBy, RuleRead};
 use path_frame::Walk;
 use text::frame::End;
 
@@ -15,12 +15,12 @@ pub fn is_out_of_order(last: u8, kind: u8) -> bool
     ensures { λ r. ⌜ r ≡ outOfOrder last kind ⌝ }
 {
     if last == 0 {
-        return kind != 1;
+        return kind != crate::KIND_VERSION;
     }
-    (kind == 1) | (kind < last)
+    (kind == crate::KIND_VERSION) | (kind < last)
 }
 
-// The smallest number from 5 on whose flag is set, or 255. p is the number of the frame's path, 255 for none.
+// The smallest number from 5 on whose flag is set, or CLEAR. p is the number of the frame's path.
 pub fn number(p: u8, five: bool, six: bool, eight: bool, nine: bool) -> u8
     ensures { λ r. ⌜ r ≡ merged p five six eight nine ⌝ }
 {
@@ -39,7 +39,7 @@ pub fn number(p: u8, five: bool, six: bool, eight: bool, nine: bool) -> u8
     if nine {
         return 9;
     }
-    255
+    limits::CLEAR
 }
 
 // The length of a string that may not be empty is 0 or over the limit.
@@ -49,30 +49,30 @@ pub fn is_unsized(limit: usize, n: usize) -> bool
     (n == 0) | (limit < n)
 }
 
-// The number of a frame of kind 1, or 255; `last` is the kind of the line before.
+// The number of a version's frame; `last` is the kind of the line before.
 pub fn version_number(f: &[u8], last: u8) -> u8
-    requires { ⌜ (0 < length (now f)) × (getD (now f) 0 0 ≡ 1) ⌝ }
+    requires { ⌜ OfKind kindVersion (now f) ⌝ }
     ensures { λ r. ⌜ ((b : Earlier) → b .kind ≡ last → r ≡ refusal b (framed (entryOf (now (f .entry))))) ⌝ }
-    ensures { λ r. ⌜ (r ≡ 255 → (v : Str) × (t : Str) × (entryOf (now (f .entry)) ≡ some (version v t))) ⌝ }
+    ensures { λ r. ⌜ (r ≡ clear → (v : Str) × (t : Str) × (entryOf (now (f .entry)) ≡ some (version v t))) ⌝ }
 {
-    let v = text::frame::string_end(f, 1);
+    let v = text::frame::string_end(f, crate::AFTER_KIND);
     let End::At(end) = v else {
         return 3;
     };
     if f.len() - end != 8 {
         return 3;
     }
-    if is_out_of_order(last, 1) {
+    if is_out_of_order(last, crate::KIND_VERSION) {
         return 4;
     }
-    let start = 2;
+    let start = crate::FIRST_NAME;
     let version = &f[start..end];
-    let five = is_unsized(32, version.len());
+    let five = is_unsized(limits::MAX_SHORT_STRING, version.len());
     let six = !text::string::all_print(version);
-    number(255, five, six, false, false)
+    number(limits::CLEAR, five, six, false, false)
 }
 
-// Where the strings of a rule end, and the number of its path, 255 for none.
+// Where the strings of a rule end, and the number of its path.
 pub enum RuleFrame {
     Is {
         subject: usize,
@@ -83,21 +83,24 @@ pub enum RuleFrame {
     Unread,
 }
 
-// Reads a frame of kind 4.
+// Reads the frame of a rule.
 pub fn read_rule(f: &[u8]) -> RuleFrame
-    requires { ⌜ (0 < length (now f)) × (getD (now f) 0 0 ≡ 4) ⌝ }
+    requires { ⌜ OfKind kindRule (now f) ⌝ }
     ensures { λ r. ⌜ RuleRead (now (f .entry)) r ⌝ }
 {
-    if f.len() < 4 {
+    if f.len() < crate::FRAME_SUBJECT {
         return RuleFrame::Unread;
     }
-    let known = ((f[1] == 0) | (f[1] == 1))
-        & ((f[2] == 1) | (f[2] == 2))
-        & ((f[3] == 0) | (f[3] == 1));
+    let action = f[crate::FRAME_ACTION];
+    let mode = f[crate::FRAME_MODE];
+    let kind = f[crate::FRAME_SUBJECT_KIND];
+    let known = ((action == crate::ACTION_DENY) | (action == crate::ACTION_PERMIT))
+        & ((mode == crate::MODE_READ) | (mode == crate::MODE_WRITE))
+        & ((kind == crate::SUBJECT_USER) | (kind == crate::SUBJECT_GROUP));
     if !known {
         return RuleFrame::Unread;
     }
-    let s = text::frame::string_end(f, 4);
+    let s = text::frame::string_end(f, crate::FRAME_SUBJECT);
     let End::At(subject) = s else {
         return RuleFrame::Unread;
     };

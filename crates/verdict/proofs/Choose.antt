@@ -10,7 +10,7 @@ use Rattle.text.specs.Test.{if_then_else_, _∈_, twice}
 use Rattle.text.proofs.Tests.{clash, by, on-cons, same→≡, ≡→same}
 use Rattle.table.specs.Table.{Rule}
 use Rattle.verdict.specs.Order.{Numbered, prefer, candidate, choose}
-use Rattle.verdict.specs.Laws.{sameId}
+use Rattle.table.specs.Refusal.{sameId}
 use Rattle.verdict.proofs.Twice.{twice→}
 use Rattle.verdict.proofs.Order.{Order}
 

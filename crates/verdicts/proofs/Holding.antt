@@ -24,7 +24,7 @@ use Rattle.verdicts.specs.Refused.{refusedBy}
 use Rattle.verdicts.proofs.RuleBytes.{rules-read, rules-laid, holders-read}
 use Rattle.acceptance.proofs.Reordered.{accepted-orderly}
 
-module _ {text buf : List ℕ} {u : ℕ} {c : Counts} {groups users owners ids starts holders : List ℕ} (K : Kept text buf u c groups users owners ids starts holders) where
+module _ {text buf : List ℕ} {u : ℕ} {c : Counts} {groups users owners starts holders : List ℕ} (K : Kept text buf u c groups users owners starts holders) where
   rules-are : rulesIn (take u buf) starts (c .rules) 0 ≡ tableOf text .rules
   rules-are = rw (sym (K .holds .rules-count)) (rules-read (take u buf) starts (tableOf text .rules) 0 (K .holds .rules-are))
 
@@ -44,9 +44,9 @@ module _ {text buf : List ℕ} {u : ℕ} {c : Counts} {groups users owners ids s
   pub safe : Safe (take u buf) starts holders (c .rules)
   safe =
       record {
-        rules = record { laid = laid; each = omega (arith, K .holds .long .4, K .holds .few .2); short = omega (arith, front-is K, K .within .1) };
+        rules = record { laid = laid; each = omega (arith, K .holds .long .of-starts, K .holds .few .2); short = omega (arith, front-is K, K .within .1) };
         few = K .holds .few .2;
-        each = omega (arith, K .holds .long .5, K .holds .few .2);
+        each = omega (arith, K .holds .long .of-holders, K .holds .few .2);
         groups = λ i l e. omega (arith, groups-are i l e .0, named-long K, K .holds .few .0);
       }
 
@@ -62,8 +62,8 @@ module _ {text buf : List ℕ} {u : ℕ} {c : Counts} {groups users owners ids s
     unfolding pathVerdict treeVerdict
     either-kept whole = rw (K .accepts)
 
-module _ (text : Str) (r : Loaded) (buf groups users owners ids starts holders : List ℕ) (o : Outcome text r buf groups users owners ids starts holders)
+module _ (text : Str) (r : Loaded) (buf groups users owners starts holders : List ℕ) (o : Outcome text r buf groups users owners starts holders)
     (n l : ℕ) (e : r ≡ loaded.Refused n l) (user : Str) (mode : ℕ) (origin path : Str) where
   pub refused-is : (whole : Bool) (x : Verdict) → x ≡ refusedBy whole r → x ≡ oneOf whole (pathVerdict text user mode origin path) (treeVerdict text user mode origin path)
   unfolding refusedBy refusedAs pathVerdict pathAnswer treeVerdict treeAnswer
-  refused-is whole x i = rw (sym (outcome-refused text r buf groups users owners ids starts holders o n l e)) (i ∙ rw e)
+  refused-is whole x i = rw (sym (outcome-refused text r buf groups users owners starts holders o n l e)) (i ∙ rw e)

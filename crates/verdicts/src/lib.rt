@@ -37,7 +37,6 @@ pub fn verdict(
     let mut groups = [0u16; limits::MAX_GROUPS];
     let mut users = [0u16; limits::MAX_MEMBERS];
     let mut owners = [0u8; limits::MAX_MEMBERS];
-    let mut ids = [0u16; limits::MAX_RULES];
     let mut starts = [0u16; limits::MAX_RULES];
     let mut holders = [0u8; limits::MAX_RULES];
     let l = load::load(
@@ -46,7 +45,6 @@ pub fn verdict(
         &mut groups,
         &mut users,
         &mut owners,
-        &mut ids,
         &mut starts,
         &mut holders,
     );

@@ -11,10 +11,14 @@ returns c =
     number-past _ _ _ _ _ (at-if1 .taken)
 
 mul-at : tie.Need-mul-at
-mul-at c = search needs
+mul-at c =
+    let at-start = c .before .before .before .before in
+    omega (arith, at-start .pre .room)
 
 shared-slice-read-at : tie.Need-shared-slice-read-at
-shared-slice-read-at c = search needs
+shared-slice-read-at c =
+    let at-start = c .before .before .before .before .before in
+    omega (arith, at-start .pre .room)
 
 cast-at : tie.Need-cast-at
 cast-at c =
@@ -26,7 +30,7 @@ copy-at-requires : tie.Need-copy-at-requires
 copy-at-requires c κs =
     let at-if1 = c .before .before .if1 in
     let at-start = c .before .before .before .before .before .before in
-    at-start .pre .0 _ (at-if1 .left)
+    at-start .pre .laid _ (at-if1 .left)
 
 same-length : tie.Need-same-length
 same-length c = search needs

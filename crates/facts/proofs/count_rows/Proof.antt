@@ -22,14 +22,14 @@ returns : tie.Need-returns
 returns c =
     let at-l = c .before .l in
     let at-load = c .before .before .before .before .load in
-    rows-are (outcome-kept _ _ _ _ _ _ _ _ _ (at-load .ensures) _ _ (at-l .given .1))
+    rows-are (outcome-kept _ _ _ _ _ _ _ _ (at-load .ensures) _ _ (at-l .given .1))
 
 returns-2 : tie.Need-returns-2
 unfolding rowsOf
 returns-2 c =
     let at-l2 = c .before .l2 in
     let at-load = c .before .before .before .before .load in
-    rw (← outcome-refused _ _ _ _ _ _ _ _ _ (at-load .ensures) _ _ (at-l2 .given .1))
+    rw (← outcome-refused _ _ _ _ _ _ _ _ (at-load .ensures) _ _ (at-l2 .given .1))
 
 pub count-rows-spec : {M : Type 1} → statement M
 count-rows-spec =

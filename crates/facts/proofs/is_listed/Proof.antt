@@ -25,7 +25,7 @@ unfolding isListed
 returns c =
     let at-enum-told = c .enum-told in
     let at-load = c .before .before .before .load in
-    rw (← outcome-refused _ _ _ _ _ _ _ _ _ (at-load .ensures) _ _ (at-enum-told .given .1))
+    rw (← outcome-refused _ _ _ _ _ _ _ _ (at-load .ensures) _ _ (at-enum-told .given .1))
 
 cast-if1 : tie.Need-cast-if1
 cast-if1 c = search needs
@@ -35,44 +35,44 @@ returns-2 c =
     let at-if1 = c .if1 in
     let at-l = c .before .before .before .before .l in
     let at-load = c .before .before .before .before .before .before .before .load in
-    none-past (outcome-kept _ _ _ _ _ _ _ _ _ (at-load .ensures) _ _ (at-l .given .1)) _ _ (at-if1 .taken)
+    none-past (outcome-kept _ _ _ _ _ _ _ _ (at-load .ensures) _ _ (at-l .given .1)) _ _ (at-if1 .taken)
 
 array-share-prefix-buf : tie.Need-array-share-prefix-buf
 array-share-prefix-buf c =
     let at-l = c .before .before .before .before .l in
     let at-load = c .before .before .before .before .before .before .before .load in
-    let k = outcome-kept _ _ _ _ _ _ _ _ _ (at-load .ensures) _ _ (at-l .given .1) .within in omega (arith, k .0, k .1)
+    let k = outcome-kept _ _ _ _ _ _ _ _ (at-load .ensures) _ _ (at-l .given .1) .within in omega (arith, k .0, k .1)
 
 slice-aggregate-memberships : tie.Need-slice-aggregate-memberships
 slice-aggregate-memberships c =
     let at-l = c .before .before .before .before .before .l in
     let at-load = c .before .before .before .before .before .before .before .before .load in
-    front-is (outcome-kept _ _ _ _ _ _ _ _ _ (at-load .ensures) _ _ (at-l .given .1))
+    front-is (outcome-kept _ _ _ _ _ _ _ _ (at-load .ensures) _ _ (at-l .given .1))
 
 slice-aggregate-memberships-2 : tie.Need-slice-aggregate-memberships-2
 slice-aggregate-memberships-2 c =
     let at-l = c .before .before .before .before .before .before .l in
     let at-load = c .before .before .before .before .before .before .before .before .before .load in
-    sym (outcome-kept _ _ _ _ _ _ _ _ _ (at-load .ensures) _ _ (at-l .given .1) .holds .long .1)
+    sym (outcome-kept _ _ _ _ _ _ _ _ (at-load .ensures) _ _ (at-l .given .1) .holds .long .of-users)
 
 slice-aggregate-memberships-3 : tie.Need-slice-aggregate-memberships-3
 slice-aggregate-memberships-3 c =
     let at-l = c .before .before .before .before .before .before .before .l in
     let at-load = c .before .before .before .before .before .before .before .before .before .before .load in
-    sym (outcome-kept _ _ _ _ _ _ _ _ _ (at-load .ensures) _ _ (at-l .given .1) .holds .long .2)
+    sym (outcome-kept _ _ _ _ _ _ _ _ (at-load .ensures) _ _ (at-l .given .1) .holds .long .of-owners)
 
 memberships-requires : tie.Need-memberships-requires
 memberships-requires c κs =
     let at-l = c .before .before .before .before .before .before .before .l in
     let at-load = c .before .before .before .before .before .before .before .before .before .before .load in
-    count-requires (outcome-kept _ _ _ _ _ _ _ _ _ (at-load .ensures) _ _ (at-l .given .1))
+    count-requires (outcome-kept _ _ _ _ _ _ _ _ (at-load .ensures) _ _ (at-l .given .1))
 
 has-requires : tie.Need-has-requires
 has-requires c κs =
     let at-if1 = c .before .before .before .before .if1 in
     let at-l = c .before .before .before .before .before .before .before .before .l in
     let at-load = c .before .before .before .before .before .before .before .before .before .before .before .load in
-    has-room (outcome-kept _ _ _ _ _ _ _ _ _ (at-load .ensures) _ _ (at-l .given .1)) _ (at-if1 .left)
+    has-room (outcome-kept _ _ _ _ _ _ _ _ (at-load .ensures) _ _ (at-l .given .1)) _ (at-if1 .left)
 
 returns-3 : tie.Need-returns-3
 returns-3 c =
@@ -81,7 +81,7 @@ returns-3 c =
     let at-if1 = c .before .before .before .before .before .if1 in
     let at-l = c .before .before .before .before .before .before .before .before .before .l in
     let at-load = c .before .before .before .before .before .before .before .before .before .before .before .before .load in
-    at-has .ensures ∙ rw (at-memberships .ensures) (listed-is (outcome-kept _ _ _ _ _ _ _ _ _ (at-load .ensures) _ _ (at-l .given .1)) _ _ (at-if1 .left))
+    at-has .ensures ∙ rw (at-memberships .ensures) (listed-is (outcome-kept _ _ _ _ _ _ _ _ (at-load .ensures) _ _ (at-l .given .1)) _ _ (at-if1 .left))
 
 pub is-listed-spec : {M : Type 1} → statement M
 is-listed-spec =

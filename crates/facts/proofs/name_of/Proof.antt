@@ -3,7 +3,7 @@ use native.Mathlib.Omega.{arith}
 use mathlib.Core.Path.{sym}
 use Rattle.groups.proofs.Calls.{outcome-refused, outcome-kept, front-is}
 use Rattle.facts.specs.Facts.{nameOf}
-use Rattle.facts.proofs.Names.{wrote-none, group-name, rule-id}
+use Rattle.facts.proofs.Names.{wrote-none, group-name, rule-id, identified}
 use Rattle.facts.proofs.name_of.Statement.{statement}
 use Rattle.facts.proofs.name_of.Tie as tie
 
@@ -24,19 +24,19 @@ unfolding nameOf
 returns c =
     let at-enum-told = c .enum-told in
     let at-load = c .before .before .before .load in
-    rw (← outcome-refused _ _ _ _ _ _ _ _ _ (at-load .ensures) _ _ (at-enum-told .given .1)) (wrote-none _)
+    rw (← outcome-refused _ _ _ _ _ _ _ _ (at-load .ensures) _ _ (at-enum-told .given .1)) (wrote-none _)
 
 array-share-prefix-buf : tie.Need-array-share-prefix-buf
 array-share-prefix-buf c =
     let at-l = c .before .l in
     let at-load = c .before .before .before .before .load in
-    let k = (outcome-kept _ _ _ _ _ _ _ _ _ (at-load .ensures) _ _ (at-l .given .1)) .within in omega (arith, k .0, k .1)
+    let k = (outcome-kept _ _ _ _ _ _ _ _ (at-load .ensures) _ _ (at-l .given .1)) .within in omega (arith, k .0, k .1)
 
 slice-aggregate-f : tie.Need-slice-aggregate-f
 slice-aggregate-f c =
     let at-l = c .before .before .l in
     let at-load = c .before .before .before .before .before .load in
-    front-is (outcome-kept _ _ _ _ _ _ _ _ _ (at-load .ensures) _ _ (at-l .given .1))
+    front-is (outcome-kept _ _ _ _ _ _ _ _ (at-load .ensures) _ _ (at-l .given .1))
 
 enum-known-row : tie.Need-enum-known-row
 enum-known-row c = search needs
@@ -45,7 +45,7 @@ slice-aggregate-copy-number : tie.Need-slice-aggregate-copy-number
 slice-aggregate-copy-number c =
     let at-l = c .before .before .before .before .before .before .l in
     let at-load = c .before .before .before .before .before .before .before .before .before .load in
-    sym ((outcome-kept _ _ _ _ _ _ _ _ _ (at-load .ensures) _ _ (at-l .given .1)) .holds .long .0)
+    sym ((outcome-kept _ _ _ _ _ _ _ _ (at-load .ensures) _ _ (at-l .given .1)) .holds .long .of-groups)
 
 cast-copy-number : tie.Need-cast-copy-number
 cast-copy-number c = search needs
@@ -54,25 +54,25 @@ copy-number-requires : tie.Need-copy-number-requires
 copy-number-requires c κs =
     let at-l = c .before .before .before .before .before .before .before .before .l in
     let at-load = c .before .before .before .before .before .before .before .before .before .before .before .load in
-    let h = (outcome-kept _ _ _ _ _ _ _ _ _ (at-load .ensures) _ _ (at-l .given .1)) .holds in (h .groups-laid, omega (arith, h .long .0, h .few .0))
+    let h = (outcome-kept _ _ _ _ _ _ _ _ (at-load .ensures) _ _ (at-l .given .1)) .holds in record { laid = h .groups-laid; room = omega (arith, h .long .of-groups, h .few .0) }
 
 enum-known-row-2 : tie.Need-enum-known-row-2
 enum-known-row-2 c = search needs
 
-slice-aggregate-copy-number-2 : tie.Need-slice-aggregate-copy-number-2
-slice-aggregate-copy-number-2 c =
+slice-aggregate-copy-id : tie.Need-slice-aggregate-copy-id
+slice-aggregate-copy-id c =
     let at-l = c .before .before .before .before .before .before .l in
     let at-load = c .before .before .before .before .before .before .before .before .before .load in
-    sym ((outcome-kept _ _ _ _ _ _ _ _ _ (at-load .ensures) _ _ (at-l .given .1)) .holds .long .3)
+    sym ((outcome-kept _ _ _ _ _ _ _ _ (at-load .ensures) _ _ (at-l .given .1)) .holds .long .of-starts)
 
-cast-copy-number-2 : tie.Need-cast-copy-number-2
-cast-copy-number-2 c = search needs
+cast-copy-id : tie.Need-cast-copy-id
+cast-copy-id c = search needs
 
-copy-number-requires-2 : tie.Need-copy-number-requires-2
-copy-number-requires-2 c κs =
+copy-id-requires : tie.Need-copy-id-requires
+copy-id-requires c κs =
     let at-l = c .before .before .before .before .before .before .before .before .l in
     let at-load = c .before .before .before .before .before .before .before .before .before .before .before .load in
-    let h = (outcome-kept _ _ _ _ _ _ _ _ _ (at-load .ensures) _ _ (at-l .given .1)) .holds in (h .ids-laid, omega (arith, h .long .3, h .few .2))
+    identified (outcome-kept _ _ _ _ _ _ _ _ (at-load .ensures) _ _ (at-l .given .1))
 
 same-length : tie.Need-same-length
 same-length c = search needs
@@ -83,18 +83,18 @@ returns-2 c =
     let at-row = c .before .before .before .before .before .before .before .row in
     let at-l = c .before .before .before .before .before .before .before .before .before .before .before .l in
     let at-load = c .before .before .before .before .before .before .before .before .before .before .before .before .before .before .load in
-    rw (at-row .given .1, ← group-name (outcome-kept _ _ _ _ _ _ _ _ _ (at-load .ensures) _ _ (at-l .given .1)) _) (at-copy-number .ensures)
+    rw (at-row .given .1, ← group-name (outcome-kept _ _ _ _ _ _ _ _ (at-load .ensures) _ _ (at-l .given .1)) _) (at-copy-number .ensures)
 
 same-length-2 : tie.Need-same-length-2
 same-length-2 c = search needs
 
 returns-3 : tie.Need-returns-3
 returns-3 c =
-    let at-copy-number2 = c .before .before .copy-number2 in
+    let at-copy-id = c .before .before .copy-id in
     let at-row2 = c .before .before .before .before .before .before .before .row2 in
     let at-l = c .before .before .before .before .before .before .before .before .before .before .before .l in
     let at-load = c .before .before .before .before .before .before .before .before .before .before .before .before .before .before .load in
-    rw (at-row2 .given .1, ← rule-id (outcome-kept _ _ _ _ _ _ _ _ _ (at-load .ensures) _ _ (at-l .given .1)) _) (at-copy-number2 .ensures)
+    rw (at-row2 .given .1, ← rule-id (outcome-kept _ _ _ _ _ _ _ _ (at-load .ensures) _ _ (at-l .given .1)) _) (at-copy-id .ensures)
 
 pub name-of-spec : {M : Type 1} → statement M
 name-of-spec =
@@ -112,9 +112,9 @@ name-of-spec =
     cast-copy-number
     copy-number-requires
     enum-known-row-2
-    slice-aggregate-copy-number-2
-    cast-copy-number-2
-    copy-number-requires-2
+    slice-aggregate-copy-id
+    cast-copy-id
+    copy-id-requires
     same-length
     returns-2
     same-length-2

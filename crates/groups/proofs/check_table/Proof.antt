@@ -20,13 +20,13 @@ returns : tie.Need-returns
 returns c =
     let at-enum-told = c .enum-told in
     let at-load = c .before .before .before .load in
-    outcome-accepted _ _ _ _ _ _ _ _ _ (at-load .ensures) _ _ (at-enum-told .given .1)
+    outcome-accepted _ _ _ _ _ _ _ _ (at-load .ensures) _ _ (at-enum-told .given .1)
 
 returns-2 : tie.Need-returns-2
 returns-2 c =
     let at-l = c .before .l in
     let at-load = c .before .before .before .before .load in
-    outcome-refused _ _ _ _ _ _ _ _ _ (at-load .ensures) _ _ (at-l .given .1)
+    outcome-refused _ _ _ _ _ _ _ _ (at-load .ensures) _ _ (at-l .given .1)
 
 pub check-table-spec : {M : Type 1} → statement M
 check-table-spec =

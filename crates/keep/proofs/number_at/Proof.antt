@@ -5,6 +5,7 @@ use Prim.Native.Nat.{_+_, _-_, _/_, _≤_}
 use Rattle.keep.proofs.number_at.Statement.{statement}
 use Rattle.keep.proofs.number_at.Tie as tie
 
+-- `high` stays within the groups
 abbrev Inv-loop : tie.InvT-loop
 Inv-loop groups n start low₀ high₀ low high = high ≤ n
 

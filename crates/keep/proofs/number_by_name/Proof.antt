@@ -7,28 +7,28 @@ use Rattle.keep.proofs.number_by_name.Tie as tie
 find-requires : tie.Need-find-requires
 find-requires c κs =
     let at-start = c .before .before .before .before in
-    at-start .pre .3 .sorted
+    at-start .pre .named .sorted
 
 returns : tie.Need-returns
 returns c =
     let at-if1 = c .if1 in
     let at-find = c .before .before .find in
     let at-start = c .before .before .before .before .before .before .before in
-    name-absent _ _ _ _ _ (at-start .pre .3) _ (at-find .ensures) (at-if1 .taken)
+    name-absent _ _ _ _ _ (at-start .pre .named) _ (at-find .ensures) (at-if1 .taken)
 
 mul-k : tie.Need-mul-k
 mul-k c =
     let at-if1 = c .if1 in
     let at-find = c .before .before .find in
     let at-start = c .before .before .before .before .before .before .before in
-    let h = name-present _ _ _ _ _ (at-start .pre .3) _ (at-find .ensures) (at-if1 .left) in omega (arith, h)
+    let h = name-present _ _ _ _ _ (at-start .pre .named) _ (at-find .ensures) (at-if1 .left) in omega (arith, h)
 
 shared-slice-read-k : tie.Need-shared-slice-read-k
 shared-slice-read-k c =
     let at-if1 = c .before .if1 in
     let at-find = c .before .before .before .find in
     let at-start = c .before .before .before .before .before .before .before .before in
-    name-present _ _ _ _ _ (at-start .pre .3) _ (at-find .ensures) (at-if1 .left)
+    name-present _ _ _ _ _ (at-start .pre .named) _ (at-find .ensures) (at-if1 .left)
 
 cast-k : tie.Need-cast-k
 cast-k c =
@@ -39,12 +39,12 @@ cast-k c =
 number-at-requires : tie.Need-number-at-requires
 number-at-requires c κs =
     let at-start = c .before .before .before .before .before .before .before .before in
-    at-start .pre .1
+    at-start .pre .distinct .listed .room
 
 find-from-requires : tie.Need-find-from-requires
 find-from-requires c κs =
     let at-start = c .before .before .before .before .before .before .before .before .before in
-    (at-start .pre .0, at-start .pre .1, at-start .pre .2)
+    at-start .pre .distinct
 
 returns-2 : tie.Need-returns-2
 returns-2 c =

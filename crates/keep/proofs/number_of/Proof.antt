@@ -3,6 +3,7 @@ use borrow.Author.Needs.{needs}
 use native.Mathlib.Omega.{arith}
 use mathlib.Core.Path.{sym, _∙_}
 use Prim.Native.Nat.{_%_}
+use Rattle.keep.specs.Held.{hintPlaces}
 use Rattle.rows.proofs.Grow.{number-is}
 use Rattle.keep.proofs.number_of.Statement.{statement}
 use Rattle.keep.proofs.number_of.Tie as tie
@@ -13,30 +14,30 @@ hash-requires c κs = search needs
 shared-slice-read-hint : tie.Need-shared-slice-read-hint
 shared-slice-read-hint c =
     let at-start = c .before .before .before .before .before .before .before in
-    omega (arith, at-start .pre .1 .0)
+    omega (arith, at-start .pre .1)
 
 cast-hint : tie.Need-cast-hint
 cast-hint c =
     let at-shared-slice-known6 = c .shared-slice-known6 in
     let at-hash = c .before .hash in
-    omega (arith, at-shared-slice-known6 .given (at-hash .result % 1024))
+    omega (arith, at-shared-slice-known6 .given (at-hash .result % hintPlaces))
 
 is-number-requires : tie.Need-is-number-requires
 is-number-requires c κs =
     let at-start = c .before .before .before .before .before .before .before in
-    (at-start .pre .0 .0, at-start .pre .0 .1)
+    at-start .pre .0 .distinct .listed
 
 returns : tie.Need-returns
 returns c =
     let at-if1 = c .if1 in
     let at-is-number = c .before .is-number in
     let at-start = c .before .before .before .before .before .before .before .before .before in
-    number-is _ _ _ _ _ (at-start .pre .0 .2) (sym (at-is-number .ensures) ∙ at-if1 .taken)
+    number-is _ _ _ _ _ (at-start .pre .0 .distinct .distinct) (sym (at-is-number .ensures) ∙ at-if1 .taken)
 
 number-by-name-requires : tie.Need-number-by-name-requires
 number-by-name-requires c κs =
     let at-start = c .before .before .before .before .before .before .before .before .before in
-    (at-start .pre .0 .0, at-start .pre .0 .1, at-start .pre .0 .2, at-start .pre .1 .1)
+    at-start .pre .0
 
 returns-2 : tie.Need-returns-2
 returns-2 c =

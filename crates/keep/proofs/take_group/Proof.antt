@@ -2,6 +2,8 @@
 use borrow.Author.Needs.{needs}
 use native.Mathlib.Omega.{arith}
 use mathlib.Core.Path.{refl, sym, _∙_}
+use Rattle.limits.specs.Limits.{maxGroups}
+use Rattle.text.specs.Refusal.{clear}
 use Rattle.text.proofs.Frames.{string-ends}
 use Rattle.keep.proofs.Groups.{below, group-short, group-long, group-four, group-graded, group-kept}
 use mathlib.Core.List.{[]}
@@ -22,7 +24,7 @@ returns c =
     let at-enum-told = c .enum-told in
     let at-string-end = c .before .before .string-end in
     let at-start = c .before .before .before .before .before in
-    (λ b w g. group-short _ (at-start .pre .0) _ (at-string-end .ensures) b _ w (at-enum-told .given .1), λ x. absurd (omega arith))
+    (λ b w g. group-short _ (at-start .pre .kind) _ (at-string-end .ensures) b _ w (at-enum-told .given .1), λ x. absurd (omega arith))
 
 returns-2 : tie.Need-returns-2
 returns-2 c =
@@ -30,7 +32,7 @@ returns-2 c =
     let at-e = c .before .before .e in
     let at-string-end = c .before .before .before .before .string-end in
     let at-start = c .before .before .before .before .before .before .before in
-    (λ b w g. group-long _ (at-start .pre .0) _ (at-string-end .ensures) b _ w _ (at-e .given .1) (at-if1 .taken), λ x. absurd (omega arith))
+    (λ b w g. group-long _ (at-start .pre .kind) _ (at-string-end .ensures) b _ w _ (at-e .given .1) (at-if1 .taken), λ x. absurd (omega arith))
 
 is-out-of-order-requires : tie.Need-is-out-of-order-requires
 is-out-of-order-requires c κs = search needs
@@ -43,7 +45,7 @@ returns-3 c =
     let at-e = c .before .before .before .before .e in
     let at-string-end = c .before .before .before .before .before .before .string-end in
     let at-start = c .before .before .before .before .before .before .before .before .before in
-    (λ b w g. group-four _ (at-start .pre .0) _ (at-string-end .ensures) b _ w _ (at-e .given .1) (at-if1 .left) _ (at-is-out-of-order .ensures) (at-if2 .taken), λ x. absurd (omega arith))
+    (λ b w g. group-four _ (at-start .pre .kind) _ (at-string-end .ensures) b _ w _ (at-e .given .1) (at-if1 .left) _ (at-is-out-of-order .ensures) (at-if2 .taken), λ x. absurd (omega arith))
 
 sub-name : tie.Need-sub-name
 sub-name c =
@@ -72,7 +74,7 @@ all-print-requires c κs = search needs
 find-requires : tie.Need-find-requires
 find-requires c κs =
     let at-start = c .before .before .before .before .before .before .before .before .before .before .before .before .before .before in
-    at-start .pre .1 .2 .sorted
+    at-start .pre .named .sorted
 
 number-requires : tie.Need-number-requires
 number-requires c κs = search needs
@@ -90,19 +92,19 @@ returns-4 c =
     let at-e = c .before .before .before .before .before .before .before .before .before .before .before .before .e in
     let at-string-end = c .before .before .before .before .before .before .before .before .before .before .before .before .before .before .string-end in
     let at-start = c .before .before .before .before .before .before .before .before .before .before .before .before .before .before .before .before .before in
-    (λ b w g. group-graded _ (at-start .pre .0) _ (at-string-end .ensures) b _ w _ (at-e .given .1) (at-if1 .left) _ (at-is-out-of-order .ensures) (at-if2 .left) _ _ _ g _ (at-start .pre .1 .2) _ _ _ _ (at-number .ensures) (at-is-unsized .ensures) (at-all-print .ensures) (at-find .ensures), λ x. absurd (at-if3 .taken x))
+    (λ b w g. group-graded _ (at-start .pre .kind) _ (at-string-end .ensures) b _ w _ (at-e .given .1) (at-if1 .left) _ (at-is-out-of-order .ensures) (at-if2 .left) _ _ _ g _ (at-start .pre .named) _ _ _ _ (at-number .ensures) (at-is-unsized .ensures) (at-all-print .ensures) (at-find .ensures), λ x. absurd (at-if3 .taken x))
 
 add-from : tie.Need-add-from
 add-from c =
     let at-start = c .before .before .before .before .before .before .before .before .before .before .before .before .before .before .before .before .before in
-    omega (arith, at-start .pre .1 .0)
+    omega (arith, at-start .pre .room)
 
 add-to : tie.Need-add-to
 add-to c =
     let at-e = c .before .before .before .before .before .before .before .before .before .before .before .before .e in
     let at-string-end = c .before .before .before .before .before .before .before .before .before .before .before .before .before .before .string-end in
     let at-start = c .before .before .before .before .before .before .before .before .before .before .before .before .before .before .before .before .before in
-    let h = string-ends _ _ _ (at-string-end .ensures) _ (at-e .given .1) in omega (arith, h .1, h .2, at-start .pre .1 .0)
+    let h = string-ends _ _ _ (at-string-end .ensures) _ (at-e .given .1) in omega (arith, h .1, h .2, at-start .pre .room)
 
 insert-requires : tie.Need-insert-requires
 insert-requires c κs =
@@ -113,17 +115,17 @@ insert-requires c κs =
     let at-e = c .before .before .before .before .before .before .before .before .before .before .before .before .before .e in
     let at-string-end = c .before .before .before .before .before .before .before .before .before .before .before .before .before .before .before .string-end in
     let at-start = c .before .before .before .before .before .before .before .before .before .before .before .before .before .before .before .before .before .before in
-    let h = string-ends _ _ _ (at-string-end .ensures) _ (at-e .given .1) in let l = below 255 64 (at-start .args .n) _ _ _ _ _ _ (at-is-unsized .ensures) (at-number .ensures) (at-if3 .left) in (at-find .ensures .placed .fits, omega arith, omega (arith, h .1, h .2, at-start .pre .1 .0), omega (arith, h .1, h .2, at-start .pre .1 .0))
+    let h = string-ends _ _ _ (at-string-end .ensures) _ (at-e .given .1) in let l = below clear maxGroups (at-start .args .n) _ _ _ _ _ _ (at-is-unsized .ensures) (at-number .ensures) (at-if3 .left) in (at-find .ensures .placed .fits, omega arith, omega (arith, h .1, h .2, at-start .pre .room), omega (arith, h .1, h .2, at-start .pre .room))
 
 add-starts : tie.Need-add-starts
 add-starts c =
     let at-start = c .before .before .before .before .before .before .before .before .before .before .before .before .before .before .before .before .before .before .before in
-    omega (arith, at-start .pre .1 .0)
+    omega (arith, at-start .pre .room)
 
 cast-starts : tie.Need-cast-starts
 cast-starts c =
     let at-start = c .before .before .before .before .before .before .before .before .before .before .before .before .before .before .before .before .before .before .before in
-    omega (arith, at-start .pre .1 .0)
+    omega (arith, at-start .pre .room)
 
 mul-starts : tie.Need-mul-starts
 mul-starts c =
@@ -131,7 +133,7 @@ mul-starts c =
     let at-number = c .before .before .before .number in
     let at-is-unsized = c .before .before .before .before .before .before .before .before .is-unsized in
     let at-start = c .before .before .before .before .before .before .before .before .before .before .before .before .before .before .before .before .before .before .before in
-    let h = below 255 64 (at-start .args .n) _ _ _ _ _ _ (at-is-unsized .ensures) (at-number .ensures) (at-if3 .left) in omega arith
+    let h = below clear maxGroups (at-start .args .n) _ _ _ _ _ _ (at-is-unsized .ensures) (at-number .ensures) (at-if3 .left) in omega arith
 
 element-write-starts : tie.Need-element-write-starts
 element-write-starts c =
@@ -139,7 +141,7 @@ element-write-starts c =
     let at-number = c .before .before .before .number in
     let at-is-unsized = c .before .before .before .before .before .before .before .before .is-unsized in
     let at-start = c .before .before .before .before .before .before .before .before .before .before .before .before .before .before .before .before .before .before .before in
-    below 255 64 (at-start .args .n) _ _ _ _ _ _ (at-is-unsized .ensures) (at-number .ensures) (at-if3 .left)
+    below clear maxGroups (at-start .args .n) _ _ _ _ _ _ (at-is-unsized .ensures) (at-number .ensures) (at-if3 .left)
 
 hash-requires : tie.Need-hash-requires
 hash-requires c κs = search needs
@@ -150,7 +152,7 @@ cast-hints c =
     let at-number = c .before .before .before .before .number in
     let at-is-unsized = c .before .before .before .before .before .before .before .before .before .is-unsized in
     let at-start = c .before .before .before .before .before .before .before .before .before .before .before .before .before .before .before .before .before .before .before .before in
-    let h = below 255 64 (at-start .args .n) _ _ _ _ _ _ (at-is-unsized .ensures) (at-number .ensures) (at-if3 .left) in omega arith
+    let h = below clear maxGroups (at-start .args .n) _ _ _ _ _ _ (at-is-unsized .ensures) (at-number .ensures) (at-if3 .left) in omega arith
 
 element-write-hints : tie.Need-element-write-hints
 element-write-hints c = search needs
@@ -169,7 +171,7 @@ returns-5 c =
     let at-e = c .before .before .before .before .before .before .before .before .before .before .before .before .before .before .before .e in
     let at-string-end = c .before .before .before .before .before .before .before .before .before .before .before .before .before .before .before .before .before .string-end in
     let at-start = c .before .before .before .before .before .before .before .before .before .before .before .before .before .before .before .before .before .before .before .before in
-    (λ b w g. sym (at-if3 .left) ∙ group-graded _ (at-start .pre .0) _ (at-string-end .ensures) b _ w _ (at-e .given .1) (at-if1 .left) _ (at-is-out-of-order .ensures) (at-if2 .left) _ _ _ g _ (at-start .pre .1 .2) _ _ _ _ (at-number .ensures) (at-is-unsized .ensures) (at-all-print .ensures) (at-find .ensures), λ x. group-kept _ (at-start .pre .0) _ (at-string-end .ensures) (record { kind = at-start .args .last; groups = []; members = []; ids = [] }) _ refl _ (at-e .given .1) (at-if1 .left) _ (at-is-out-of-order .ensures) _ _ _ (below 255 64 (at-start .args .n) _ _ _ _ _ _ (at-is-unsized .ensures) (at-number .ensures) (at-if3 .left)) (at-start .pre .1 .0) (at-start .args .names .now) (omega arith) (at-start .pre .1 .2) _ _ _ _ (at-number .ensures) (at-if3 .left) (at-find .ensures) _ (at-insert .ensures))
+    (λ b w g. sym (at-if3 .left) ∙ group-graded _ (at-start .pre .kind) _ (at-string-end .ensures) b _ w _ (at-e .given .1) (at-if1 .left) _ (at-is-out-of-order .ensures) (at-if2 .left) _ _ _ g _ (at-start .pre .named) _ _ _ _ (at-number .ensures) (at-is-unsized .ensures) (at-all-print .ensures) (at-find .ensures), λ x. group-kept _ (at-start .pre .kind) _ (at-string-end .ensures) (record { kind = at-start .args .last; groups = []; members = []; rules = [] }) _ refl _ (at-e .given .1) (at-if1 .left) _ (at-is-out-of-order .ensures) _ _ _ (below clear maxGroups (at-start .args .n) _ _ _ _ _ _ (at-is-unsized .ensures) (at-number .ensures) (at-if3 .left)) (at-start .pre .room) (at-start .args .names .now) (omega arith) (at-start .pre .named) _ _ _ _ (at-number .ensures) (at-if3 .left) (at-find .ensures) _ (at-insert .ensures))
 
 pub take-group-spec : {M : Type 1} → statement M
 take-group-spec =

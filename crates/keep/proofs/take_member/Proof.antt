@@ -21,7 +21,7 @@ returns c =
     let at-enum-told = c .enum-told in
     let at-string-end = c .before .before .string-end in
     let at-start = c .before .before .before .before .before in
-    (λ b w g m. member-short _ (at-start .pre .0) _ (at-string-end .ensures) b (at-enum-told .given .1), λ x. absurd (omega arith))
+    (λ b w g m. member-short _ (at-start .pre .kind) _ (at-string-end .ensures) b (at-enum-told .given .1), λ x. absurd (omega arith))
 
 string-end-requires-2 : tie.Need-string-end-requires-2
 string-end-requires-2 c κs = search needs
@@ -39,7 +39,7 @@ returns-2 c =
     let at-a = c .before .before .before .before .a in
     let at-string-end = c .before .before .before .before .before .before .string-end in
     let at-start = c .before .before .before .before .before .before .before .before .before in
-    (λ b w g m. member-half _ (at-start .pre .0) _ (at-string-end .ensures) _ (at-a .given .1) _ (at-string-end2 .ensures) b (at-enum-told2 .given .1), λ x. absurd (omega arith))
+    (λ b w g m. member-half _ (at-start .pre .kind) _ (at-string-end .ensures) _ (at-a .given .1) _ (at-string-end2 .ensures) b (at-enum-told2 .given .1), λ x. absurd (omega arith))
 
 returns-3 : tie.Need-returns-3
 returns-3 c =
@@ -49,7 +49,7 @@ returns-3 c =
     let at-a = c .before .before .before .before .before .before .a in
     let at-string-end = c .before .before .before .before .before .before .before .before .string-end in
     let at-start = c .before .before .before .before .before .before .before .before .before .before .before in
-    (λ b w g m. member-long _ (at-start .pre .0) _ (at-string-end .ensures) _ (at-a .given .1) _ (at-string-end2 .ensures) _ (at-z .given .1) b (at-if1 .taken), λ x. absurd (omega arith))
+    (λ b w g m. member-long _ (at-start .pre .kind) _ (at-string-end .ensures) _ (at-a .given .1) _ (at-string-end2 .ensures) _ (at-z .given .1) b (at-if1 .taken), λ x. absurd (omega arith))
 
 is-out-of-order-requires : tie.Need-is-out-of-order-requires
 is-out-of-order-requires c κs = search needs
@@ -64,7 +64,7 @@ returns-4 c =
     let at-a = c .before .before .before .before .before .before .before .before .a in
     let at-string-end = c .before .before .before .before .before .before .before .before .before .before .string-end in
     let at-start = c .before .before .before .before .before .before .before .before .before .before .before .before .before in
-    (λ b w g m. member-four _ (at-start .pre .0) _ (at-string-end .ensures) _ (at-a .given .1) _ (at-string-end2 .ensures) _ (at-z .given .1) (at-if1 .left) _ _ (at-is-out-of-order .ensures) b w (at-if2 .taken), λ x. absurd (omega arith))
+    (λ b w g m. member-four _ (at-start .pre .kind) _ (at-string-end .ensures) _ (at-a .given .1) _ (at-string-end2 .ensures) _ (at-z .given .1) (at-if1 .left) _ _ (at-is-out-of-order .ensures) b w (at-if2 .taken), λ x. absurd (omega arith))
 
 add-from : tie.Need-add-from
 add-from c =
@@ -129,7 +129,7 @@ part-key-end c =
 number-of-requires : tie.Need-number-of-requires
 number-of-requires c κs =
     let at-start = c .before .before .before .before .before .before .before .before .before .before .before .before .before .before .before .before .before .before .before in
-    ((at-start .pre .1 .0 .1, omega (arith, at-start .pre .1 .0 .2), at-start .pre .1 .0 .3), (omega arith, at-start .pre .1 .1 .0))
+    (at-start .pre .groups, omega arith)
 
 hash-requires : tie.Need-hash-requires
 hash-requires c κs = search needs
@@ -140,7 +140,7 @@ add-p c = search needs
 find-requires : tie.Need-find-requires
 find-requires c κs =
     let at-start = c .before .before .before .before .before .before .before .before .before .before .before .before .before .before .before .before .before .before .before .before .before .before .before in
-    (at-start .pre .1 .1 .1 .ready, omega arith, omega arith)
+    (at-start .pre .held .ready, omega arith, omega arith)
 
 is-unsized-requires : tie.Need-is-unsized-requires
 is-unsized-requires c κs = search needs
@@ -176,21 +176,21 @@ returns-5 c =
     let at-a = c .before .before .before .before .before .before .before .before .before .before .before .before .before .before .before .before .before .before .before .before .before .before .before .before .before .a in
     let at-string-end = c .before .before .before .before .before .before .before .before .before .before .before .before .before .before .before .before .before .before .before .before .before .before .before .before .before .before .before .string-end in
     let at-start = c .before .before .before .before .before .before .before .before .before .before .before .before .before .before .before .before .before .before .before .before .before .before .before .before .before .before .before .before .before .before in
-    (λ b w g m. member-graded _ (at-start .pre .0) _ (at-string-end .ensures) _ (at-a .given .1) _ (at-string-end2 .ensures) _ (at-z .given .1) (at-if1 .left) _ _ (at-is-out-of-order .ensures) (at-if2 .left) (at-start .args .old .now) (at-start .args .groups .now) _ (at-start .args .users .now) (at-start .args .owners .now) (at-start .args .keys .now) _ (at-start .pre .1 .0 .0) (at-start .pre .1 .1 .2) (at-start .pre .1 .1 .1) _ _ _ _ _ _ _ _ (at-is-unsized .ensures) (at-is-unsized2 .ensures) (at-all-print .ensures) (at-all-print2 .ensures) (at-number-of .ensures) (at-hash .ensures) (at-find .ensures) (at-number .ensures) b w g m, λ x. absurd (at-if3 .taken x))
+    (λ b w g m. member-graded _ (at-start .pre .kind) _ (at-string-end .ensures) _ (at-a .given .1) _ (at-string-end2 .ensures) _ (at-z .given .1) (at-if1 .left) _ _ (at-is-out-of-order .ensures) (at-if2 .left) (at-start .args .old .now) (at-start .args .groups .now) _ (at-start .args .users .now) (at-start .args .owners .now) (at-start .args .keys .now) _ (at-start .pre .room) (at-start .pre .long) (at-start .pre .held) _ _ _ _ _ _ _ _ (at-is-unsized .ensures) (at-is-unsized2 .ensures) (at-all-print .ensures) (at-all-print2 .ensures) (at-number-of .ensures) (at-hash .ensures) (at-find .ensures) (at-number .ensures) b w g m, λ x. absurd (at-if3 .taken x))
 
 add-users : tie.Need-add-users
 add-users c =
     let at-z = c .before .before .before .before .before .before .before .before .before .before .before .before .before .before .before .before .before .before .before .before .before .z in
     let at-string-end2 = c .before .before .before .before .before .before .before .before .before .before .before .before .before .before .before .before .before .before .before .before .before .before .before .string-end2 in
     let at-start = c .before .before .before .before .before .before .before .before .before .before .before .before .before .before .before .before .before .before .before .before .before .before .before .before .before .before .before .before .before .before in
-    let h = string-ends _ _ _ (at-string-end2 .ensures) _ (at-z .given .1) in omega (arith, h .1, h .2, at-start .pre .1 .0 .0)
+    let h = string-ends _ _ _ (at-string-end2 .ensures) _ (at-z .given .1) in omega (arith, h .1, h .2, at-start .pre .room)
 
 cast-users : tie.Need-cast-users
 cast-users c =
     let at-z = c .before .before .before .before .before .before .before .before .before .before .before .before .before .before .before .before .before .before .before .before .before .z in
     let at-string-end2 = c .before .before .before .before .before .before .before .before .before .before .before .before .before .before .before .before .before .before .before .before .before .before .before .string-end2 in
     let at-start = c .before .before .before .before .before .before .before .before .before .before .before .before .before .before .before .before .before .before .before .before .before .before .before .before .before .before .before .before .before .before in
-    let h = string-ends _ _ _ (at-string-end2 .ensures) _ (at-z .given .1) in omega (arith, h .1, h .2, at-start .pre .1 .0 .0)
+    let h = string-ends _ _ _ (at-string-end2 .ensures) _ (at-z .given .1) in omega (arith, h .1, h .2, at-start .pre .room)
 
 mul-users : tie.Need-mul-users
 mul-users c =
@@ -211,7 +211,7 @@ mul-users c =
     let at-a = c .before .before .before .before .before .before .before .before .before .before .before .before .before .before .before .before .before .before .before .before .before .before .before .before .before .a in
     let at-string-end = c .before .before .before .before .before .before .before .before .before .before .before .before .before .before .before .before .before .before .before .before .before .before .before .before .before .before .before .string-end in
     let at-start = c .before .before .before .before .before .before .before .before .before .before .before .before .before .before .before .before .before .before .before .before .before .before .before .before .before .before .before .before .before .before in
-    let h = member-room _ (at-start .pre .0) _ (at-string-end .ensures) _ (at-a .given .1) _ (at-string-end2 .ensures) _ (at-z .given .1) (at-if1 .left) _ _ (at-is-out-of-order .ensures) (at-if2 .left) (at-start .args .old .now) (at-start .args .groups .now) _ (at-start .args .users .now) (at-start .args .owners .now) (at-start .args .keys .now) _ (at-start .pre .1 .0 .0) (at-start .pre .1 .1 .2) (at-start .pre .1 .1 .1) _ _ _ _ _ _ _ _ (at-is-unsized .ensures) (at-is-unsized2 .ensures) (at-all-print .ensures) (at-all-print2 .ensures) (at-number-of .ensures) (at-hash .ensures) (at-find .ensures) (at-number .ensures) (at-if3 .left) in omega arith
+    let h = member-room _ (at-start .pre .kind) _ (at-string-end .ensures) _ (at-a .given .1) _ (at-string-end2 .ensures) _ (at-z .given .1) (at-if1 .left) _ _ (at-is-out-of-order .ensures) (at-if2 .left) (at-start .args .old .now) (at-start .args .groups .now) _ (at-start .args .users .now) (at-start .args .owners .now) (at-start .args .keys .now) _ (at-start .pre .room) (at-start .pre .long) (at-start .pre .held) _ _ _ _ _ _ _ _ (at-is-unsized .ensures) (at-is-unsized2 .ensures) (at-all-print .ensures) (at-all-print2 .ensures) (at-number-of .ensures) (at-hash .ensures) (at-find .ensures) (at-number .ensures) (at-if3 .left) in omega arith
 
 element-write-users : tie.Need-element-write-users
 element-write-users c =
@@ -232,13 +232,13 @@ element-write-users c =
     let at-a = c .before .before .before .before .before .before .before .before .before .before .before .before .before .before .before .before .before .before .before .before .before .before .before .before .before .a in
     let at-string-end = c .before .before .before .before .before .before .before .before .before .before .before .before .before .before .before .before .before .before .before .before .before .before .before .before .before .before .before .string-end in
     let at-start = c .before .before .before .before .before .before .before .before .before .before .before .before .before .before .before .before .before .before .before .before .before .before .before .before .before .before .before .before .before .before in
-    member-room _ (at-start .pre .0) _ (at-string-end .ensures) _ (at-a .given .1) _ (at-string-end2 .ensures) _ (at-z .given .1) (at-if1 .left) _ _ (at-is-out-of-order .ensures) (at-if2 .left) (at-start .args .old .now) (at-start .args .groups .now) _ (at-start .args .users .now) (at-start .args .owners .now) (at-start .args .keys .now) _ (at-start .pre .1 .0 .0) (at-start .pre .1 .1 .2) (at-start .pre .1 .1 .1) _ _ _ _ _ _ _ _ (at-is-unsized .ensures) (at-is-unsized2 .ensures) (at-all-print .ensures) (at-all-print2 .ensures) (at-number-of .ensures) (at-hash .ensures) (at-find .ensures) (at-number .ensures) (at-if3 .left)
+    member-room _ (at-start .pre .kind) _ (at-string-end .ensures) _ (at-a .given .1) _ (at-string-end2 .ensures) _ (at-z .given .1) (at-if1 .left) _ _ (at-is-out-of-order .ensures) (at-if2 .left) (at-start .args .old .now) (at-start .args .groups .now) _ (at-start .args .users .now) (at-start .args .owners .now) (at-start .args .keys .now) _ (at-start .pre .room) (at-start .pre .long) (at-start .pre .held) _ _ _ _ _ _ _ _ (at-is-unsized .ensures) (at-is-unsized2 .ensures) (at-all-print .ensures) (at-all-print2 .ensures) (at-number-of .ensures) (at-hash .ensures) (at-find .ensures) (at-number .ensures) (at-if3 .left)
 
 cast-owners : tie.Need-cast-owners
 cast-owners c =
     let at-number-of = c .before .before .before .before .before .before .before .before .before .before .number-of in
     let at-start = c .before .before .before .before .before .before .before .before .before .before .before .before .before .before .before .before .before .before .before .before .before .before .before .before .before .before .before .before .before .before in
-    let h = place-small _ _ _ _ _ (at-number-of .ensures) in omega (arith, h, at-start .pre .1 .0 .2)
+    let h = place-small _ _ _ _ _ (at-number-of .ensures) in omega (arith, h, at-start .pre .few)
 
 element-write-owners : tie.Need-element-write-owners
 element-write-owners c =
@@ -259,19 +259,19 @@ element-write-owners c =
     let at-a = c .before .before .before .before .before .before .before .before .before .before .before .before .before .before .before .before .before .before .before .before .before .before .before .before .before .a in
     let at-string-end = c .before .before .before .before .before .before .before .before .before .before .before .before .before .before .before .before .before .before .before .before .before .before .before .before .before .before .before .string-end in
     let at-start = c .before .before .before .before .before .before .before .before .before .before .before .before .before .before .before .before .before .before .before .before .before .before .before .before .before .before .before .before .before .before in
-    member-room _ (at-start .pre .0) _ (at-string-end .ensures) _ (at-a .given .1) _ (at-string-end2 .ensures) _ (at-z .given .1) (at-if1 .left) _ _ (at-is-out-of-order .ensures) (at-if2 .left) (at-start .args .old .now) (at-start .args .groups .now) _ (at-start .args .users .now) (at-start .args .owners .now) (at-start .args .keys .now) _ (at-start .pre .1 .0 .0) (at-start .pre .1 .1 .2) (at-start .pre .1 .1 .1) _ _ _ _ _ _ _ _ (at-is-unsized .ensures) (at-is-unsized2 .ensures) (at-all-print .ensures) (at-all-print2 .ensures) (at-number-of .ensures) (at-hash .ensures) (at-find .ensures) (at-number .ensures) (at-if3 .left)
+    member-room _ (at-start .pre .kind) _ (at-string-end .ensures) _ (at-a .given .1) _ (at-string-end2 .ensures) _ (at-z .given .1) (at-if1 .left) _ _ (at-is-out-of-order .ensures) (at-if2 .left) (at-start .args .old .now) (at-start .args .groups .now) _ (at-start .args .users .now) (at-start .args .owners .now) (at-start .args .keys .now) _ (at-start .pre .room) (at-start .pre .long) (at-start .pre .held) _ _ _ _ _ _ _ _ (at-is-unsized .ensures) (at-is-unsized2 .ensures) (at-all-print .ensures) (at-all-print2 .ensures) (at-number-of .ensures) (at-hash .ensures) (at-find .ensures) (at-number .ensures) (at-if3 .left)
 
 add-begin : tie.Need-add-begin
 add-begin c =
     let at-start = c .before .before .before .before .before .before .before .before .before .before .before .before .before .before .before .before .before .before .before .before .before .before .before .before .before .before .before .before .before .before in
-    omega (arith, at-start .pre .1 .0 .0)
+    omega (arith, at-start .pre .room)
 
 add-to : tie.Need-add-to
 add-to c =
     let at-z = c .before .before .before .before .before .before .before .before .before .before .before .before .before .before .before .before .before .before .before .before .before .z in
     let at-string-end2 = c .before .before .before .before .before .before .before .before .before .before .before .before .before .before .before .before .before .before .before .before .before .before .before .string-end2 in
     let at-start = c .before .before .before .before .before .before .before .before .before .before .before .before .before .before .before .before .before .before .before .before .before .before .before .before .before .before .before .before .before .before in
-    let h = string-ends _ _ _ (at-string-end2 .ensures) _ (at-z .given .1) in omega (arith, h .1, h .2, at-start .pre .1 .0 .0)
+    let h = string-ends _ _ _ (at-string-end2 .ensures) _ (at-z .given .1) in omega (arith, h .1, h .2, at-start .pre .room)
 
 add-requires : tie.Need-add-requires
 add-requires c κs =
@@ -292,7 +292,7 @@ add-requires c κs =
     let at-a = c .before .before .before .before .before .before .before .before .before .before .before .before .before .before .before .before .before .before .before .before .before .before .before .before .before .before .a in
     let at-string-end = c .before .before .before .before .before .before .before .before .before .before .before .before .before .before .before .before .before .before .before .before .before .before .before .before .before .before .before .before .string-end in
     let at-start = c .before .before .before .before .before .before .before .before .before .before .before .before .before .before .before .before .before .before .before .before .before .before .before .before .before .before .before .before .before .before .before in
-    let h = string-ends _ _ _ (at-string-end2 .ensures) _ (at-z .given .1) in (fits-is _ (at-start .pre .0) _ (at-string-end .ensures) _ (at-a .given .1) _ (at-string-end2 .ensures) _ (at-z .given .1) (at-if1 .left) _ _ (at-is-out-of-order .ensures) (at-if2 .left) (at-start .args .old .now) (at-start .args .groups .now) _ (at-start .args .users .now) (at-start .args .owners .now) (at-start .args .keys .now) _ (at-start .pre .1 .0 .0) (at-start .pre .1 .1 .2) (at-start .pre .1 .1 .1) _ _ _ _ _ _ _ _ (at-is-unsized .ensures) (at-is-unsized2 .ensures) (at-all-print .ensures) (at-all-print2 .ensures) (at-number-of .ensures) (at-hash .ensures) (at-find .ensures) (at-number .ensures), sorted-room _ (at-start .pre .0) _ (at-string-end .ensures) _ (at-a .given .1) _ (at-string-end2 .ensures) _ (at-z .given .1) (at-if1 .left) _ _ (at-is-out-of-order .ensures) (at-if2 .left) (at-start .args .old .now) (at-start .args .groups .now) _ (at-start .args .users .now) (at-start .args .owners .now) (at-start .args .keys .now) _ (at-start .pre .1 .0 .0) (at-start .pre .1 .1 .2) (at-start .pre .1 .1 .1) _ _ _ _ _ _ _ _ (at-is-unsized .ensures) (at-is-unsized2 .ensures) (at-all-print .ensures) (at-all-print2 .ensures) (at-number-of .ensures) (at-hash .ensures) (at-find .ensures) (at-number .ensures) (at-if3 .left), omega arith, omega arith, spot-fits _ (at-start .pre .0) _ (at-string-end .ensures) _ (at-a .given .1) _ (at-string-end2 .ensures) _ (at-z .given .1) (at-if1 .left) _ _ (at-is-out-of-order .ensures) (at-if2 .left) (at-start .args .old .now) (at-start .args .groups .now) _ (at-start .args .users .now) (at-start .args .owners .now) (at-start .args .keys .now) _ (at-start .pre .1 .0 .0) (at-start .pre .1 .1 .2) (at-start .pre .1 .1 .1) _ _ _ _ _ _ _ _ (at-is-unsized .ensures) (at-is-unsized2 .ensures) (at-all-print .ensures) (at-all-print2 .ensures) (at-number-of .ensures) (at-hash .ensures) (at-find .ensures) (at-number .ensures), omega (arith, h .1, h .2, at-start .pre .1 .0 .0), omega (arith, h .1, h .2, at-start .pre .1 .0 .0))
+    let h = string-ends _ _ _ (at-string-end2 .ensures) _ (at-z .given .1) in (fits-is _ (at-start .pre .kind) _ (at-string-end .ensures) _ (at-a .given .1) _ (at-string-end2 .ensures) _ (at-z .given .1) (at-if1 .left) _ _ (at-is-out-of-order .ensures) (at-if2 .left) (at-start .args .old .now) (at-start .args .groups .now) _ (at-start .args .users .now) (at-start .args .owners .now) (at-start .args .keys .now) _ (at-start .pre .room) (at-start .pre .long) (at-start .pre .held) _ _ _ _ _ _ _ _ (at-is-unsized .ensures) (at-is-unsized2 .ensures) (at-all-print .ensures) (at-all-print2 .ensures) (at-number-of .ensures) (at-hash .ensures) (at-find .ensures) (at-number .ensures), sorted-room _ (at-start .pre .kind) _ (at-string-end .ensures) _ (at-a .given .1) _ (at-string-end2 .ensures) _ (at-z .given .1) (at-if1 .left) _ _ (at-is-out-of-order .ensures) (at-if2 .left) (at-start .args .old .now) (at-start .args .groups .now) _ (at-start .args .users .now) (at-start .args .owners .now) (at-start .args .keys .now) _ (at-start .pre .room) (at-start .pre .long) (at-start .pre .held) _ _ _ _ _ _ _ _ (at-is-unsized .ensures) (at-is-unsized2 .ensures) (at-all-print .ensures) (at-all-print2 .ensures) (at-number-of .ensures) (at-hash .ensures) (at-find .ensures) (at-number .ensures) (at-if3 .left), omega arith, omega arith, spot-fits _ (at-start .pre .kind) _ (at-string-end .ensures) _ (at-a .given .1) _ (at-string-end2 .ensures) _ (at-z .given .1) (at-if1 .left) _ _ (at-is-out-of-order .ensures) (at-if2 .left) (at-start .args .old .now) (at-start .args .groups .now) _ (at-start .args .users .now) (at-start .args .owners .now) (at-start .args .keys .now) _ (at-start .pre .room) (at-start .pre .long) (at-start .pre .held) _ _ _ _ _ _ _ _ (at-is-unsized .ensures) (at-is-unsized2 .ensures) (at-all-print .ensures) (at-all-print2 .ensures) (at-number-of .ensures) (at-hash .ensures) (at-find .ensures) (at-number .ensures), omega (arith, h .1, h .2, at-start .pre .room), omega (arith, h .1, h .2, at-start .pre .room))
 
 returns-6 : tie.Need-returns-6
 returns-6 c =
@@ -314,7 +314,7 @@ returns-6 c =
     let at-a = c .before .before .before .before .before .before .before .before .before .before .before .before .before .before .before .before .before .before .before .before .before .before .before .before .before .before .before .a in
     let at-string-end = c .before .before .before .before .before .before .before .before .before .before .before .before .before .before .before .before .before .before .before .before .before .before .before .before .before .before .before .before .before .string-end in
     let at-start = c .before .before .before .before .before .before .before .before .before .before .before .before .before .before .before .before .before .before .before .before .before .before .before .before .before .before .before .before .before .before .before .before in
-    (λ b w g m. sym (at-if3 .left) ∙ member-graded _ (at-start .pre .0) _ (at-string-end .ensures) _ (at-a .given .1) _ (at-string-end2 .ensures) _ (at-z .given .1) (at-if1 .left) _ _ (at-is-out-of-order .ensures) (at-if2 .left) (at-start .args .old .now) (at-start .args .groups .now) _ (at-start .args .users .now) (at-start .args .owners .now) (at-start .args .keys .now) _ (at-start .pre .1 .0 .0) (at-start .pre .1 .1 .2) (at-start .pre .1 .1 .1) _ _ _ _ _ _ _ _ (at-is-unsized .ensures) (at-is-unsized2 .ensures) (at-all-print .ensures) (at-all-print2 .ensures) (at-number-of .ensures) (at-hash .ensures) (at-find .ensures) (at-number .ensures) b w g m, λ x. member-kept _ (at-start .pre .0) _ (at-string-end .ensures) _ (at-a .given .1) _ (at-string-end2 .ensures) _ (at-z .given .1) (at-if1 .left) _ _ (at-is-out-of-order .ensures) (at-if2 .left) (at-start .args .old .now) (at-start .args .groups .now) _ (at-start .args .users .now) (at-start .args .owners .now) (at-start .args .keys .now) _ (at-start .pre .1 .0 .0) (at-start .pre .1 .1 .2) (at-start .pre .1 .1 .1) _ _ _ _ _ _ _ _ (at-is-unsized .ensures) (at-is-unsized2 .ensures) (at-all-print .ensures) (at-all-print2 .ensures) (at-number-of .ensures) (at-hash .ensures) (at-find .ensures) (at-number .ensures) (at-if3 .left) _ (at-add .ensures))
+    (λ b w g m. sym (at-if3 .left) ∙ member-graded _ (at-start .pre .kind) _ (at-string-end .ensures) _ (at-a .given .1) _ (at-string-end2 .ensures) _ (at-z .given .1) (at-if1 .left) _ _ (at-is-out-of-order .ensures) (at-if2 .left) (at-start .args .old .now) (at-start .args .groups .now) _ (at-start .args .users .now) (at-start .args .owners .now) (at-start .args .keys .now) _ (at-start .pre .room) (at-start .pre .long) (at-start .pre .held) _ _ _ _ _ _ _ _ (at-is-unsized .ensures) (at-is-unsized2 .ensures) (at-all-print .ensures) (at-all-print2 .ensures) (at-number-of .ensures) (at-hash .ensures) (at-find .ensures) (at-number .ensures) b w g m, λ x. member-kept _ (at-start .pre .kind) _ (at-string-end .ensures) _ (at-a .given .1) _ (at-string-end2 .ensures) _ (at-z .given .1) (at-if1 .left) _ _ (at-is-out-of-order .ensures) (at-if2 .left) (at-start .args .old .now) (at-start .args .groups .now) _ (at-start .args .users .now) (at-start .args .owners .now) (at-start .args .keys .now) _ (at-start .pre .room) (at-start .pre .long) (at-start .pre .held) _ _ _ _ _ _ _ _ (at-is-unsized .ensures) (at-is-unsized2 .ensures) (at-all-print .ensures) (at-all-print2 .ensures) (at-number-of .ensures) (at-hash .ensures) (at-find .ensures) (at-number .ensures) (at-if3 .left) _ (at-add .ensures))
 
 pub take-member-spec : {M : Type 1} → statement M
 take-member-spec =

@@ -19,7 +19,7 @@ returns c =
     let at-enum-told = c .enum-told in
     let at-read-rule = c .before .before .read-rule in
     let at-start = c .before .before .before .before .before in
-    (λ b w g d. rule-short _ (at-start .pre .0) _ (at-read-rule .ensures) b (at-enum-told .given .1), λ x. absurd (omega arith))
+    (λ b w g d. rule-short _ (at-start .pre .kind) _ (at-read-rule .ensures) b (at-enum-told .given .1), λ x. absurd (omega arith))
 
 is-out-of-order-requires : tie.Need-is-out-of-order-requires
 is-out-of-order-requires c κs = search needs
@@ -31,96 +31,96 @@ returns-2 c =
     let at-r = c .before .before .before .r in
     let at-read-rule = c .before .before .before .before .before .read-rule in
     let at-start = c .before .before .before .before .before .before .before .before in
-    (λ b w g d. rule-four _ (at-start .pre .0) _ (at-read-rule .ensures) _ _ _ _ (at-r .given .1) _ _ (at-is-out-of-order .ensures) b w (at-if1 .taken), λ x. absurd (omega arith))
+    (λ b w g d. rule-four _ (at-start .pre .kind) _ (at-read-rule .ensures) _ _ _ _ (at-r .given .1) _ _ (at-is-out-of-order .ensures) b w (at-if1 .taken), λ x. absurd (omega arith))
 
 add-from : tie.Need-add-from
 add-from c =
     let at-r = c .before .before .before .r in
     let at-read-rule = c .before .before .before .before .before .read-rule in
     let at-start = c .before .before .before .before .before .before .before .before in
-    let h = rule-long _ (at-start .pre .0) _ (at-read-rule .ensures) _ _ _ _ (at-r .given .1) in omega (arith, h .0, h .1, h .2, h .3)
+    let h = rule-long _ (at-start .pre .kind) _ (at-read-rule .ensures) _ _ _ _ (at-r .given .1) in omega (arith, h .0, h .1, h .2, h .3)
 
 add-then : tie.Need-add-then
 add-then c =
     let at-r = c .before .before .before .r in
     let at-read-rule = c .before .before .before .before .before .read-rule in
     let at-start = c .before .before .before .before .before .before .before .before in
-    let h = rule-long _ (at-start .pre .0) _ (at-read-rule .ensures) _ _ _ _ (at-r .given .1) in omega (arith, h .0, h .1, h .2, h .3)
+    let h = rule-long _ (at-start .pre .kind) _ (at-read-rule .ensures) _ _ _ _ (at-r .given .1) in omega (arith, h .0, h .1, h .2, h .3)
 
 sub-subject : tie.Need-sub-subject
 sub-subject c =
     let at-r = c .before .before .before .r in
     let at-read-rule = c .before .before .before .before .before .read-rule in
     let at-start = c .before .before .before .before .before .before .before .before in
-    rule-long _ (at-start .pre .0) _ (at-read-rule .ensures) _ _ _ _ (at-r .given .1) .0
+    rule-long _ (at-start .pre .kind) _ (at-read-rule .ensures) _ _ _ _ (at-r .given .1) .0
 
 part-subject-start : tie.Need-part-subject-start
 part-subject-start c =
     let at-r = c .before .before .before .r in
     let at-read-rule = c .before .before .before .before .before .read-rule in
     let at-start = c .before .before .before .before .before .before .before .before in
-    rule-long _ (at-start .pre .0) _ (at-read-rule .ensures) _ _ _ _ (at-r .given .1) .0
+    rule-long _ (at-start .pre .kind) _ (at-read-rule .ensures) _ _ _ _ (at-r .given .1) .0
 
 part-subject-end : tie.Need-part-subject-end
 part-subject-end c =
     let at-r = c .before .before .before .r in
     let at-read-rule = c .before .before .before .before .before .read-rule in
     let at-start = c .before .before .before .before .before .before .before .before in
-    let h = rule-long _ (at-start .pre .0) _ (at-read-rule .ensures) _ _ _ _ (at-r .given .1) in omega (arith, h .0, h .1, h .2, h .3)
+    let h = rule-long _ (at-start .pre .kind) _ (at-read-rule .ensures) _ _ _ _ (at-r .given .1) in omega (arith, h .0, h .1, h .2, h .3)
 
 sub-id : tie.Need-sub-id
 sub-id c =
     let at-r = c .before .before .before .before .r in
     let at-read-rule = c .before .before .before .before .before .before .read-rule in
     let at-start = c .before .before .before .before .before .before .before .before .before in
-    rule-long _ (at-start .pre .0) _ (at-read-rule .ensures) _ _ _ _ (at-r .given .1) .1
+    rule-long _ (at-start .pre .kind) _ (at-read-rule .ensures) _ _ _ _ (at-r .given .1) .1
 
 part-id-start : tie.Need-part-id-start
 part-id-start c =
     let at-r = c .before .before .before .before .r in
     let at-read-rule = c .before .before .before .before .before .before .read-rule in
     let at-start = c .before .before .before .before .before .before .before .before .before in
-    rule-long _ (at-start .pre .0) _ (at-read-rule .ensures) _ _ _ _ (at-r .given .1) .1
+    rule-long _ (at-start .pre .kind) _ (at-read-rule .ensures) _ _ _ _ (at-r .given .1) .1
 
 part-id-end : tie.Need-part-id-end
 part-id-end c =
     let at-r = c .before .before .before .before .r in
     let at-read-rule = c .before .before .before .before .before .before .read-rule in
     let at-start = c .before .before .before .before .before .before .before .before .before in
-    let h = rule-long _ (at-start .pre .0) _ (at-read-rule .ensures) _ _ _ _ (at-r .given .1) in omega (arith, h .0, h .1, h .2, h .3)
+    let h = rule-long _ (at-start .pre .kind) _ (at-read-rule .ensures) _ _ _ _ (at-r .given .1) in omega (arith, h .0, h .1, h .2, h .3)
 
 sub-origin : tie.Need-sub-origin
 sub-origin c =
     let at-r = c .before .before .before .before .before .r in
     let at-read-rule = c .before .before .before .before .before .before .before .read-rule in
     let at-start = c .before .before .before .before .before .before .before .before .before .before in
-    rule-long _ (at-start .pre .0) _ (at-read-rule .ensures) _ _ _ _ (at-r .given .1) .2
+    rule-long _ (at-start .pre .kind) _ (at-read-rule .ensures) _ _ _ _ (at-r .given .1) .2
 
 part-origin-start : tie.Need-part-origin-start
 part-origin-start c =
     let at-r = c .before .before .before .before .before .r in
     let at-read-rule = c .before .before .before .before .before .before .before .read-rule in
     let at-start = c .before .before .before .before .before .before .before .before .before .before in
-    rule-long _ (at-start .pre .0) _ (at-read-rule .ensures) _ _ _ _ (at-r .given .1) .2
+    rule-long _ (at-start .pre .kind) _ (at-read-rule .ensures) _ _ _ _ (at-r .given .1) .2
 
 part-origin-end : tie.Need-part-origin-end
 part-origin-end c =
     let at-r = c .before .before .before .before .before .r in
     let at-read-rule = c .before .before .before .before .before .before .before .read-rule in
     let at-start = c .before .before .before .before .before .before .before .before .before .before in
-    rule-long _ (at-start .pre .0) _ (at-read-rule .ensures) _ _ _ _ (at-r .given .1) .3
+    rule-long _ (at-start .pre .kind) _ (at-read-rule .ensures) _ _ _ _ (at-r .given .1) .3
 
 shared-slice-read-by-group : tie.Need-shared-slice-read-by-group
 shared-slice-read-by-group c =
     let at-r = c .before .before .before .before .before .before .before .r in
     let at-read-rule = c .before .before .before .before .before .before .before .before .before .read-rule in
     let at-start = c .before .before .before .before .before .before .before .before .before .before .before .before in
-    let h = rule-long _ (at-start .pre .0) _ (at-read-rule .ensures) _ _ _ _ (at-r .given .1) in omega (arith, h .0, h .1, h .2, h .3)
+    let h = rule-long _ (at-start .pre .kind) _ (at-read-rule .ensures) _ _ _ _ (at-r .given .1) in omega (arith, h .0, h .1, h .2, h .3)
 
 holder-of-requires : tie.Need-holder-of-requires
 holder-of-requires c κs =
     let at-start = c .before .before .before .before .before .before .before .before .before .before .before .before .before .before .before in
-    ((at-start .pre .1 .0 .1, omega (arith, at-start .pre .1 .0 .2), at-start .pre .1 .0 .3), (omega arith, at-start .pre .1 .1 .0))
+    (at-start .pre .lookup, omega arith)
 
 hash-requires : tie.Need-hash-requires
 hash-requires c κs = search needs
@@ -131,7 +131,7 @@ add-p c = search needs
 find-requires : tie.Need-find-requires
 find-requires c κs =
     let at-start = c .before .before .before .before .before .before .before .before .before .before .before .before .before .before .before .before .before .before .before in
-    (at-start .pre .1 .1 .1 .ready, omega arith, omega arith)
+    (at-start .pre .ids .held .ready, omega arith, omega arith)
 
 is-unsized-requires : tie.Need-is-unsized-requires
 is-unsized-requires c κs = search needs
@@ -168,57 +168,71 @@ returns-3 c =
     let at-r = c .before .before .before .before .before .before .before .before .before .before .before .before .before .before .before .before .before .before .before .before .before .before .r in
     let at-read-rule = c .before .before .before .before .before .before .before .before .before .before .before .before .before .before .before .before .before .before .before .before .before .before .before .before .read-rule in
     let at-start = c .before .before .before .before .before .before .before .before .before .before .before .before .before .before .before .before .before .before .before .before .before .before .before .before .before .before .before in
-    (λ b w g d. rule-graded _ (at-start .pre .0) _ (at-read-rule .ensures) _ _ _ _ (at-r .given .1) _ _ (at-is-out-of-order .ensures) (at-if1 .left) (at-start .args .old .now) (at-start .args .groups .now) _ (at-start .args .ids .now) (at-start .args .keys .now) _ (at-start .pre .1 .0 .0) (at-start .pre .1 .1 .2) (at-start .pre .1 .1 .1) _ _ _ _ _ _ _ _ _ (at-is-unsized .ensures) (at-is-unsized2 .ensures) (at-all-print .ensures) (at-all-print2 .ensures) (at-all-print3 .ensures) (at-holder-of .ensures) (at-hash .ensures) (at-find .ensures) (at-number .ensures) b w g d, λ x. absurd (at-if2 .taken x))
+    (λ b w g d. rule-graded _ (at-start .pre .kind) _ (at-read-rule .ensures) _ _ _ _ (at-r .given .1) _ _ (at-is-out-of-order .ensures) (at-if1 .left) (at-start .args .old .now) (at-start .args .groups .now) _ (at-start .args .keys .now) _ (at-start .pre .room) (at-start .pre .long) _ (at-start .pre .ids) _ _ _ _ _ _ _ _ _ (at-is-unsized .ensures) (at-is-unsized2 .ensures) (at-all-print .ensures) (at-all-print2 .ensures) (at-all-print3 .ensures) (at-holder-of .ensures) (at-hash .ensures) (at-find .ensures) (at-number .ensures) b w g d, λ x. absurd (at-if2 .taken x))
 
 add-store : tie.Need-add-store
 add-store c =
-    let at-r = c .before .before .before .before .before .before .before .before .before .before .before .before .before .before .before .before .before .before .before .before .before .before .before .before .before .r in
-    let at-read-rule = c .before .before .before .before .before .before .before .before .before .before .before .before .before .before .before .before .before .before .before .before .before .before .before .before .before .before .before .read-rule in
-    let at-start = c .before .before .before .before .before .before .before .before .before .before .before .before .before .before .before .before .before .before .before .before .before .before .before .before .before .before .before .before .before .before in
-    let h = rule-long _ (at-start .pre .0) _ (at-read-rule .ensures) _ _ _ _ (at-r .given .1) in omega (arith, h .0, h .1, h .2, h .3, at-start .pre .1 .0 .0)
-
-add-store-2 : tie.Need-add-store-2
-add-store-2 c =
-    let at-r = c .before .before .before .before .before .before .before .before .before .before .before .before .before .before .before .before .before .before .before .before .before .before .before .before .before .r in
-    let at-read-rule = c .before .before .before .before .before .before .before .before .before .before .before .before .before .before .before .before .before .before .before .before .before .before .before .before .before .before .before .read-rule in
-    let at-start = c .before .before .before .before .before .before .before .before .before .before .before .before .before .before .before .before .before .before .before .before .before .before .before .before .before .before .before .before .before .before in
-    let h = rule-long _ (at-start .pre .0) _ (at-read-rule .ensures) _ _ _ _ (at-r .given .1) in omega (arith, h .0, h .1, h .2, h .3, at-start .pre .1 .0 .0)
+    let at-r = c .before .before .before .before .before .before .before .before .before .before .before .before .before .before .before .before .before .before .before .before .before .before .before .before .r in
+    let at-read-rule = c .before .before .before .before .before .before .before .before .before .before .before .before .before .before .before .before .before .before .before .before .before .before .before .before .before .before .read-rule in
+    let at-start = c .before .before .before .before .before .before .before .before .before .before .before .before .before .before .before .before .before .before .before .before .before .before .before .before .before .before .before .before .before in
+    let h = rule-long _ (at-start .pre .kind) _ (at-read-rule .ensures) _ _ _ _ (at-r .given .1) in omega (arith, h .0, h .1, h .2, h .3, at-start .pre .room)
 
 store-requires : tie.Need-store-requires
 store-requires c κs =
-    let at-if2 = c .before .before .before .if2 in
-    let at-number = c .before .before .before .before .number in
-    let at-all-print3 = c .before .before .before .before .before .all-print3 in
-    let at-all-print2 = c .before .before .before .before .before .before .all-print2 in
-    let at-all-print = c .before .before .before .before .before .before .before .all-print in
-    let at-is-unsized2 = c .before .before .before .before .before .before .before .before .is-unsized2 in
-    let at-is-unsized = c .before .before .before .before .before .before .before .before .before .is-unsized in
-    let at-find = c .before .before .before .before .before .before .before .before .before .before .find in
-    let at-hash = c .before .before .before .before .before .before .before .before .before .before .before .before .before .hash in
-    let at-holder-of = c .before .before .before .before .before .before .before .before .before .before .before .before .before .before .holder-of in
-    let at-if1 = c .before .before .before .before .before .before .before .before .before .before .before .before .before .before .before .before .before .before .before .before .before .before .if1 in
-    let at-is-out-of-order = c .before .before .before .before .before .before .before .before .before .before .before .before .before .before .before .before .before .before .before .before .before .before .before .is-out-of-order in
-    let at-r = c .before .before .before .before .before .before .before .before .before .before .before .before .before .before .before .before .before .before .before .before .before .before .before .before .before .r in
-    let at-read-rule = c .before .before .before .before .before .before .before .before .before .before .before .before .before .before .before .before .before .before .before .before .before .before .before .before .before .before .before .read-rule in
-    let at-start = c .before .before .before .before .before .before .before .before .before .before .before .before .before .before .before .before .before .before .before .before .before .before .before .before .before .before .before .before .before .before in
-    let h = rule-long _ (at-start .pre .0) _ (at-read-rule .ensures) _ _ _ _ (at-r .given .1) in ((rule-ready _ (at-start .pre .0) _ (at-read-rule .ensures) _ _ _ _ (at-r .given .1) _ _ (at-is-out-of-order .ensures) (at-if1 .left) (at-start .args .old .now) (at-start .args .groups .now) _ (at-start .args .ids .now) (at-start .args .keys .now) _ (at-start .pre .1 .0 .0) (at-start .pre .1 .1 .2) (at-start .pre .1 .1 .1) _ _ _ _ _ _ _ _ _ (at-is-unsized .ensures) (at-is-unsized2 .ensures) (at-all-print .ensures) (at-all-print2 .ensures) (at-all-print3 .ensures) (at-holder-of .ensures) (at-hash .ensures) (at-find .ensures) (at-number .ensures) (at-if2 .left)) .3, omega (arith, h .0, h .1, h .2, h .3, at-start .pre .1 .0 .0), omega (arith, h .0, h .1, h .2, h .3, at-start .pre .1 .0 .0), omega (arith, holder-small _ _ _ _ _ _ (at-holder-of .ensures), at-start .pre .1 .0 .2))
+    let at-if2 = c .before .before .if2 in
+    let at-number = c .before .before .before .number in
+    let at-all-print3 = c .before .before .before .before .all-print3 in
+    let at-all-print2 = c .before .before .before .before .before .all-print2 in
+    let at-all-print = c .before .before .before .before .before .before .all-print in
+    let at-is-unsized2 = c .before .before .before .before .before .before .before .is-unsized2 in
+    let at-is-unsized = c .before .before .before .before .before .before .before .before .is-unsized in
+    let at-find = c .before .before .before .before .before .before .before .before .before .find in
+    let at-hash = c .before .before .before .before .before .before .before .before .before .before .before .before .hash in
+    let at-holder-of = c .before .before .before .before .before .before .before .before .before .before .before .before .before .holder-of in
+    let at-if1 = c .before .before .before .before .before .before .before .before .before .before .before .before .before .before .before .before .before .before .before .before .before .if1 in
+    let at-is-out-of-order = c .before .before .before .before .before .before .before .before .before .before .before .before .before .before .before .before .before .before .before .before .before .before .is-out-of-order in
+    let at-r = c .before .before .before .before .before .before .before .before .before .before .before .before .before .before .before .before .before .before .before .before .before .before .before .before .r in
+    let at-read-rule = c .before .before .before .before .before .before .before .before .before .before .before .before .before .before .before .before .before .before .before .before .before .before .before .before .before .before .read-rule in
+    let at-start = c .before .before .before .before .before .before .before .before .before .before .before .before .before .before .before .before .before .before .before .before .before .before .before .before .before .before .before .before .before in
+    let h = rule-long _ (at-start .pre .kind) _ (at-read-rule .ensures) _ _ _ _ (at-r .given .1) in ((rule-ready _ (at-start .pre .kind) _ (at-read-rule .ensures) _ _ _ _ (at-r .given .1) _ _ (at-is-out-of-order .ensures) (at-if1 .left) (at-start .args .old .now) (at-start .args .groups .now) _ (at-start .args .keys .now) _ (at-start .pre .room) (at-start .pre .long) _ (at-start .pre .ids) _ _ _ _ _ _ _ _ _ (at-is-unsized .ensures) (at-is-unsized2 .ensures) (at-all-print .ensures) (at-all-print2 .ensures) (at-all-print3 .ensures) (at-holder-of .ensures) (at-hash .ensures) (at-find .ensures) (at-number .ensures) (at-if2 .left)) .3, omega (arith, h .0, h .1, h .2, h .3, at-start .pre .room), omega (arith, holder-small _ _ _ _ _ _ (at-holder-of .ensures), at-start .pre .few))
 
 add-begin : tie.Need-add-begin
 add-begin c =
-    let at-r = c .before .before .before .before .before .before .before .before .before .before .before .before .before .before .before .before .before .before .before .before .before .before .before .before .before .before .r in
-    let at-read-rule = c .before .before .before .before .before .before .before .before .before .before .before .before .before .before .before .before .before .before .before .before .before .before .before .before .before .before .before .before .read-rule in
-    let at-start = c .before .before .before .before .before .before .before .before .before .before .before .before .before .before .before .before .before .before .before .before .before .before .before .before .before .before .before .before .before .before .before in
-    let h = rule-long _ (at-start .pre .0) _ (at-read-rule .ensures) _ _ _ _ (at-r .given .1) in omega (arith, h .0, h .1, h .2, h .3, at-start .pre .1 .0 .0)
+    let at-r = c .before .before .before .before .before .before .before .before .before .before .before .before .before .before .before .before .before .before .before .before .before .before .before .before .before .r in
+    let at-read-rule = c .before .before .before .before .before .before .before .before .before .before .before .before .before .before .before .before .before .before .before .before .before .before .before .before .before .before .before .read-rule in
+    let at-start = c .before .before .before .before .before .before .before .before .before .before .before .before .before .before .before .before .before .before .before .before .before .before .before .before .before .before .before .before .before .before in
+    let h = rule-long _ (at-start .pre .kind) _ (at-read-rule .ensures) _ _ _ _ (at-r .given .1) in omega (arith, h .0, h .1, h .2, h .3, at-start .pre .room)
 
 add-to : tie.Need-add-to
 add-to c =
-    let at-r = c .before .before .before .before .before .before .before .before .before .before .before .before .before .before .before .before .before .before .before .before .before .before .before .before .before .before .r in
-    let at-read-rule = c .before .before .before .before .before .before .before .before .before .before .before .before .before .before .before .before .before .before .before .before .before .before .before .before .before .before .before .before .read-rule in
-    let at-start = c .before .before .before .before .before .before .before .before .before .before .before .before .before .before .before .before .before .before .before .before .before .before .before .before .before .before .before .before .before .before .before in
-    let h = rule-long _ (at-start .pre .0) _ (at-read-rule .ensures) _ _ _ _ (at-r .given .1) in omega (arith, h .0, h .1, h .2, h .3, at-start .pre .1 .0 .0)
+    let at-r = c .before .before .before .before .before .before .before .before .before .before .before .before .before .before .before .before .before .before .before .before .before .before .before .before .before .r in
+    let at-read-rule = c .before .before .before .before .before .before .before .before .before .before .before .before .before .before .before .before .before .before .before .before .before .before .before .before .before .before .before .read-rule in
+    let at-start = c .before .before .before .before .before .before .before .before .before .before .before .before .before .before .before .before .before .before .before .before .before .before .before .before .before .before .before .before .before .before in
+    let h = rule-long _ (at-start .pre .kind) _ (at-read-rule .ensures) _ _ _ _ (at-r .given .1) in omega (arith, h .0, h .1, h .2, h .3, at-start .pre .room)
 
 add-requires : tie.Need-add-requires
 add-requires c κs =
+    let at-if2 = c .before .before .before .before .if2 in
+    let at-number = c .before .before .before .before .before .number in
+    let at-all-print3 = c .before .before .before .before .before .before .all-print3 in
+    let at-all-print2 = c .before .before .before .before .before .before .before .all-print2 in
+    let at-all-print = c .before .before .before .before .before .before .before .before .all-print in
+    let at-is-unsized2 = c .before .before .before .before .before .before .before .before .before .is-unsized2 in
+    let at-is-unsized = c .before .before .before .before .before .before .before .before .before .before .is-unsized in
+    let at-find = c .before .before .before .before .before .before .before .before .before .before .before .find in
+    let at-hash = c .before .before .before .before .before .before .before .before .before .before .before .before .before .before .hash in
+    let at-holder-of = c .before .before .before .before .before .before .before .before .before .before .before .before .before .before .before .holder-of in
+    let at-if1 = c .before .before .before .before .before .before .before .before .before .before .before .before .before .before .before .before .before .before .before .before .before .before .before .if1 in
+    let at-is-out-of-order = c .before .before .before .before .before .before .before .before .before .before .before .before .before .before .before .before .before .before .before .before .before .before .before .before .is-out-of-order in
+    let at-r = c .before .before .before .before .before .before .before .before .before .before .before .before .before .before .before .before .before .before .before .before .before .before .before .before .before .before .r in
+    let at-read-rule = c .before .before .before .before .before .before .before .before .before .before .before .before .before .before .before .before .before .before .before .before .before .before .before .before .before .before .before .before .read-rule in
+    let at-start = c .before .before .before .before .before .before .before .before .before .before .before .before .before .before .before .before .before .before .before .before .before .before .before .before .before .before .before .before .before .before .before in
+    let h = rule-long _ (at-start .pre .kind) _ (at-read-rule .ensures) _ _ _ _ (at-r .given .1) in let k = rule-ready _ (at-start .pre .kind) _ (at-read-rule .ensures) _ _ _ _ (at-r .given .1) _ _ (at-is-out-of-order .ensures) (at-if1 .left) (at-start .args .old .now) (at-start .args .groups .now) _ (at-start .args .keys .now) _ (at-start .pre .room) (at-start .pre .long) _ (at-start .pre .ids) _ _ _ _ _ _ _ _ _ (at-is-unsized .ensures) (at-is-unsized2 .ensures) (at-all-print .ensures) (at-all-print2 .ensures) (at-all-print3 .ensures) (at-holder-of .ensures) (at-hash .ensures) (at-find .ensures) (at-number .ensures) (at-if2 .left) in (k .0, k .1, omega arith, omega arith, k .2, omega (arith, h .0, h .1, h .2, h .3, at-start .pre .room), omega (arith, h .0, h .1, h .2, h .3, at-start .pre .room))
+
+returns-4 : tie.Need-returns-4
+returns-4 c =
+    let at-add = c .add in
+    let at-store = c .before .before .store in
     let at-if2 = c .before .before .before .before .before .if2 in
     let at-number = c .before .before .before .before .before .before .number in
     let at-all-print3 = c .before .before .before .before .before .before .before .all-print3 in
@@ -234,28 +248,7 @@ add-requires c κs =
     let at-r = c .before .before .before .before .before .before .before .before .before .before .before .before .before .before .before .before .before .before .before .before .before .before .before .before .before .before .before .r in
     let at-read-rule = c .before .before .before .before .before .before .before .before .before .before .before .before .before .before .before .before .before .before .before .before .before .before .before .before .before .before .before .before .before .read-rule in
     let at-start = c .before .before .before .before .before .before .before .before .before .before .before .before .before .before .before .before .before .before .before .before .before .before .before .before .before .before .before .before .before .before .before .before in
-    let h = rule-long _ (at-start .pre .0) _ (at-read-rule .ensures) _ _ _ _ (at-r .given .1) in let k = rule-ready _ (at-start .pre .0) _ (at-read-rule .ensures) _ _ _ _ (at-r .given .1) _ _ (at-is-out-of-order .ensures) (at-if1 .left) (at-start .args .old .now) (at-start .args .groups .now) _ (at-start .args .ids .now) (at-start .args .keys .now) _ (at-start .pre .1 .0 .0) (at-start .pre .1 .1 .2) (at-start .pre .1 .1 .1) _ _ _ _ _ _ _ _ _ (at-is-unsized .ensures) (at-is-unsized2 .ensures) (at-all-print .ensures) (at-all-print2 .ensures) (at-all-print3 .ensures) (at-holder-of .ensures) (at-hash .ensures) (at-find .ensures) (at-number .ensures) (at-if2 .left) in (k .0, k .1, omega arith, omega arith, k .2, omega (arith, h .0, h .1, h .2, h .3, at-start .pre .1 .0 .0), omega (arith, h .0, h .1, h .2, h .3, at-start .pre .1 .0 .0))
-
-returns-4 : tie.Need-returns-4
-returns-4 c =
-    let at-add = c .add in
-    let at-store = c .before .before .store in
-    let at-if2 = c .before .before .before .before .before .before .if2 in
-    let at-number = c .before .before .before .before .before .before .before .number in
-    let at-all-print3 = c .before .before .before .before .before .before .before .before .all-print3 in
-    let at-all-print2 = c .before .before .before .before .before .before .before .before .before .all-print2 in
-    let at-all-print = c .before .before .before .before .before .before .before .before .before .before .all-print in
-    let at-is-unsized2 = c .before .before .before .before .before .before .before .before .before .before .before .is-unsized2 in
-    let at-is-unsized = c .before .before .before .before .before .before .before .before .before .before .before .before .is-unsized in
-    let at-find = c .before .before .before .before .before .before .before .before .before .before .before .before .before .find in
-    let at-hash = c .before .before .before .before .before .before .before .before .before .before .before .before .before .before .before .before .hash in
-    let at-holder-of = c .before .before .before .before .before .before .before .before .before .before .before .before .before .before .before .before .before .holder-of in
-    let at-if1 = c .before .before .before .before .before .before .before .before .before .before .before .before .before .before .before .before .before .before .before .before .before .before .before .before .before .if1 in
-    let at-is-out-of-order = c .before .before .before .before .before .before .before .before .before .before .before .before .before .before .before .before .before .before .before .before .before .before .before .before .before .before .is-out-of-order in
-    let at-r = c .before .before .before .before .before .before .before .before .before .before .before .before .before .before .before .before .before .before .before .before .before .before .before .before .before .before .before .before .r in
-    let at-read-rule = c .before .before .before .before .before .before .before .before .before .before .before .before .before .before .before .before .before .before .before .before .before .before .before .before .before .before .before .before .before .before .read-rule in
-    let at-start = c .before .before .before .before .before .before .before .before .before .before .before .before .before .before .before .before .before .before .before .before .before .before .before .before .before .before .before .before .before .before .before .before .before in
-    (λ b w g d. sym (at-if2 .left) ∙ rule-graded _ (at-start .pre .0) _ (at-read-rule .ensures) _ _ _ _ (at-r .given .1) _ _ (at-is-out-of-order .ensures) (at-if1 .left) (at-start .args .old .now) (at-start .args .groups .now) _ (at-start .args .ids .now) (at-start .args .keys .now) _ (at-start .pre .1 .0 .0) (at-start .pre .1 .1 .2) (at-start .pre .1 .1 .1) _ _ _ _ _ _ _ _ _ (at-is-unsized .ensures) (at-is-unsized2 .ensures) (at-all-print .ensures) (at-all-print2 .ensures) (at-all-print3 .ensures) (at-holder-of .ensures) (at-hash .ensures) (at-find .ensures) (at-number .ensures) b w g d, λ x. rule-kept _ (at-start .pre .0) _ (at-read-rule .ensures) _ _ _ _ (at-r .given .1) _ _ (at-is-out-of-order .ensures) (at-if1 .left) (at-start .args .old .now) (at-start .args .groups .now) _ (at-start .args .ids .now) (at-start .args .keys .now) _ (at-start .pre .1 .0 .0) (at-start .pre .1 .1 .2) (at-start .pre .1 .1 .1) _ _ _ _ _ _ _ _ _ (at-is-unsized .ensures) (at-is-unsized2 .ensures) (at-all-print .ensures) (at-all-print2 .ensures) (at-all-print3 .ensures) (at-holder-of .ensures) (at-hash .ensures) (at-find .ensures) (at-number .ensures) (at-if2 .left) _ _ _ _ _ _ (at-store .ensures) (at-add .ensures))
+    (λ b w g d. sym (at-if2 .left) ∙ rule-graded _ (at-start .pre .kind) _ (at-read-rule .ensures) _ _ _ _ (at-r .given .1) _ _ (at-is-out-of-order .ensures) (at-if1 .left) (at-start .args .old .now) (at-start .args .groups .now) _ (at-start .args .keys .now) _ (at-start .pre .room) (at-start .pre .long) _ (at-start .pre .ids) _ _ _ _ _ _ _ _ _ (at-is-unsized .ensures) (at-is-unsized2 .ensures) (at-all-print .ensures) (at-all-print2 .ensures) (at-all-print3 .ensures) (at-holder-of .ensures) (at-hash .ensures) (at-find .ensures) (at-number .ensures) b w g d, λ x. rule-kept _ (at-start .pre .kind) _ (at-read-rule .ensures) _ _ _ _ (at-r .given .1) _ _ (at-is-out-of-order .ensures) (at-if1 .left) (at-start .args .old .now) (at-start .args .groups .now) _ (at-start .args .keys .now) _ (at-start .pre .room) (at-start .pre .long) _ (at-start .pre .ids) _ _ _ _ _ _ _ _ _ (at-is-unsized .ensures) (at-is-unsized2 .ensures) (at-all-print .ensures) (at-all-print2 .ensures) (at-all-print3 .ensures) (at-holder-of .ensures) (at-hash .ensures) (at-find .ensures) (at-number .ensures) (at-if2 .left) _ _ _ _ _ (at-store .ensures) (at-add .ensures))
 
 pub take-rule-spec : {M : Type 1} → statement M
 take-rule-spec =
@@ -291,7 +284,6 @@ take-rule-spec =
     number-requires
     returns-3
     add-store
-    add-store-2
     store-requires
     add-begin
     add-to

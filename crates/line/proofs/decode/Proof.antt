@@ -4,11 +4,12 @@ use native.Mathlib.Omega.{arith}
 use Prim.Native.Nat.{_-_, _≤_}
 use lib.ListN.{length, drop}
 use Rattle.text.proofs.Filling.{Pending}
-use Rattle.line.specs.Lines.{digits}
+use Rattle.line.specs.Decoding.{digits}
 use Rattle.line.proofs.Digits.{digits-turn, digits-stop, digits-end, decode-start, decode-turn, decode-room, decode-done, value-fits}
 use Rattle.line.proofs.decode.Statement.{statement}
 use Rattle.line.proofs.decode.Tie as tie
 
+-- i is within the text, k does not fall below where storing began, and the bytes of the digits from i on are still to be stored at k
 abbrev Inv-loop : tie.InvT-loop
 Inv-loop text from out₀ at i₀ k₀ out i k = (from ≤ i) × (i ≤ length text) × (at ≤ k) × Pending out₀ at (digits (drop from text)) out k (digits (drop i text))
 

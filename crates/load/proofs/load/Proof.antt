@@ -4,17 +4,20 @@ use native.Mathlib.Omega.{arith}
 use mathlib.Core.Path.{_≡_, refl, _∙_}
 use Prim.Native.Nat.{ℕ, _-_}
 use lib.ListN.{length, length-replicate}
+use Rattle.keep.specs.Held.{memberKeys}
+use Rattle.keep_rule.specs.Kept.{idKeys}
 use Rattle.load.specs.Loaded.{Outcome}
 use Rattle.hash_set.proofs.Sets.{zeros}
 use Rattle.load.proofs.Loading.{Going, over, none-there, load-start, line-room, number-room, load-end, load-bad, row-room, row-fits, same-long, goes-on, held-again, load-refused, load-again}
 use Rattle.load.proofs.load.Statement.{statement}
 use Rattle.load.proofs.load.Tie as tie
 
+-- what the lines so far told is held in the arrays, and the rest of the text is still to be judged; the buffer keeps its length
 abbrev Inv-loop : tie.InvT-loop
-Inv-loop text buf₀ groups₀ users₀ owners₀ ids₀ starts₀ holders₀ hints₀ names₀ member-keys₀ id-keys₀ c₀ from₀ used₀ line₀ buf groups users owners ids starts holders hints names member-keys id-keys c from used line = Going text buf c groups users owners ids starts holders names member-keys id-keys from used line × (length buf ≡ length buf₀)
+Inv-loop text buf₀ groups₀ users₀ owners₀ starts₀ holders₀ hints₀ names₀ member-keys₀ id-keys₀ c₀ from₀ used₀ line₀ buf groups users owners starts holders hints names member-keys id-keys c from used line = Going text buf c groups users owners starts holders names member-keys id-keys from used line × (length buf ≡ length buf₀)
 
 abbrev μ-loop : tie.MeasureT-loop
-μ-loop text buf₀ groups₀ users₀ owners₀ ids₀ starts₀ holders₀ hints₀ names₀ member-keys₀ id-keys₀ c₀ from₀ used₀ line₀ buf groups users owners ids starts holders hints names member-keys id-keys c from used line = length text - from
+μ-loop text buf₀ groups₀ users₀ owners₀ starts₀ holders₀ hints₀ names₀ member-keys₀ id-keys₀ c₀ from₀ used₀ line₀ buf groups users owners starts holders hints names member-keys id-keys c from used line = length text - from
 
 returns : tie.Need-returns Inv-loop μ-loop
 unfolding Outcome
@@ -34,7 +37,7 @@ loop-holds c =
     let at-if2 = c .if2 in
     let at-if1 = c .before .if1 in
     let at-start = c .before .before .before .before in
-    (load-start _ (at-if1 .left) (at-if2 .left) _ _ _ _ _ _ _ _ _ _ (at-start .pre .0) (at-start .pre .1) (length-replicate {A = ℕ} 4609 0, length-replicate {A = ℕ} 2305 0) (zeros 4609) (zeros 2305), refl)
+    (load-start _ (at-if1 .left) (at-if2 .left) _ _ _ _ _ _ _ _ _ (at-start .pre .0) (record { of-groups = at-start .pre .1 .0; of-users = at-start .pre .1 .1; of-owners = at-start .pre .1 .2; of-starts = at-start .pre .1 .3; of-holders = at-start .pre .1 .4 }) (length-replicate {A = ℕ} memberKeys 0, length-replicate {A = ℕ} idKeys 0) (zeros memberKeys) (zeros idKeys), refl)
 
 read-line-requires : tie.Need-read-line-requires Inv-loop μ-loop
 read-line-requires c κs =
@@ -71,15 +74,15 @@ add-end c =
 
 take-row-requires : tie.Need-take-row-requires Inv-loop μ-loop
 take-row-requires c κs =
-    let at-l = c .before .before .before .before .before .before .before .before .before .before .before .before .l in
-    let at-read-line = c .before .before .before .before .before .before .before .before .before .before .before .before .before .before .before .before .read-line in
-    let at-loop = c .before .before .before .before .before .before .before .before .before .before .before .before .before .before .before .before .before .before .before .loop in
-    (row-fits (at-loop .inv .0) _ (at-read-line .ensures .0) _ _ (at-l .given .1) _ (at-read-line .ensures .1), (at-loop .inv .0 .b, at-loop .inv .0 .rules, held-again (at-loop .inv .0) _ (at-read-line .ensures .0) _ _ (at-l .given .1) _ (at-read-line .ensures .1)))
+    let at-l = c .before .before .before .before .before .before .before .before .before .before .before .l in
+    let at-read-line = c .before .before .before .before .before .before .before .before .before .before .before .before .before .before .before .read-line in
+    let at-loop = c .before .before .before .before .before .before .before .before .before .before .before .before .before .before .before .before .before .before .loop in
+    (row-fits (at-loop .inv .0) _ (at-read-line .ensures .0) _ _ (at-l .given .1) _ (at-read-line .ensures .1), (at-loop .inv .0 .b, held-again (at-loop .inv .0) _ (at-read-line .ensures .0) _ _ (at-l .given .1) _ (at-read-line .ensures .1)))
 
 same-length-2 : tie.Need-same-length-2 Inv-loop μ-loop
 same-length-2 c =
-    let at-read-line = c .before .before .before .before .before .before .before .before .before .before .before .before .before .before .before .before .before .before .read-line in
-    let at-loop = c .before .before .before .before .before .before .before .before .before .before .before .before .before .before .before .before .before .before .before .before .before .loop in
+    let at-read-line = c .before .before .before .before .before .before .before .before .before .before .before .before .before .before .before .before .before .read-line in
+    let at-loop = c .before .before .before .before .before .before .before .before .before .before .before .before .before .before .before .before .before .before .before .before .loop in
     at-read-line .kept .1 .1 .0 ∙ at-loop .inv .1
 
 returns-4 : tie.Need-returns-4 Inv-loop μ-loop
@@ -87,33 +90,33 @@ unfolding Outcome
 returns-4 c =
     let at-if3 = c .if3 in
     let at-take-row = c .before .take-row in
-    let at-l = c .before .before .before .before .before .before .before .before .before .before .before .before .before .before .l in
-    let at-read-line = c .before .before .before .before .before .before .before .before .before .before .before .before .before .before .before .before .before .before .read-line in
-    let at-loop = c .before .before .before .before .before .before .before .before .before .before .before .before .before .before .before .before .before .before .before .before .before .loop in
+    let at-l = c .before .before .before .before .before .before .before .before .before .before .before .before .before .l in
+    let at-read-line = c .before .before .before .before .before .before .before .before .before .before .before .before .before .before .before .before .before .read-line in
+    let at-loop = c .before .before .before .before .before .before .before .before .before .before .before .before .before .before .before .before .before .before .before .before .loop in
     load-refused (at-loop .inv .0) _ (at-read-line .ensures .0) _ _ (at-l .given .1) _ (at-read-line .ensures .1) _ (at-take-row .ensures) (at-if3 .taken)
 
 slice-read-after : tie.Need-slice-read-after Inv-loop μ-loop
 slice-read-after c =
-    let at-l = c .before .before .before .before .before .before .before .before .before .before .before .before .before .before .before .l in
-    let at-read-line = c .before .before .before .before .before .before .before .before .before .before .before .before .before .before .before .before .before .before .before .read-line in
-    let at-loop = c .before .before .before .before .before .before .before .before .before .before .before .before .before .before .before .before .before .before .before .before .before .before .loop in
+    let at-l = c .before .before .before .before .before .before .before .before .before .before .before .before .before .before .l in
+    let at-read-line = c .before .before .before .before .before .before .before .before .before .before .before .before .before .before .before .before .before .before .read-line in
+    let at-loop = c .before .before .before .before .before .before .before .before .before .before .before .before .before .before .before .before .before .before .before .before .before .loop in
     let h = row-fits (at-loop .inv .0) _ (at-read-line .ensures .0) _ _ (at-l .given .1) _ (at-read-line .ensures .1) in omega (arith, h .0, h .1)
 
 after-requires : tie.Need-after-requires Inv-loop μ-loop
 after-requires c κs =
-    let at-loop = c .before .before .before .before .before .before .before .before .before .before .before .before .before .before .before .before .before .before .before .before .before .before .loop in
+    let at-loop = c .before .before .before .before .before .before .before .before .before .before .before .before .before .before .before .before .before .before .before .before .before .loop in
     at-loop .inv .0 .held .holds .few
 
 add-line : tie.Need-add-line Inv-loop μ-loop
 add-line c =
-    let at-loop = c .before .before .before .before .before .before .before .before .before .before .before .before .before .before .before .before .before .before .before .before .before .before .before .loop in
+    let at-loop = c .before .before .before .before .before .before .before .before .before .before .before .before .before .before .before .before .before .before .before .before .before .before .loop in
     omega (arith, number-room (at-loop .inv .0))
 
 loop-less : tie.Need-loop-less Inv-loop μ-loop
 loop-less c =
-    let at-l = c .before .before .before .before .before .before .before .before .before .before .before .before .before .before .before .before .l in
-    let at-read-line = c .before .before .before .before .before .before .before .before .before .before .before .before .before .before .before .before .before .before .before .before .read-line in
-    let at-loop = c .before .before .before .before .before .before .before .before .before .before .before .before .before .before .before .before .before .before .before .before .before .before .before .loop in
+    let at-l = c .before .before .before .before .before .before .before .before .before .before .before .before .before .before .before .l in
+    let at-read-line = c .before .before .before .before .before .before .before .before .before .before .before .before .before .before .before .before .before .before .before .read-line in
+    let at-loop = c .before .before .before .before .before .before .before .before .before .before .before .before .before .before .before .before .before .before .before .before .before .before .loop in
     let h = goes-on (at-loop .inv .0) _ (at-read-line .ensures .0) _ _ (at-l .given .1) _ (at-read-line .ensures .1) in omega (arith, h .0, h .1)
 
 loop-again : tie.Need-loop-again Inv-loop μ-loop
@@ -121,9 +124,9 @@ loop-again c =
     let at-after = c .after in
     let at-if3 = c .before .before .if3 in
     let at-take-row = c .before .before .before .take-row in
-    let at-l = c .before .before .before .before .before .before .before .before .before .before .before .before .before .before .before .before .l in
-    let at-read-line = c .before .before .before .before .before .before .before .before .before .before .before .before .before .before .before .before .before .before .before .before .read-line in
-    let at-loop = c .before .before .before .before .before .before .before .before .before .before .before .before .before .before .before .before .before .before .before .before .before .before .before .loop in
+    let at-l = c .before .before .before .before .before .before .before .before .before .before .before .before .before .before .before .l in
+    let at-read-line = c .before .before .before .before .before .before .before .before .before .before .before .before .before .before .before .before .before .before .before .read-line in
+    let at-loop = c .before .before .before .before .before .before .before .before .before .before .before .before .before .before .before .before .before .before .before .before .before .before .loop in
     (load-again (at-loop .inv .0) _ (at-read-line .ensures .0) _ _ (at-l .given .1) _ (at-read-line .ensures .1) _ (at-take-row .ensures) (at-if3 .left) _ (at-after .ensures), same-long (at-loop .inv .0) _ (at-read-line .ensures .0) _ _ (at-l .given .1) _ (at-read-line .ensures .1) ∙ at-loop .inv .1)
 
 same-length-3 : tie.Need-same-length-3 Inv-loop μ-loop

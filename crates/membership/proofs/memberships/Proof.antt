@@ -8,6 +8,7 @@ use Rattle.membership.proofs.Sets.{set-start, set-turn, set-end}
 use Rattle.membership.proofs.memberships.Statement.{statement}
 use Rattle.membership.proofs.memberships.Tie as tie
 
+-- i is at most n, and the members from i on add to the set so far what all of them add to the empty one
 abbrev Inv-loop : tie.InvT-loop
 Inv-loop f users owners n user set₀ i₀ set i = (i ≤ n) × (setIn user f users owners n 0 0 ≡ setIn user f users owners (n - i) i set)
 
@@ -20,12 +21,12 @@ loop-holds c = (search needs, set-start _ _ _ _ _)
 mul-at : tie.Need-mul-at Inv-loop μ-loop
 mul-at c =
     let at-start = c .before .before .before .before .before .before in
-    omega (arith, at-start .pre .1)
+    omega (arith, at-start .pre .listed .room)
 
 shared-slice-read-at : tie.Need-shared-slice-read-at Inv-loop μ-loop
 shared-slice-read-at c =
     let at-start = c .before .before .before .before .before .before .before in
-    omega (arith, at-start .pre .1)
+    omega (arith, at-start .pre .listed .room)
 
 cast-at : tie.Need-cast-at Inv-loop μ-loop
 cast-at c =
@@ -36,14 +37,14 @@ cast-at c =
 shared-slice-read-t14 : tie.Need-shared-slice-read-t14 Inv-loop μ-loop
 shared-slice-read-t14 c =
     let at-start = c .before .before .before .before .before .before .before .before in
-    omega (arith, at-start .pre .2)
+    omega (arith, at-start .pre .room)
 
 join-requires : tie.Need-join-requires Inv-loop μ-loop
 join-requires c κs =
     let at-loop-test = c .before .before .loop-test in
     let at-loop = c .before .before .before .loop in
     let at-start = c .before .before .before .before .before .before .before .before in
-    (at-start .pre .3 (at-loop .i) (at-loop-test .taken), at-start .pre .0 (at-loop .i) (at-loop-test .taken))
+    (at-start .pre .owned (at-loop .i) (at-loop-test .taken), at-start .pre .listed .laid (at-loop .i) (at-loop-test .taken))
 
 add-i : tie.Need-add-i Inv-loop μ-loop
 add-i c = search needs

@@ -7,6 +7,7 @@ use Rattle.place.proofs.Cursor.{keys-step, keys-stop, keys-room, keys-a
 use Rattle.place.proofs.keys_end.Statement.{statement}
 use Rattle.place.proofs.keys_end.Tie as tie
 
+-- the keys that are left lie within the bytes, and end where all of them end
 abbrev Inv-loop : tie.InvT-loop
 Inv-loop f at k q₀ left₀ q left = (keysEnd left f q ≤ length f) × (keysEnd k f at ≡ keysEnd left f q)
 

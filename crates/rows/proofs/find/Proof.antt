@@ -8,6 +8,7 @@ use Rattle.rows.proofs.Strings.{find-start, find-pass, find-hit, find-e
 use Rattle.rows.proofs.find.Statement.{statement}
 use Rattle.rows.proofs.find.Tie as tie
 
+-- i is at most n, and the place among all strings is i and the place among those from i on
 abbrev Inv-loop : tie.InvT-loop
 Inv-loop f starts n name i₀ i = (i ≤ n) × (place name (stringsIn f starts n 0) ≡ i + place name (stringsIn f starts (n - i) i))
 
@@ -20,12 +21,12 @@ loop-holds c = (search needs, find-start _ _ _ _)
 mul-at : tie.Need-mul-at Inv-loop μ-loop
 mul-at c =
     let at-start = c .before .before .before .before .before in
-    omega (arith, at-start .pre .1)
+    omega (arith, at-start .pre .room)
 
 shared-slice-read-at : tie.Need-shared-slice-read-at Inv-loop μ-loop
 shared-slice-read-at c =
     let at-start = c .before .before .before .before .before .before in
-    omega (arith, at-start .pre .1)
+    omega (arith, at-start .pre .room)
 
 cast-at : tie.Need-cast-at Inv-loop μ-loop
 cast-at c =
@@ -38,7 +39,7 @@ is-at-requires c κs =
     let at-loop-test = c .before .loop-test in
     let at-loop = c .before .before .loop in
     let at-start = c .before .before .before .before .before .before in
-    at-start .pre .0 (at-loop .i) (at-loop-test .taken)
+    at-start .pre .laid (at-loop .i) (at-loop-test .taken)
 
 returns : tie.Need-returns Inv-loop μ-loop
 returns c =

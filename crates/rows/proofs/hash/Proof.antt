@@ -1,7 +1,7 @@
 use native.Mathlib.Omega.{arith}
 use mathlib.Core.Path.{ap}
 use Prim.Native.Nat.{ℕ, _/_}
-use Rattle.rows.specs.Strings.{hashOf}
+use Rattle.rows.specs.Strings.{hashOf, hashStep}
 use Rattle.rows.proofs.hash.Statement.{statement}
 use Rattle.rows.proofs.hash.Tie as tie
 
@@ -10,7 +10,7 @@ mix-requires c κs = ((omega arith, omega arith), omega arith)
 
 returns : tie.Need-returns
 unfolding hashOf
-returns c = ap (λ (z : ℕ). z / 524288) (c .mix .ensures)
+returns c = ap (λ (z : ℕ). z / hashStep) (c .mix .ensures)
 
 pub hash-spec : {M : Type 1} → statement M
 hash-spec = tie.close (tie.spec mix-requires returns)

@@ -11,10 +11,14 @@ returns c =
     number-past _ _ _ (at-if1 .taken)
 
 mul-at : tie.Need-mul-at
-mul-at c = search needs
+mul-at c =
+    let at-start = c .before .before .before .before in
+    omega (arith, at-start .pre .room)
 
 shared-slice-read-at : tie.Need-shared-slice-read-at
-shared-slice-read-at c = search needs
+shared-slice-read-at c =
+    let at-start = c .before .before .before .before .before in
+    omega (arith, at-start .pre .room)
 
 cast-at : tie.Need-cast-at
 cast-at c =
@@ -26,7 +30,7 @@ is-at-requires : tie.Need-is-at-requires
 is-at-requires c κs =
     let at-if1 = c .before .if1 in
     let at-start = c .before .before .before .before .before in
-    at-start .pre .0 (at-start .args .i) (at-if1 .left)
+    at-start .pre .laid (at-start .args .i) (at-if1 .left)
 
 returns-2 : tie.Need-returns-2
 returns-2 c =

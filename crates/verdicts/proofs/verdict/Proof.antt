@@ -27,55 +27,55 @@ returns c =
     let at-refused = c .refused in
     let at-enum-told = c .before .enum-told in
     let at-load = c .before .before .before .before .load in
-    refused-is _ _ _ _ _ _ _ _ _ (at-load .ensures) _ _ (at-enum-told .given .1) _ _ _ _ _ _ (at-refused .ensures)
+    refused-is _ _ _ _ _ _ _ _ (at-load .ensures) _ _ (at-enum-told .given .1) _ _ _ _ _ _ (at-refused .ensures)
 
 array-share-prefix-buf : tie.Need-array-share-prefix-buf
 array-share-prefix-buf c =
     let at-l = c .before .l in
     let at-load = c .before .before .before .before .load in
-    let k = (outcome-kept _ _ _ _ _ _ _ _ _ (at-load .ensures) _ _ (at-l .given .1)) .within in omega (arith, k .0, k .1)
+    let k = (outcome-kept _ _ _ _ _ _ _ _ (at-load .ensures) _ _ (at-l .given .1)) .within in omega (arith, k .0, k .1)
 
 slice-aggregate-f : tie.Need-slice-aggregate-f
 slice-aggregate-f c =
     let at-l = c .before .before .l in
     let at-load = c .before .before .before .before .before .load in
-    front-is (outcome-kept _ _ _ _ _ _ _ _ _ (at-load .ensures) _ _ (at-l .given .1))
+    front-is (outcome-kept _ _ _ _ _ _ _ _ (at-load .ensures) _ _ (at-l .given .1))
 
 slice-aggregate-memberships : tie.Need-slice-aggregate-memberships
 slice-aggregate-memberships c =
     let at-l = c .before .before .before .l in
     let at-load = c .before .before .before .before .before .before .load in
-    sym ((outcome-kept _ _ _ _ _ _ _ _ _ (at-load .ensures) _ _ (at-l .given .1)) .holds .long .1)
+    sym ((outcome-kept _ _ _ _ _ _ _ _ (at-load .ensures) _ _ (at-l .given .1)) .holds .long .of-users)
 
 slice-aggregate-memberships-2 : tie.Need-slice-aggregate-memberships-2
 slice-aggregate-memberships-2 c =
     let at-l = c .before .before .before .before .l in
     let at-load = c .before .before .before .before .before .before .before .load in
-    sym ((outcome-kept _ _ _ _ _ _ _ _ _ (at-load .ensures) _ _ (at-l .given .1)) .holds .long .2)
+    sym ((outcome-kept _ _ _ _ _ _ _ _ (at-load .ensures) _ _ (at-l .given .1)) .holds .long .of-owners)
 
 memberships-requires : tie.Need-memberships-requires
 memberships-requires c κs =
     let at-l = c .before .before .before .before .l in
     let at-load = c .before .before .before .before .before .before .before .load in
-    count-requires (outcome-kept _ _ _ _ _ _ _ _ _ (at-load .ensures) _ _ (at-l .given .1))
+    count-requires (outcome-kept _ _ _ _ _ _ _ _ (at-load .ensures) _ _ (at-l .given .1))
 
 slice-aggregate-call : tie.Need-slice-aggregate-call
 slice-aggregate-call c =
     let at-l = c .before .before .before .before .before .before .l in
     let at-load = c .before .before .before .before .before .before .before .before .before .load in
-    sym ((outcome-kept _ _ _ _ _ _ _ _ _ (at-load .ensures) _ _ (at-l .given .1)) .holds .long .4)
+    sym ((outcome-kept _ _ _ _ _ _ _ _ (at-load .ensures) _ _ (at-l .given .1)) .holds .long .of-starts)
 
 slice-aggregate-call-2 : tie.Need-slice-aggregate-call-2
 slice-aggregate-call-2 c =
     let at-l = c .before .before .before .before .before .before .before .l in
     let at-load = c .before .before .before .before .before .before .before .before .before .before .load in
-    sym ((outcome-kept _ _ _ _ _ _ _ _ _ (at-load .ensures) _ _ (at-l .given .1)) .holds .long .5)
+    sym ((outcome-kept _ _ _ _ _ _ _ _ (at-load .ensures) _ _ (at-l .given .1)) .holds .long .of-holders)
 
 call-requires : tie.Need-call-requires
 call-requires c κs =
     let at-l = c .before .before .before .before .before .before .before .l in
     let at-load = c .before .before .before .before .before .before .before .before .before .before .load in
-    safe (outcome-kept _ _ _ _ _ _ _ _ _ (at-load .ensures) _ _ (at-l .given .1))
+    safe (outcome-kept _ _ _ _ _ _ _ _ (at-load .ensures) _ _ (at-l .given .1))
 
 returns-2 : tie.Need-returns-2
 returns-2 c =
@@ -84,7 +84,7 @@ returns-2 c =
     let at-l = c .before .before .before .before .before .before .before .before .l in
     let at-load = c .before .before .before .before .before .before .before .before .before .before .before .load in
     let at-start = c .before .before .before .before .before .before .before .before .before .before .before .before .before .before .before .before .before .before .before .before .before .before .before in
-    let K = (outcome-kept _ _ _ _ _ _ _ _ _ (at-load .ensures) _ _ (at-l .given .1)) in at-call .ensures (tableOf (at-start .args .table .now)) (holding K) (rw (at-memberships .ensures) (grouped K (at-start .args .user .now))) ∙ either-kept K _ _ _ _ _
+    let K = (outcome-kept _ _ _ _ _ _ _ _ (at-load .ensures) _ _ (at-l .given .1)) in at-call .ensures (tableOf (at-start .args .table .now)) (holding K) (rw (at-memberships .ensures) (grouped K (at-start .args .user .now))) ∙ either-kept K _ _ _ _ _
 
 pub verdict-spec : {M : Type 1} → statement M
 verdict-spec =

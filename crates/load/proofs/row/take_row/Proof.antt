@@ -2,7 +2,7 @@
 use borrow.Author.Needs.{needs}
 use native.Mathlib.Omega.{arith}
 use mathlib.Core.Path.{refl, sym}
-use Rattle.load.proofs.Rows.{front-long, both-room, part-some, all-distinct, all-named, members-in, ids-in, row-version, row-group, row-member, row-rule, row-unknown}
+use Rattle.load.proofs.Rows.{front-long, both-room, part-some, group-ready, member-ready, rule-ready, row-version, row-group, row-member, row-rule, row-unknown}
 use Rattle.load.proofs.row.take_row.Statement.{statement}
 use Rattle.load.proofs.row.take_row.Tie as tie
 
@@ -35,43 +35,43 @@ returns : tie.Need-returns
 returns c =
     let at-version-number = c .version-number in
     let at-if1 = c .before .if1 in
-    λ b rules H. row-version H _ _ (at-if1 .taken) (at-version-number .ensures .0) (at-version-number .ensures .1)
+    λ b H. row-version H _ _ (at-if1 .taken) (at-version-number .ensures .0) (at-version-number .ensures .1)
 
 take-group-requires : tie.Need-take-group-requires
 take-group-requires c κs =
     let at-if2 = c .before .before .before .if2 in
     let at-start = c .before .before .before .before .before .before .before .before .before in
-    ((part-some _ _ _ (at-start .pre .0), at-if2 .taken), (both-room _ _ _ (at-start .pre .0), (at-start .pre .1 .2) .holds .few .0, all-named (at-start .pre .1 .2)))
+    group-ready (at-start .pre .1 .1) _ (part-some _ _ _ (at-start .pre .0)) (both-room _ _ _ (at-start .pre .0)) (at-if2 .taken)
 
 returns-2 : tie.Need-returns-2
 returns-2 c =
     let at-take-group = c .take-group in
     let at-if2 = c .before .before .before .before .if2 in
-    λ b rules H. row-group H _ _ (at-if2 .taken) (at-take-group .ensures .0) (at-take-group .ensures .1)
+    λ b H. row-group H _ _ (at-if2 .taken) (at-take-group .ensures .0) (at-take-group .ensures .1)
 
 take-member-requires : tie.Need-take-member-requires
 take-member-requires c κs =
     let at-if3 = c .before .before .before .before .before .before .if3 in
     let at-start = c .before .before .before .before .before .before .before .before .before .before .before .before .before in
-    ((part-some _ _ _ (at-start .pre .0), at-if3 .taken), ((both-room _ _ _ (at-start .pre .0), (at-start .pre .1 .2) .holds .groups-laid, (at-start .pre .1 .2) .holds .few .0, all-distinct (at-start .pre .1 .2)), (all-named (at-start .pre .1 .2), members-in (at-start .pre .1 .2), (at-start .pre .1 .2) .sets-long .0)))
+    member-ready (at-start .pre .1 .1) _ (part-some _ _ _ (at-start .pre .0)) (both-room _ _ _ (at-start .pre .0)) (at-if3 .taken)
 
 returns-3 : tie.Need-returns-3
 returns-3 c =
     let at-take-member = c .take-member in
     let at-if3 = c .before .before .before .before .before .before .before .if3 in
-    λ b rules H. row-member H _ _ (at-if3 .taken) (at-take-member .ensures .0) (at-take-member .ensures .1)
+    λ b H. row-member H _ _ (at-if3 .taken) (at-take-member .ensures .0) (at-take-member .ensures .1)
 
 take-rule-requires : tie.Need-take-rule-requires
 take-rule-requires c κs =
-    let at-if4 = c .before .before .before .before .before .before .before .if4 in
-    let at-start = c .before .before .before .before .before .before .before .before .before .before .before .before .before .before .before in
-    ((part-some _ _ _ (at-start .pre .0), at-if4 .taken), ((both-room _ _ _ (at-start .pre .0), (at-start .pre .1 .2) .holds .groups-laid, (at-start .pre .1 .2) .holds .few .0, all-distinct (at-start .pre .1 .2)), (all-named (at-start .pre .1 .2), ids-in (at-start .pre .1 .2), (at-start .pre .1 .2) .sets-long .1)))
+    let at-if4 = c .before .before .before .before .before .before .if4 in
+    let at-start = c .before .before .before .before .before .before .before .before .before .before .before .before .before .before in
+    rule-ready (at-start .pre .1 .1) _ (part-some _ _ _ (at-start .pre .0)) (both-room _ _ _ (at-start .pre .0)) (at-if4 .taken)
 
 returns-4 : tie.Need-returns-4
 returns-4 c =
     let at-take-rule = c .take-rule in
-    let at-if4 = c .before .before .before .before .before .before .before .before .if4 in
-    λ b rules H. row-rule H _ _ (at-if4 .taken) (at-take-rule .ensures .0) (at-take-rule .ensures .1)
+    let at-if4 = c .before .before .before .before .before .before .before .if4 in
+    λ b H. row-rule H _ _ (at-if4 .taken) (at-take-rule .ensures .0) (at-take-rule .ensures .1)
 
 returns-5 : tie.Need-returns-5
 returns-5 c =
@@ -80,7 +80,7 @@ returns-5 c =
     let at-if2 = c .before .before .if2 in
     let at-if1 = c .before .before .before .if1 in
     let at-start = c .before .before .before .before .before .before .before .before in
-    λ b rules H. (row-unknown b _ _ (part-some _ _ _ (at-start .pre .0)) refl (at-if1 .left) (at-if2 .left) (at-if3 .left) (at-if4 .left), λ x. absurd (omega arith))
+    λ b H. (row-unknown b _ _ (part-some _ _ _ (at-start .pre .0)) refl (at-if1 .left) (at-if2 .left) (at-if3 .left) (at-if4 .left), λ x. absurd (omega arith))
 
 pub take-row-spec : {M : Type 1} → statement M
 take-row-spec =

@@ -11,29 +11,20 @@ returns c =
     let at-start = c .before .before in
     read-short _ (at-start .pre) (at-if1 .taken)
 
-shared-slice-read-known : tie.Need-shared-slice-read-known
-shared-slice-read-known c = search needs
+shared-slice-read-action : tie.Need-shared-slice-read-action
+shared-slice-read-action c = search needs
 
-shared-slice-read-known-2 : tie.Need-shared-slice-read-known-2
-shared-slice-read-known-2 c = search needs
+shared-slice-read-mode : tie.Need-shared-slice-read-mode
+shared-slice-read-mode c = search needs
 
-shared-slice-read-known-3 : tie.Need-shared-slice-read-known-3
-shared-slice-read-known-3 c = search needs
-
-shared-slice-read-known-4 : tie.Need-shared-slice-read-known-4
-shared-slice-read-known-4 c = search needs
-
-shared-slice-read-known-5 : tie.Need-shared-slice-read-known-5
-shared-slice-read-known-5 c = search needs
-
-shared-slice-read-known-6 : tie.Need-shared-slice-read-known-6
-shared-slice-read-known-6 c = search needs
+shared-slice-read-kind : tie.Need-shared-slice-read-kind
+shared-slice-read-kind c = search needs
 
 returns-2 : tie.Need-returns-2
 returns-2 c =
     let at-if2 = c .if2 in
-    let at-if1 = c .before .before .before .before .before .before .before .if1 in
-    let at-start = c .before .before .before .before .before .before .before .before .before in
+    let at-if1 = c .before .before .before .before .if1 in
+    let at-start = c .before .before .before .before .before .before in
     read-wrong _ (at-start .pre) (at-if1 .left) (not-true _ (at-if2 .taken))
 
 string-end-requires : tie.Need-string-end-requires
@@ -50,8 +41,8 @@ returns-3 c =
     let at-enum-told = c .enum-told in
     let at-string-end = c .before .before .string-end in
     let at-if2 = c .before .before .before .if2 in
-    let at-if1 = c .before .before .before .before .before .before .before .before .before .before .if1 in
-    let at-start = c .before .before .before .before .before .before .before .before .before .before .before .before in
+    let at-if1 = c .before .before .before .before .before .before .before .if1 in
+    let at-start = c .before .before .before .before .before .before .before .before .before in
     read-subjectless _ (at-start .pre) (at-if1 .left) (not-false _ (at-if2 .left)) _ (at-string-end .ensures) (at-enum-told .given .1)
 
 string-end-requires-2 : tie.Need-string-end-requires-2
@@ -70,8 +61,8 @@ returns-4 c =
     let at-s = c .before .before .before .before .s in
     let at-string-end = c .before .before .before .before .before .before .string-end in
     let at-if2 = c .before .before .before .before .before .before .before .if2 in
-    let at-if1 = c .before .before .before .before .before .before .before .before .before .before .before .before .before .before .if1 in
-    let at-start = c .before .before .before .before .before .before .before .before .before .before .before .before .before .before .before .before in
+    let at-if1 = c .before .before .before .before .before .before .before .before .before .before .before .if1 in
+    let at-start = c .before .before .before .before .before .before .before .before .before .before .before .before .before in
     read-idless _ (at-start .pre) (at-if1 .left) (not-false _ (at-if2 .left)) _ (at-string-end .ensures) _ (at-s .given .1) _ (at-string-end2 .ensures) (at-enum-told2 .given .1)
 
 string-end-requires-3 : tie.Need-string-end-requires-3
@@ -92,8 +83,8 @@ returns-5 c =
     let at-s = c .before .before .before .before .before .before .before .before .s in
     let at-string-end = c .before .before .before .before .before .before .before .before .before .before .string-end in
     let at-if2 = c .before .before .before .before .before .before .before .before .before .before .before .if2 in
-    let at-if1 = c .before .before .before .before .before .before .before .before .before .before .before .before .before .before .before .before .before .before .if1 in
-    let at-start = c .before .before .before .before .before .before .before .before .before .before .before .before .before .before .before .before .before .before .before .before in
+    let at-if1 = c .before .before .before .before .before .before .before .before .before .before .before .before .before .before .before .if1 in
+    let at-start = c .before .before .before .before .before .before .before .before .before .before .before .before .before .before .before .before .before in
     read-originless _ (at-start .pre) (at-if1 .left) (not-false _ (at-if2 .left)) _ (at-string-end .ensures) _ (at-s .given .1) _ (at-string-end2 .ensures) _ (at-i .given .1) _ (at-string-end3 .ensures) (at-enum-told3 .given .1)
 
 read-path-requires : tie.Need-read-path-requires
@@ -116,8 +107,8 @@ returns-6 c =
     let at-s = c .before .before .before .before .before .before .before .before .before .before .before .before .s in
     let at-string-end = c .before .before .before .before .before .before .before .before .before .before .before .before .before .before .string-end in
     let at-if2 = c .before .before .before .before .before .before .before .before .before .before .before .before .before .before .before .if2 in
-    let at-if1 = c .before .before .before .before .before .before .before .before .before .before .before .before .before .before .before .before .before .before .before .before .before .before .if1 in
-    let at-start = c .before .before .before .before .before .before .before .before .before .before .before .before .before .before .before .before .before .before .before .before .before .before .before .before in
+    let at-if1 = c .before .before .before .before .before .before .before .before .before .before .before .before .before .before .before .before .before .before .before .if1 in
+    let at-start = c .before .before .before .before .before .before .before .before .before .before .before .before .before .before .before .before .before .before .before .before .before in
     read-pathless _ (at-start .pre) (at-if1 .left) (not-false _ (at-if2 .left)) _ (at-string-end .ensures) _ (at-s .given .1) _ (at-string-end2 .ensures) _ (at-i .given .1) _ (at-string-end3 .ensures) _ (at-o .given .1) _ (at-read-path .ensures) (at-enum-told4 .given .1)
 
 returns-7 : tie.Need-returns-7
@@ -132,8 +123,8 @@ returns-7 c =
     let at-s = c .before .before .before .before .before .before .before .before .before .before .before .before .before .before .s in
     let at-string-end = c .before .before .before .before .before .before .before .before .before .before .before .before .before .before .before .before .string-end in
     let at-if2 = c .before .before .before .before .before .before .before .before .before .before .before .before .before .before .before .before .before .if2 in
-    let at-if1 = c .before .before .before .before .before .before .before .before .before .before .before .before .before .before .before .before .before .before .before .before .before .before .before .before .if1 in
-    let at-start = c .before .before .before .before .before .before .before .before .before .before .before .before .before .before .before .before .before .before .before .before .before .before .before .before .before .before in
+    let at-if1 = c .before .before .before .before .before .before .before .before .before .before .before .before .before .before .before .before .before .before .before .before .before .if1 in
+    let at-start = c .before .before .before .before .before .before .before .before .before .before .before .before .before .before .before .before .before .before .before .before .before .before .before in
     read-off _ (at-start .pre) (at-if1 .left) (not-false _ (at-if2 .left)) _ (at-string-end .ensures) _ (at-s .given .1) _ (at-string-end2 .ensures) _ (at-i .given .1) _ (at-string-end3 .ensures) _ (at-o .given .1) _ (at-read-path .ensures) _ _ (at-p .given .1) (at-if3 .taken)
 
 returns-8 : tie.Need-returns-8
@@ -148,8 +139,8 @@ returns-8 c =
     let at-s = c .before .before .before .before .before .before .before .before .before .before .before .before .before .before .s in
     let at-string-end = c .before .before .before .before .before .before .before .before .before .before .before .before .before .before .before .before .string-end in
     let at-if2 = c .before .before .before .before .before .before .before .before .before .before .before .before .before .before .before .before .before .if2 in
-    let at-if1 = c .before .before .before .before .before .before .before .before .before .before .before .before .before .before .before .before .before .before .before .before .before .before .before .before .if1 in
-    let at-start = c .before .before .before .before .before .before .before .before .before .before .before .before .before .before .before .before .before .before .before .before .before .before .before .before .before .before in
+    let at-if1 = c .before .before .before .before .before .before .before .before .before .before .before .before .before .before .before .before .before .before .before .before .before .if1 in
+    let at-start = c .before .before .before .before .before .before .before .before .before .before .before .before .before .before .before .before .before .before .before .before .before .before .before in
     read-rule _ (at-start .pre) (at-if1 .left) (not-false _ (at-if2 .left)) _ (at-string-end .ensures) _ (at-s .given .1) _ (at-string-end2 .ensures) _ (at-i .given .1) _ (at-string-end3 .ensures) _ (at-o .given .1) _ (at-read-path .ensures) _ _ (at-p .given .1) (at-if3 .left)
 
 pub read-rule-spec : {M : Type 1} → statement M
@@ -157,12 +148,9 @@ read-rule-spec =
     tie.close
     (tie.spec
     returns
-    shared-slice-read-known
-    shared-slice-read-known-2
-    shared-slice-read-known-3
-    shared-slice-read-known-4
-    shared-slice-read-known-5
-    shared-slice-read-known-6
+    shared-slice-read-action
+    shared-slice-read-mode
+    shared-slice-read-kind
     returns-2
     string-end-requires
     enum-known-s

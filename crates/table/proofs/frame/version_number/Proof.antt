@@ -89,7 +89,7 @@ returns-4 c =
     let at-v = c .before .before .before .before .before .before .before .before .v in
     let at-string-end = c .before .before .before .before .before .before .before .before .before .before .string-end in
     let at-start = c .before .before .before .before .before .before .before .before .before .before .before .before in
-    (λ b w. version-graded _ (at-start .pre) _ (at-string-end .ensures) b _ w _ (at-v .given .1) (at-if1 .left) _ (at-is-out-of-order .ensures) (at-if2 .left) _ _ _ (at-number .ensures) (at-is-unsized .ensures) (at-all-print .ensures), λ x. (_, _, reading _ (at-start .pre) _ (at-string-end .ensures) (record { kind = at-start .args .last; groups = []; members = []; ids = [] }) _ refl _ (at-v .given .1) (at-if1 .left) _ (at-is-out-of-order .ensures)))
+    (λ b w. version-graded _ (at-start .pre) _ (at-string-end .ensures) b _ w _ (at-v .given .1) (at-if1 .left) _ (at-is-out-of-order .ensures) (at-if2 .left) _ _ _ (at-number .ensures) (at-is-unsized .ensures) (at-all-print .ensures), λ x. (_, _, reading _ (at-start .pre) _ (at-string-end .ensures) (record { kind = at-start .args .last; groups = []; members = []; rules = [] }) _ refl _ (at-v .given .1) (at-if1 .left) _ (at-is-out-of-order .ensures)))
 
 pub version-number-spec : {M : Type 1} → statement M
 version-number-spec =
