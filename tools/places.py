@@ -1,0 +1,51 @@
+"""What `rt goals` writes of a function: its needs in order, and the places on the way to each."""
+import glob
+import os
+import re
+import subprocess
+import sys
+
+RT = os.environ.get("RT", "rt")
+RECORD = re.compile(r"^ *pub record (\S+?)(·own)? : Type 0 where\n((?: +pub [^\n]*\n(?: {12,}[^\n]*\n)*)+)", re.M)
+NEED = re.compile(r"^ *Need-(\S+) =\s*(?:\([^c][^\n]*\) →\s+)*\(c : (\S+?)\) →", re.M)
+
+
+class Places:
+    """The places of one function, from the text of its Lts."""
+
+    def __init__(self, text):
+        self.place, self.own = {}, {}
+        for name, own, body in RECORD.findall(text):
+            fields = re.findall(r"^ *pub (\S+) : (\S+)", body, re.M)
+            if own:
+                self.own[name] = (fields, re.sub(r"\s+", " ", body))
+            else:
+                self.place[name] = fields
+        self.needs = dict(NEED.findall(text))
+
+    def chain(self, need):
+        """[(thing, place)], nearest first; the last is `start`."""
+        out, at = [], self.needs[need]
+        while at in self.place and self.place[at][0][0] == "before":
+            out.append((self.place[at][1][0], at))
+            at = self.place[at][0][1]
+        return out + [("start", at)]
+
+    def depths(self, need):
+        """How many steps back each thing lies; the nearest counts where a name comes twice."""
+        out = {}
+        for depth, (thing, _) in enumerate(self.chain(need)):
+            out.setdefault(thing, depth)
+        return out
+
+    def fields(self, place):
+        return [name for name, _ in self.own.get(place, ([], ""))[0]]
+
+
+def goals(crate, function):
+    """{member: Places} of a function, made anew; a function alone has the one member "", a cycle of calls has one for each function."""
+    run = subprocess.run([RT, "goals", crate], capture_output=True, text=True)
+    files = sorted(glob.glob(f"target/goals/{crate}/*proofs/proofs/{glob.escape(function)}/Lts*.antt"))
+    if not files:
+        sys.exit(f"no goals of {crate} {function}; rt goals said:\n" + "\n".join((run.stdout + run.stderr).splitlines()[-5:]))
+    return {os.path.basename(f)[3:-5].lstrip("-"): Places(open(f, encoding="utf-8").read()) for f in files}
