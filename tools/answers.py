@@ -7,16 +7,19 @@ on back to the start. A place has one thing, a field named after what happened t
 In memory a body cites `@THING`, which is that field of its place (`@start` is the start itself), and the depth of each thing stands beside.
 On paper `at-THING` is the place, named from the nearer place before it, and a fact is read as `at-THING .THING .ensures`:
 
-    let at-string-end = c .before .before .before in let at-start = at-string-end .before .before .before in
-    string-ends _ (at-start .pre .0) _ (at-string-end .string-end .ensures) _ (c .before .a .given .1)
+    part-end c = let at-string-end = c .before .before .before in let at-start = at-string-end .before .before .before in
+        string-ends _ (at-start .pre .0) _ (at-string-end .string-end .ensures) _ (c .before .a .given .1)
 
 The nearest place is `c`. A place at most NEAR steps from the place named before it is written where it is cited, if that is shorter.
 The last block hands the answers to `spec` in the order of the needs; a need with no answer of its own stands there as `(λ c. search needs)`.
 """
 import re
 
+from uses import without_unused
+
 WIDTH = 120                                          # lines are filled up to here,
 LONGEST = 160                                        # and broken where they are longer than this
+WIDEST = 300                                         # no line of a proof is longer than this
 NEAR = 2
 START, START_FIELDS = "start", {"κs", "args", "good", "fits", "pre"}
 SEARCH = "search needs"
@@ -28,8 +31,8 @@ CITED = re.compile(rf"(?<![\w·′'.@-]){WAY}(?![\w·′'-])")
 THING = re.compile(rf"@({NAME})")
 HEAD = re.compile(r"^(\S+) ((?:t )?c(?: κs)?) =", re.M)
 NEED = re.compile(r"(\S+)\.Need-(\S+)")
+SHARED = re.compile(rf"({NAME})( t)? (?:c|\(c(?: \.before)+\))( κs)?")
 SPEC = re.compile(r"(pub \S+-spec :[^\n]*\n\S+ =)(?=\s)(.*)", re.S)
-USE = re.compile(r"^(use [^\s{]+\.\{)([^}]*)(\})$", re.M)
 
 
 def blocks_of(text):
@@ -102,6 +105,12 @@ class Answer:
         return layout(self.head, lets, THING.sub(lambda m: ways[m.group(1)], self.body))
 
 
+    def share(self, earlier, steps):
+        """The block, answered by an earlier answer at a place so many steps back."""
+        way = f"(c{' .before' * steps})" if steps else "c"
+        return f"{self.head} {earlier} {re.sub('(?<![^ ])c(?![^ ])', way, self.binds)}"
+
+
 def searched(binds):
     """How a need that a search answers stands in the list of `spec`."""
     return f"(λ {binds.removeprefix('t ')}. {SEARCH})"
@@ -122,28 +131,39 @@ def tidy(text):
         else:
             blocks[k] = answer.write()
     blocks = [write_spec(b, lambda words: [put_in(w, inlined) for w in words]) for b in blocks if b]
-    lines = "\n\n".join(blocks).split("\n")
-    return without_unused("\n".join(part for line in lines for part in broken(line)) + "\n"), left
+    return without_unused(narrow("\n\n".join(blocks) + "\n"))[0], left
+
+
+def narrow(text, most=LONGEST):
+    """The text with its lines broken that are longer than that."""
+    return "\n".join(part for line in text.split("\n") for part in (broken(line) if len(line) > most else [line]))
 
 
 def mentions(blocks, name):
     """How many blocks name it: its own and the last, where nothing else cites it."""
-    word = re.compile(rf"(?<![\w·′'-]){re.escape(name)}(?![\w·′'-])")
+    word = re.compile(rf"(?<![\w·′'.-]){re.escape(name)}(?![\w·′'-])")
     return sum(bool(word.search(b)) for b in blocks)
 
 
 def expand(text, goals):
     """A proof file's text with the places and the list of `spec` as the goals have them, and what a person has to mend."""
     blocks, wrong, named = blocks_of(text), [], {}
-    for k, block in enumerate(blocks):
-        if not Answer.is_one(block):
-            continue
-        answer = Answer(block)
-        member = next((m for m in goals if len(goals) == 1 or answer.lts == m.replace("_", "-") + "-lts"), None)
+    read = {k: Answer(b) for k, b in enumerate(blocks) if Answer.is_one(b)}
+    needs_of = {a.name: a.need for a in read.values()}
+    for k, answer in read.items():
+        member = member_of(answer, goals)
         if member is None or answer.need not in goals[member].needs:
             wrong.append(f"{answer.name}: there is no need {answer.need} now")
             continue
         named[member, answer.need] = answer.name
+        shared = SHARED.fullmatch(answer.body)
+        if shared and shared.group(1) in needs_of:
+            steps = goals[member].steps(answer.need, needs_of[shared.group(1)])
+            if steps is None:
+                wrong.append(f"{answer.name}: {shared.group(1)} does not stand on the way now")
+            else:
+                blocks[k] = answer.share(shared.group(1), steps)
+            continue
         depths = goals[member].depths(answer.need)
         missing = [t for t in THING.findall(answer.body) if t not in depths]
         if missing:
@@ -156,12 +176,49 @@ def expand(text, goals):
     return "\n\n".join(blocks) + "\n", wrong
 
 
+def member_of(answer, goals):
+    """The function of a cycle whose need it answers; "" where the function is alone."""
+    return next((m for m in goals if len(goals) == 1 or answer.lts == m.replace("_", "-") + "-lts"), None)
+
+
+def repeats(text, goals):
+    """[(later, earlier, steps)]: the answers that say again what an earlier one says at the same place, or at one on the way."""
+    found, seen = [], {}
+    for block in filter(Answer.is_one, blocks_of(text)):
+        answer = Answer(block)
+        member = member_of(answer, goals)
+        one_line = answer.head.count("\n") == block.count("\n")
+        if one_line or member is None or answer.need not in goals[member].needs or "--" in answer.head:
+            continue
+        key = (member, answer.binds, tuple(re.findall(r"^unfolding .*", answer.head, re.M)), " ".join(answer.body.split()))
+        for earlier in seen.setdefault(key, []):
+            steps = goals[member].steps(answer.need, earlier.need)
+            if steps is not None and all(answer.depths[t] == earlier.depths[t] + steps for t in answer.depths):
+                found.append((answer, earlier, steps))
+                break
+        else:
+            seen[key].append(answer)
+    return found
+
+
+def with_shared(text, shared):
+    """The text with those answers (of `repeats`) answered by their earlier ones."""
+    by = {later.name: (earlier.name, steps) for later, earlier, steps in shared}
+    blocks = blocks_of(text)
+    for k, block in enumerate(blocks):
+        if Answer.is_one(block):
+            answer = Answer(block)
+            if answer.name in by:
+                blocks[k] = answer.share(*by[answer.name])
+    return "\n\n".join(blocks) + "\n"
+
+
 def write_spec(block, change):
     """The block that hands the answers to `spec`, its words changed and its lines filled; any other block as it is."""
     parts = SPEC.fullmatch(block)
     if not parts or "spec" not in parts.group(2):
         return block
-    return "\n".join([parts.group(1), *fill(change(spec_words(parts.group(2))), "    ")])
+    return layout(parts.group(1), change(spec_words(parts.group(2))), "")
 
 
 def spec_words(text):
@@ -194,33 +251,31 @@ def with_needs(words, needs):
     return words[:at] + needs[:-1] + [needs[-1] + ")"]
 
 
-def layout(head, lets, body):
-    """HEAD = LETS BODY: on one line where that fits, else filled from the next line on. A body of several lines keeps its lines."""
+def layout(head, words, body):
+    """HEAD WORDS BODY on lines filled from the head on. A body of several lines keeps its lines."""
     first, *rest = body.split("\n")
-    last = head.split("\n")[-1]
-    whole = " ".join([last, *lets, first])
-    if not rest and len(whole) <= WIDTH:
-        return head[:len(head) - len(last)] + whole
     joined = not rest or first == "("
-    lines = fill([*lets, first] if joined else lets, "    ") + ([] if joined else ["    " + first])
-    return "\n".join([head, *(line for line in lines + rest if line.strip())])
+    lines = fill([*words, *([first] if joined and first else [])], head)
+    return "\n".join([*lines, *([] if joined else ["    " + first]), *filter(str.strip, rest)])
 
 
-def fill(words, indent):
-    """The words on lines of at most WIDTH columns."""
-    lines, line = [], indent
+def fill(words, line):
+    """The words on lines of at most WIDTH columns, behind a line that stands."""
+    lines = [line]
     for word in words:
-        if line != indent and len(line) + 1 + len(word) > WIDTH:
-            lines.append(line)
-            line = indent
-        line += word if line == indent else " " + word
-    return lines + [line]
+        if len(lines[-1].split("\n")[-1]) + 1 + len(word) <= WIDTH:
+            lines[-1] += " " + word
+        else:
+            lines.append("    " + word)
+    return lines
 
 
 def broken(line):
     """The line, or the lines that it is broken into where it is longer than LONGEST: behind `=`, at a comma, between arguments, outside in."""
     lines, indent = [line], re.match(r" *", line).group(0) + "    "
-    if "--" in line or line.startswith("use "):
+    if line.startswith("use "):
+        return split_use(line)
+    if "--" in line or '"' in line:
         return lines
     while len(lines[-1].removesuffix(" (")) > LONGEST:
         rest = lines.pop()
@@ -230,6 +285,19 @@ def broken(line):
             return lines + [rest]
         lines += [rest[:at], indent + rest[at + 1:]]
     return lines
+
+
+def split_use(line):
+    """A `use` line, or several of the same module where it is wider than a proof's line may be."""
+    if len(line) <= WIDEST:
+        return [line]
+    module, names = re.match(r"(use [^\s{]+\.\{)(.*)\}", line).groups()
+    lines = [module]
+    for name in names.split(", "):
+        if len(lines[-1]) + len(name) > LONGEST:
+            lines.append(module)
+        lines[-1] += (", " if lines[-1] != module else "") + name
+    return [other + "}" for other in lines]
 
 
 def best_break(line, indent):
@@ -245,20 +313,3 @@ def best_break(line, indent):
             if best is None or level <= best:
                 best, at = level, k
     return at
-
-
-def without_unused(text):
-    """The text without the names that a `use` line brings and nothing mentions."""
-    rest = re.sub(r"(^|\s)--(\s.*|$)", "", USE.sub("", text), flags=re.M)
-    words = set(re.split(r"[\s(){};,.]+", rest)) | set(re.split(r"[\s(){};,.⌜⌝λ@]+", rest))
-    signs = [w for w in words if not w.isalnum()]
-
-    def used(item):
-        name = item.split(" as ")[-1].strip()
-        parts = [p for p in name.split("_") if p]
-        return name in words or "_" in name and bool(parts) and all(p in words or any(p in s for s in signs) for p in parts)
-
-    def keep(m):
-        return m.group(1) + ", ".join(n for n in map(str.strip, m.group(2).split(",")) if used(n)) + m.group(3)
-
-    return re.sub(r"^use \S+\.\{\}\n", "", USE.sub(keep, text), flags=re.M)

@@ -38,14 +38,28 @@ class Places:
             out.setdefault(thing, depth)
         return out
 
+    def steps(self, need, earlier):
+        """How many steps before a need's place that of an earlier need lies; None where it is not on the way."""
+        way = [place for _, place in self.chain(need)]
+        return way.index(self.needs[earlier]) if self.needs[earlier] in way else None
+
     def fields(self, place):
         return [name for name, _ in self.own.get(place, ([], ""))[0]]
 
 
-def goals(crate, function):
-    """{member: Places} of a function, made anew; a function alone has the one member "", a cycle of calls has one for each function."""
+def make_goals(crate):
+    """What is to be proved of a crate, written anew under target/goals/."""
     run = subprocess.run([RT, "goals", crate], capture_output=True, text=True)
+    if run.returncode not in (0, 1):
+        sys.exit("\n".join((run.stdout + run.stderr).splitlines()[-5:]))
+
+
+def read_goals(crate, function):
+    """{member: Places} of a function; one alone has the one member "", a cycle of calls has one for each of its functions."""
     files = sorted(glob.glob(f"target/goals/{crate}/*proofs/proofs/{glob.escape(function)}/Lts*.antt"))
-    if not files:
-        sys.exit(f"no goals of {crate} {function}; rt goals said:\n" + "\n".join((run.stdout + run.stderr).splitlines()[-5:]))
     return {os.path.basename(f)[3:-5].lstrip("-"): Places(open(f, encoding="utf-8").read()) for f in files}
+
+
+def goals(crate, function):
+    make_goals(crate)
+    return read_goals(crate, function) or sys.exit(f"{crate} has no goals of {function}")

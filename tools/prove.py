@@ -11,7 +11,10 @@
                                            with the tests on the way, in code order
     prove.py expand CRATE FUNCTION         writes the places of proofs/FUNCTION/Proof.antt from the goals: each `@THING` of an answer, and
                                            the places that stand there; and the list of `spec`
-    prove.py tidy [CRATE.. | FILE..]       brings proof files (default: all) into the form of answers.py, then rt fmt
+    prove.py share CRATE                   an answer that repeats an earlier one of its file, at a place that lies on the way, is answered by that
+                                           one; each is tried by rt dev, and what is refused stays as it was
+    prove.py tidy [CRATE.. | FILE..]       brings proof files (default: all) into the form of answers.py, then rt fmt; in the other files of
+                                           proofs/ it only breaks lines over 300 columns
 
 An answer cites facts at places: write `@loop .inv`, `@str-at .ensures`, `@if1 .taken`, `@start .args .f`, and expand. After an added call or
 local a second `expand` repairs all places, gives each new need `search needs`, and names what a person has to mend. FUNCTION is its folder under
@@ -24,7 +27,7 @@ import subprocess
 import sys
 
 import answers
-from places import RT, goals
+from places import RT, goals, make_goals, read_goals
 
 
 def read(path):
@@ -40,6 +43,10 @@ def write(path, text):
 
 def proof_file(crate, function):
     return f"crates/{crate}/proofs/{function}/Proof.antt"
+
+
+def proof_files(crate, name="Proof"):
+    return sorted(glob.glob(f"crates/{crate}/proofs/**/{name}.antt", recursive=True))
 
 
 def dev(crate, *words):
@@ -85,18 +92,20 @@ def expand(crate, function):
     path = proof_file(crate, function)
     text, wrong = answers.expand(read(path), goals(crate, function))
     write(path, text)
-    print("\n".join(wrong) or f"expanded {path}")
-    return bool(wrong)
+    if wrong:
+        print("\n".join(wrong))
+        return 1
+    return tidy(path)
 
 
 def tidy(*names):
-    files = [f for n in names or ["*"] for f in ([n] if n.endswith(".antt") else sorted(glob.glob(f"crates/{n}/proofs/**/Proof.antt", recursive=True)))]
+    files = [f for n in names or ["*"] for f in ([n] if n.endswith(".antt") else proof_files(n, "*"))]
     before = {f: read(f) for f in files}
     for _ in range(4):                                     # rt fmt indents, which may make a line too long
         old = {f: read(f) for f in files}
         left = {}
         for f in files:
-            text, left[f] = answers.tidy(old[f])
+            text, left[f] = answers.tidy(old[f]) if f.endswith("/Proof.antt") else (answers.narrow(old[f], answers.WIDEST), [])
             if text != old[f]:
                 write(f, text)
         subprocess.run([RT, "fmt"], check=True)
@@ -107,6 +116,25 @@ def tidy(*names):
             print(f"{f}: run expand, the places are unclear: {' '.join(left[f])}")
     after = {f: read(f) for f in files}
     print(f"{sum(after[f] != before[f] for f in files)} of {len(files)} files changed, lines {lines_of(before)} -> {lines_of(after)}")
+
+
+def share(crate):
+    """Shares all that repeats, then takes back what the prover refuses, until it refuses nothing."""
+    make_goals(crate)
+    files = {f: read(f) for f in proof_files(crate)}
+    shared = {f: answers.repeats(t, read_goals(crate, os.path.dirname(f).split("/proofs/", 1)[1])) for f, t in files.items()}
+    while any(shared.values()):
+        for f in files:
+            write(f, answers.with_shared(files[f], shared[f]))
+        run = subprocess.run([RT, "dev", crate], capture_output=True, text=True, env={**os.environ, "RT_CUT": "0"})
+        refused = {(f, name) for f, name in re.findall(r"(crates/\S+?):\d+:\d+: error: `([^`]+)`", run.stdout + run.stderr)}
+        kept = {f: [s for s in shared[f] if (f, s[0].name) not in refused] for f in files}
+        if run.returncode == 0:
+            break
+        shared = kept if kept != shared else {f: [] for f in files}
+    for f in files:
+        write(f, answers.with_shared(files[f], shared[f]))
+    print(f"{crate}: {sum(map(len, shared.values()))} answers by an earlier one")
 
 
 def lines_of(texts):
@@ -205,11 +233,11 @@ def test_lemma(side, kind):
     return None
 
 
-COMMANDS = {"dev": dev, "things": things, "fill": fill, "returns": returns, "expand": expand, "tidy": tidy}
+COMMANDS = {"dev": dev, "things": things, "fill": fill, "returns": returns, "expand": expand, "share": share, "tidy": tidy}
 
 if __name__ == "__main__":
     command, *args = sys.argv[1:] or ["help"]
-    least = {"dev": 1, "things": 2, "fill": 2, "returns": 4, "expand": 2}.get(command, 0)
+    least = {"dev": 1, "things": 2, "fill": 2, "returns": 4, "expand": 2, "share": 1}.get(command, 0)
     if command not in COMMANDS or len(args) < least:
         sys.exit(__doc__)
     sys.exit(COMMANDS[command](*args))

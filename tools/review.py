@@ -13,6 +13,8 @@ import re
 import sys
 from collections import defaultdict
 
+from uses import without_unused
+
 
 def read(path):
     with open(path, encoding="utf-8") as f:
@@ -23,53 +25,17 @@ def sources(roots=("crates",), endings=(".rt", ".antt")):
     return sorted(f for r in roots for f in glob.glob(f"{r}/**/*", recursive=True) if f.endswith(endings) and os.path.isfile(f))
 
 
-# ---- unused names
-
-BRINGS = re.compile(r"^((?:ghost )?use [^\s{]+\.\{)([^}]*)(\};?)$", re.M)
-
-
 def unused(*args):
-    found = 0
+    found = False
     for path in sources([a for a in args if a != "-w"] or ("crates",)):
-        text = read(path)
-        is_used = mention(without_comments(BRINGS.sub("", text), path))
-
-        def keep(m):
-            names = [n.strip() for n in m.group(2).split(",")]
-            gone = [n for n in names if not is_used(n)]
-            if gone:
-                rows.append(f"{path}: {', '.join(gone)}")
-            kept = [n for n in names if n not in gone]
-            return m.group(1) + ", ".join(kept) + m.group(3) if kept else "\0"
-
-        rows = []
-        new = BRINGS.sub(keep, text).replace("\0\n", "")
-        found += len(rows)
-        if rows:
-            print("\n".join(rows))
+        text, gone = without_unused(read(path), "--" if path.endswith(".antt") else "//")
+        if gone:
+            found = True
+            print(f"{path}: {', '.join(gone)}")
             if "-w" in args:
                 with open(path, "w", encoding="utf-8") as f:
-                    f.write(new)
-    return bool(found)
-
-
-def without_comments(text, path):
-    return re.sub(r"(^|\s)--(\s.*|$)", "", text, flags=re.M) if path.endswith(".antt") else re.sub(r"//.*", "", text)
-
-
-def mention(text):
-    """Whether a text mentions the name of a `use` item; an operator `_+_` is mentioned by its parts."""
-    words = set(re.split(r"[\s(){};,.]+", text)) | set(re.split(r"[\s(){};,.⌜⌝λ@]+", text))
-    signs = [w for w in words if not w.isalnum()]
-
-    def used(item):
-        name = item.split(" as ")[-1].strip()
-        parts = [p for p in name.split("_") if p]
-        if name in words or name in ("_>>=_", "_>>_") and "do" in words:
-            return True
-        return "_" in name and bool(parts) and all(p in words or any(p in s for s in signs) for p in parts)
-
-    return used
+                    f.write(text)
+    return found
 
 
 # ---- repeats

@@ -43,8 +43,7 @@ OLD = f"""{HEAD}
 PLAIN = HEAD + " " + BODY % ("c .before .before .before .before", "c .before .before .before .find", "c .before .before .loop",
                              "c .before .put", "c .if1")
 SHORT = HEAD + " " + BODY % ("@start", "@find", "@loop", "@put", "@if1")
-FORM = f"""{HEAD}
-    let at-find = c .before .before .before in
+FORM = f"""{HEAD} let at-find = c .before .before .before in
     {BODY % ("at-find .before", "at-find .find", "c .before .before .loop", "c .before .put", "c .if1")}"""
 FILE = """use borrow.Author.Needs.{needs}
 use some.Where.{lemma, unused}
@@ -73,8 +72,7 @@ use some.Where.{lemma}
 %s
 
 pub find-spec : {M : Type 1} → statement M
-find-spec =
-    tie.close (tie.spec Inv-loop μ-loop (λ c κs. search needs) (λ c. search needs) returns)
+find-spec = tie.close (tie.spec Inv-loop μ-loop (λ c κs. search needs) (λ c. search needs) returns)
 """ % FORM
 
 
