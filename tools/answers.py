@@ -104,7 +104,6 @@ class Answer:
             ways[thing] = way if thing == START else f"{way} .{thing}"
         return layout(self.head, lets, THING.sub(lambda m: ways[m.group(1)], self.body))
 
-
     def share(self, earlier, steps):
         """The block, answered by an earlier answer at a place so many steps back."""
         way = f"(c{' .before' * steps})" if steps else "c"
@@ -117,8 +116,8 @@ def searched(binds):
 
 
 def tidy(text):
-    """A proof file's text in the form above, and the answers that could not be read."""
-    blocks, inlined, left = blocks_of(text), {}, []
+    """A proof file's text in the form above, without the lines of source that an offered file names; and the answers that only `expand` can read."""
+    blocks, inlined, left = blocks_of(re.sub(r"^-- src/.*\n", "", text, flags=re.M)), {}, []
     for k, block in enumerate(blocks):
         if not Answer.is_one(block):
             continue
@@ -147,33 +146,37 @@ def mentions(blocks, name):
 
 def expand(text, goals):
     """A proof file's text with the places and the list of `spec` as the goals have them, and what a person has to mend."""
-    blocks, wrong, named = blocks_of(text), [], {}
+    blocks, wrong = blocks_of(text), []
     read = {k: Answer(b) for k, b in enumerate(blocks) if Answer.is_one(b)}
-    needs_of = {a.name: a.need for a in read.values()}
+    named = {a.name: a for a in read.values()}
     for k, answer in read.items():
-        member = member_of(answer, goals)
-        if member is None or answer.need not in goals[member].needs:
-            wrong.append(f"{answer.name}: there is no need {answer.need} now")
-            continue
-        named[member, answer.need] = answer.name
-        shared = SHARED.fullmatch(answer.body)
-        if shared and shared.group(1) in needs_of:
-            steps = goals[member].steps(answer.need, needs_of[shared.group(1)])
-            if steps is None:
-                wrong.append(f"{answer.name}: {shared.group(1)} does not stand on the way now")
-            else:
-                blocks[k] = answer.share(shared.group(1), steps)
-            continue
-        depths = goals[member].depths(answer.need)
-        missing = [t for t in THING.findall(answer.body) if t not in depths]
-        if missing:
-            wrong.append(f"{answer.name}: not on the way: {' '.join(missing)} (there are: {' '.join(depths)})")
-        else:
-            blocks[k] = answer.write(depths)
+        try:
+            blocks[k] = placed(answer, named, goals)
+        except LookupError as e:
+            wrong.append(f"{answer.name}: {e.args[0]}")
     if "" in goals and not wrong:
-        needs = [named.get(("", n)) or searched("c κs" if re.search(r"-requires(-\d+)?$", n) else "c") for n in goals[""].needs]
+        by = {a.need: a.name for a in read.values()}
+        needs = [by.get(n) or searched("c κs" if re.search(r"-requires(-\d+)?$", n) else "c") for n in goals[""].needs]
         blocks = [write_spec(b, lambda words: with_needs(words, needs)) for b in blocks]
     return "\n\n".join(blocks) + "\n", wrong
+
+
+def placed(answer, named, goals):
+    """The block of an answer, its places as the goals have them; `named` are the file's answers by name."""
+    places = goals.get(member_of(answer, goals))
+    if places is None or answer.need not in places.needs:
+        raise LookupError(f"there is no need {answer.need} now")
+    shared = SHARED.fullmatch(answer.body)
+    if shared and shared.group(1) in named:
+        steps = places.steps(answer.need, named[shared.group(1)].need)
+        if steps is None:
+            raise LookupError(f"{shared.group(1)} is not on the way now")
+        return answer.share(shared.group(1), steps)
+    depths = places.depths(answer.need)
+    missing = [t for t in THING.findall(answer.body) if t not in depths]
+    if missing:
+        raise LookupError(f"not on the way: {' '.join(missing)} (there are: {' '.join(depths)})")
+    return answer.write(depths)
 
 
 def member_of(answer, goals):

@@ -41,7 +41,8 @@ class Places:
     def steps(self, need, earlier):
         """How many steps before a need's place that of an earlier need lies; None where it is not on the way."""
         way = [place for _, place in self.chain(need)]
-        return way.index(self.needs[earlier]) if self.needs[earlier] in way else None
+        place = self.needs.get(earlier)
+        return way.index(place) if place in way else None
 
     def fields(self, place):
         return [name for name, _ in self.own.get(place, ([], ""))[0]]
