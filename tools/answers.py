@@ -22,6 +22,7 @@ LONGEST = 160                                        # and broken where they are
 WIDEST = 300                                         # no line of a proof is longer than this
 NEAR = 2
 START, START_FIELDS = "start", {"κs", "args", "good", "fits", "pre"}
+START_CALL = "start-call"                            # the thing of a call of a function named start
 SEARCH = "search needs"
 
 NAME = r"[\w·′'-]+"
@@ -33,6 +34,11 @@ HEAD = re.compile(r"^(\S+) ((?:t )?c(?: κs)?) =", re.M)
 NEED = re.compile(r"(\S+)\.Need-(\S+)")
 SHARED = re.compile(rf"({NAME})( t)? (?:c|\(c(?: \.before)+\))( κs)?")
 SPEC = re.compile(r"(pub \S+-spec :[^\n]*\n\S+ =)(?=\s)(.*)", re.S)
+
+
+def label(thing):
+    """What a thing is called here: its name, unless that is the start's."""
+    return START_CALL if thing == START else thing
 
 
 def blocks_of(text):
@@ -62,7 +68,7 @@ class Answer:
             name, base, steps, thing = m.groups()
             if base not in named or named[base][1] or thing in START_FIELDS:
                 return m.group(0)
-            named["at-" + name] = (named[base][0] + steps.count(".before"), thing, name)
+            named["at-" + name] = (named[base][0] + steps.count(".before"), label(thing), name)
             return ""
 
         def cite(m):
@@ -76,7 +82,7 @@ class Answer:
                 return self._found(thing, depth) + rest
             if field in START_FIELDS or field is None and name == START:
                 return self._found(START, depth) + rest
-            return self._found(field, depth) if field else m.group(0)
+            return self._found(label(field), depth) if field else m.group(0)
 
         return CITED.sub(cite, LET.sub(take, text)).strip()
 
@@ -101,7 +107,7 @@ class Answer:
                 lets.append(let)
                 way = base = name
                 base_depth = depths[thing]
-            ways[thing] = way if thing == START else f"{way} .{thing}"
+            ways[thing] = way if thing == START else f"{way} .{START if thing == START_CALL else thing}"
         return layout(self.head, lets, THING.sub(lambda m: ways[m.group(1)], self.body))
 
     def share(self, earlier, steps):

@@ -24,10 +24,11 @@ class Places:
         self.needs = dict(NEED.findall(text))
 
     def chain(self, need):
-        """[(thing, place)], nearest first; the last is `start`."""
+        """[(thing, place)], nearest first; the last is `start`. A call of a function named start is `start-call`."""
         out, at = [], self.needs[need]
         while at in self.place and self.place[at][0][0] == "before":
-            out.append((self.place[at][1][0], at))
+            thing = self.place[at][1][0]
+            out.append(("start-call" if thing == "start" else thing, at))
             at = self.place[at][0][1]
         return out + [("start", at)]
 
