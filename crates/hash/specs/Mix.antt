@@ -19,7 +19,8 @@ middle p = p / 65536 % 4294967296
 -- n turns on x and y, from word number k on
 unfoldable pub mixFrom : Seed → Str → ℕ → ℕ → ℕ → ℕ → ℕ
 mixFrom s t zero k x y = y
-mixFrom s t (suc n) k x y = mixFrom s t n (k + 1) (middle ((x + wordAt t (4 * k)) * s .first)) (middle ((y + middle ((x + wordAt t (4 * k)) * s .first)) * s .second))
+mixFrom s t (suc n) k x y =
+    mixFrom s t n (k + 1) (middle ((x + wordAt t (4 * k)) * s .first)) (middle ((y + middle ((x + wordAt t (4 * k)) * s .first)) * s .second))
 
 -- how many words n bytes take
 abbrev pub wordsIn : ℕ → ℕ

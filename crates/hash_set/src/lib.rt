@@ -33,7 +33,10 @@ pub fn find(f: &[u8], keys: &[u32], room: usize, p: usize, x: &[u8]) -> Found
 
 // The span from `start` to `end` comes to place p, or where this is taken to `at` of the sorted.
 pub fn add(keys: &mut [u32], room: usize, p: usize, at: usize, start: usize, end: usize)
-    requires { ⌜ (at ≤ getD (now keys) room 0) × (getD (now keys) room 0 < room) × (room < 65536) × (room < p) × (p < length (now keys)) × (start < 65536) × (end < 65536) ⌝ }
+    requires { ⌜
+        (at ≤ getD (now keys) room 0) × (getD (now keys) room 0 < room) × (room < 65536) × (room < p) × (p < length (now keys)) × (start < 65536)
+        × (end < 65536)
+        ⌝ }
     ensures { λ _. ⌜ now (keys .exit) ≡ added (now (keys .entry)) room p at (spanOf start end) ⌝ }
 {
     if keys[p] == 0 {

@@ -17,7 +17,8 @@ pub fn hex_value(b: u8) -> u8
     16
 }
 
-// A letter, a digit or one of -_.: (setting bit 32 makes a capital letter small, and no other byte a letter; the digits and : stand side by side, as - and . do).
+// A letter, a digit or one of -_.: (setting bit 32 makes a capital letter small, and no other byte a letter; the digits and : stand side by side, as - and .
+// do).
 pub fn is_name(b: u8) -> bool
     ensures { λ r. ⌜ r ≡ isName b ⌝ }
 {

@@ -8,6 +8,7 @@ use Rattle.hash.proofs.Mixing.{product, mix-turn, mix-end}
 use Rattle.hash.proofs.mix.Statement.{statement}
 use Rattle.hash.proofs.mix.Tie as tie
 
+-- The words before k are mixed into x and y, which fit 32 bits: with the `left` words from k on they give the hash.
 abbrev Inv-loop : tie.InvT-loop
 Inv-loop s h t x₀ y₀ k₀ left₀ x y k left = (k + left ≡ wordsIn (length t)) × (x < 4294967296) × (y < 4294967296) × (mix s h t ≡ mixFrom s t left k x y)
 

@@ -6,6 +6,7 @@ use Rattle.hash.proofs.Mixing.{product}
 use Rattle.hash.proofs.factors.absorb.Statement.{statement}
 use Rattle.hash.proofs.factors.absorb.Tie as tie
 
+-- There are bytes for the `left` turns from word k on, and both factors fit 31 bits.
 abbrev Inv-loop : tie.InvT-loop
 Inv-loop f x₀ y₀ k₀ left₀ x y k left = (4 * k + 8 * left ≤ length f) × (x < 2147483648) × (y < 2147483648)
 

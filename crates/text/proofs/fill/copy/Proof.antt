@@ -7,6 +7,7 @@ use Rattle.text.proofs.Filling.{Pending, copy-start, copy-room, copy-tu
 use Rattle.text.proofs.fill.copy.Statement.{statement}
 use Rattle.text.proofs.fill.copy.Tie as tie
 
+-- The bytes before i are stored from `at` on; those from i on are still to be.
 abbrev Inv-loop : tie.InvT-loop
 Inv-loop s out₀ at i₀ out i = (i ≤ length s) × Pending out₀ at s out (at + i) (drop i s)
 

@@ -11,6 +11,7 @@ use Rattle.text.proofs.Scans.{all-pass, all-fail, all-end}
 use Rattle.text.proofs.string.all_print.Statement.{statement}
 use Rattle.text.proofs.string.all_print.Tie as tie
 
+-- The bytes before i print, so the rest decides.
 abbrev Inv-loop : tie.InvT-loop
 Inv-loop s i₀ i = (i ≤ length s) × (all isPrint s ≡ all isPrint (drop i s))
 

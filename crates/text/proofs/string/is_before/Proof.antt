@@ -9,6 +9,7 @@ use Rattle.text.proofs.Scans.{before-pass, before-differ, before-short,
 use Rattle.text.proofs.string.is_before.Statement.{statement}
 use Rattle.text.proofs.string.is_before.Tie as tie
 
+-- a and b are the same before i, so what follows there decides.
 abbrev Inv-loop : tie.InvT-loop
 Inv-loop a b i₀ i = (i ≤ length a) × (before a b ≡ before (drop i a) (drop i b))
 

@@ -9,6 +9,7 @@ use Rattle.text.proofs.Scans.{same-pass, same-differ, same-end, same-le
 use Rattle.text.proofs.string.is_same.Statement.{statement}
 use Rattle.text.proofs.string.is_same.Tie as tie
 
+-- a and b have the length n and are the same before i, so what follows there decides.
 abbrev Inv-loop : tie.InvT-loop
 Inv-loop a b n i₀ i = (n ≡ length a) × (n ≡ length b) × (i ≤ n) × (same a b ≡ same (drop i a) (drop i b))
 
