@@ -16,7 +16,8 @@ use Rattle.judge.specs.Rules.{rulesIn}
 use Rattle.table.specs.declared.Checked.the-variants.{Accepted}
 use Rattle.verdict_text.specs.Calls.{pathAnswer, treeAnswer}
 use Rattle.verdict_text.specs.Either.{oneOf}
-use Rattle.verdicts.specs.Ready.{Ready, Groups}
+use Rattle.concern.specs.Concern.{Safe}
+use Rattle.verdicts.specs.Holding.{Holding, Groups}
 
 abbrev pub empty : Table
 empty = record { version = []; time = []; groups = []; members = []; rules = [] }
@@ -37,16 +38,17 @@ orderly : Orderly empty
 unfolding twice
 orderly = record { ids = refl; keys = λ r m. absurd (List·Memᴰ·not-nil m) }
 
-pub ready : (f starts holders : List ℕ) → length f < 65536 → Ready empty f starts holders 0
-unfolding rulesIn
-ready f starts holders h = record {
-  orderly = orderly;
-  rules = refl;
-  laid = λ i l. absurd (omega arith);
+pub safe : (f starts holders : List ℕ) → length f < 65536 → Safe f starts holders 0
+safe f starts holders h = record {
+  rules = record { laid = λ i l. absurd (omega arith); each = omega arith; short = h };
   few = omega arith;
-  short = h;
+  each = omega arith;
   groups = λ i l. absurd (omega arith);
 }
+
+pub holding : (f starts holders : List ℕ) → Holding empty f starts holders 0
+unfolding rulesIn
+holding f starts holders = record { orderly = orderly; rules = refl; groups = λ i l. absurd (omega arith) }
 
 pub groups : (user : Str) (set : ℕ) → Groups empty user set
 groups user set g l = absurd (omega arith)

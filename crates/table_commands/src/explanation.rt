@@ -1,31 +1,13 @@
 // Which rules match a request, in ranking order, and the step of the ranking at which each lost to the first.
-use explain::Place;
+ghost use Prim.Native.Nat.{_≤_};
+ghost use lib.ListN.{length};
+ghost use Rattle.judge.specs.Rules.{ruleEnd, Placed};
+ghost use Rattle.explain.specs.Ranking.{Listed};
 use explain::Standing;
 use explain::Step;
-use facts::Row;
-use table::RuleNumber;
+use load::Loaded;
+use path_text::Filled;
 use verdict_text::PathAnswer;
-
-// The number of the deciding rule; 256, which no rule has, where none decides.
-fn decider(text: &[u8], user: &[u8], mode: u32, origin: &[u8], path: &[u8]) -> u16 {
-    let a = verdicts::path_verdict(text, user, mode, origin, path);
-    match a {
-        PathAnswer::Permit(rule) => rule.0,
-        PathAnswer::Deny(rule) => rule.0,
-        PathAnswer::Default => 256,
-        PathAnswer::Refused { number, line } => 256,
-    }
-}
-
-// Gives a rule the other mode, so that it matches no more. The table stays as acceptable as it was.
-fn silence(text: &mut [u8], rule: u16, mode: u32) {
-    let at = console::rows::find(text, 4, rule as usize);
-    if 5 < text.len() - at {
-        // after the digits of the kind and the action, and the first digit of the mode
-        let digit = at + 5;
-        text[digit] = if mode == 1 { b'2' } else { b'1' };
-    }
-}
 
 fn name_step(s: Step) {
     match s {
@@ -53,48 +35,104 @@ fn name_standing(s: Standing) {
     }
 }
 
-// One of the rules that match, in its place.
-fn rule(text: &[u8], place: u64, rule: RuleNumber, best: RuleNumber) {
-    let p = explain::place_of(text, rule);
-    let q = explain::place_of(text, best);
-    let Place::Stands(s) = p else {
-        return;
-    };
-    let Place::Stands(b) = q else {
-        return;
-    };
-    show::decimal(place);
+// The id of the rule at s.
+fn name_id(f: &[u8], s: usize)
+    requires { ⌜ ruleEnd (now f) s ≤ length (now f) ⌝ }
+{
+    let i = judge::rule::id_at(f, s);
+    let a = i + 1;
+    let e = place::str_end(f, i);
+    show::line(&f[a..e]);
+}
+
+// One of the rules that match, in its place. It stands at s, and the first at `best`.
+fn rule(f: &[u8], place: usize, number: u16, s: usize, best: usize)
+    requires { ⌜ (ruleEnd (now f) s ≤ length (now f)) × (ruleEnd (now f) best ≤ length (now f)) ⌝ }
+{
+    let own = explain::standing_at(f, s);
+    let first = explain::standing_at(f, best);
+    show::decimal(place as u64);
     if place == 1 {
         show::word(b" decides: rule ");
     } else {
         show::word(b" lost at ");
-        name_step(explain::lost_at(s, b));
+        name_step(explain::lost_at(own, first));
         show::word(b": rule ");
     }
-    show::decimal(rule.0 as u64);
-    name_standing(s);
-    answers::name(text, Row::Rule(rule));
+    show::decimal(number as u64);
+    name_standing(own);
+    name_id(f, s);
 }
 
-// The rules that match, the best first.
-fn list(text: &mut [u8], user: &[u8], mode: u32, origin: &[u8], path: &[u8]) {
-    let best = decider(text, user, mode, origin, path);
-    let mut next = best;
-    let mut place: u64 = 1;
-    while place <= 256 {
-        if next == 256 {
-            return;
-        }
-        rule(text, place, RuleNumber(next), RuleNumber(best));
-        silence(text, next, mode);
-        next = decider(text, user, mode, origin, path);
-        place += 1;
+// The first m rules of `order`, of n in all.
+fn ranked(f: &[u8], starts: &[u16], n: usize, order: &[u16], m: usize)
+    requires { ⌜ Placed (now f) (now starts) n × Listed (now order) n m × (n ≤ length (now order)) ⌝ }
+{
+    let mut i = 0;
+    while i < m {
+        let number = order[i];
+        let first = order[0] as usize;
+        let at = number as usize;
+        let s = starts[at] as usize;
+        let best = starts[first] as usize;
+        i += 1;
+        rule(f, i, number, s, best);
     }
 }
 
-// The verdict, and the rules that match.
-pub fn all(text: &mut [u8], user: &[u8], mode: u32, origin: &[u8], path: &[u8]) {
+// The rules that match, the best first: the table is loaded once.
+fn list(text: &[u8], user: &[u8], mode: u32, origin: &[u8], path: &[u8]) {
+    let mut bytes = [0u8; limits::MAX_PATH_BYTES];
+    let filled = path_text::reader::read_text(path, &mut bytes);
+    let Filled::Length(len) = filled else {
+        return;
+    };
+    let mut buf = [0u8; limits::MAX_TABLE_BYTES];
+    let mut groups = [0u16; limits::MAX_GROUPS];
+    let mut users = [0u16; limits::MAX_MEMBERS];
+    let mut owners = [0u8; limits::MAX_MEMBERS];
+    let mut ids = [0u16; limits::MAX_RULES];
+    let mut starts = [0u16; limits::MAX_RULES];
+    let mut holders = [0u8; limits::MAX_RULES];
+    let l = load::load(
+        text,
+        &mut buf,
+        &mut groups,
+        &mut users,
+        &mut owners,
+        &mut ids,
+        &mut starts,
+        &mut holders,
+    );
+    let Loaded::Table { used, counts } = l else {
+        return;
+    };
+    let f = &buf[..used];
+    let set = membership::memberships(f, &users, &owners, counts.members, user);
+    let mut order = [0u16; limits::MAX_RULES];
+    let m = explain::rank_rules(
+        f,
+        &starts,
+        &holders,
+        counts.rules,
+        set,
+        user,
+        mode,
+        origin,
+        &bytes[..len],
+        &mut order,
+    );
+    ranked(f, &starts, counts.rules, &order, m);
+}
+
+// The verdict, and the rules that match where one decides.
+pub fn all(text: &[u8], user: &[u8], mode: u32, origin: &[u8], path: &[u8]) {
     let a = verdicts::path_verdict(text, user, mode, origin, path);
     answers::path(text, a, b"default\nno rule matches\n");
-    list(text, user, mode, origin, path);
+    match a {
+        PathAnswer::Permit(rule) => list(text, user, mode, origin, path),
+        PathAnswer::Deny(rule) => list(text, user, mode, origin, path),
+        PathAnswer::Default => {}
+        PathAnswer::Refused { number, line } => {}
+    }
 }

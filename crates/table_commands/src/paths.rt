@@ -4,9 +4,12 @@ ghost use lib.ListN.{length};
 use line::Line;
 use path_text::Filled;
 
+// As many bytes as the digits of a large buffer (io) make.
+const MAX_BYTES: usize = 32768;
+
 // Prints the bytes of a path text, in hex.
 pub fn read(text: &[u8]) {
-    let mut out = [0u8; 9377];
+    let mut out = [0u8; limits::MAX_PATH_BYTES];
     let r = path_text::reader::read_text(text, &mut out);
     match r {
         Filled::Length(n) => {
@@ -18,7 +21,7 @@ pub fn read(text: &[u8]) {
 }
 
 fn write_bytes(bytes: &[u8]) {
-    let mut out = [0u8; 13520];
+    let mut out = [0u8; limits::MAX_PATH_TEXT];
     let r = path_write::write_text(bytes, &mut out);
     match r {
         Filled::Length(n) => show::line(&out[..console::input::within(n, &out)]),
@@ -30,7 +33,7 @@ fn write_bytes(bytes: &[u8]) {
 pub fn write(digits: &[u8])
     requires { ⌜ length (now digits) ≤ 65536 ⌝ }
 {
-    let mut bytes = [0u8; 32768];
+    let mut bytes = [0u8; MAX_BYTES];
     let l = line::read_line(digits, 0, &mut bytes, 0);
     match l {
         Line::Frame { len, next } => {

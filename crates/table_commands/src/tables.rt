@@ -31,10 +31,11 @@ fn group(text: &[u8], number: GroupNumber) {
 
 // Each group that lists the user.
 fn list(text: &[u8], user: &[u8]) {
-    let mut g: u8 = 0;
-    while g < 64 {
-        if facts::is_listed(text, user, GroupNumber(g)) {
-            group(text, GroupNumber(g));
+    let mut g = 0;
+    while g < limits::MAX_GROUPS {
+        let number = GroupNumber(g as u8);
+        if facts::is_listed(text, user, number) {
+            group(text, number);
         }
         g += 1;
     }

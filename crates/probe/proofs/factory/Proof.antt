@@ -2,7 +2,7 @@
 use borrow.Author.Needs.{needs}
 use native.Mathlib.Omega.{arith}
 use mathlib.Core.Path.{_∙_}
-use Rattle.probe.proofs.Empty.{empty, ready, groups, factory-is}
+use Rattle.probe.proofs.Empty.{empty, safe, holding, groups, factory-is}
 use Rattle.probe.proofs.factory.Statement.{statement}
 use Rattle.probe.proofs.factory.Tie as tie
 
@@ -16,12 +16,12 @@ slice-aggregate-call-3 : tie.Need-slice-aggregate-call-3
 slice-aggregate-call-3 c = search needs
 
 call-requires : tie.Need-call-requires
-call-requires c κs = ((empty, ready _ _ _ (omega arith), groups _ _), (omega arith, omega arith))
+call-requires c κs = safe _ _ _ (omega arith)
 
 returns : tie.Need-returns
 returns c =
     let at-call = c .call in
-    at-call .ensures empty (ready _ _ _ (omega arith)) (groups _ _) ∙ factory-is _ _ _
+    at-call .ensures empty (holding _ _ _) (groups _ _) ∙ factory-is _ _ _
 
 pub factory-spec : {M : Type 1} → statement M
 factory-spec =

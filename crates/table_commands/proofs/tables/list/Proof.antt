@@ -1,17 +1,22 @@
 -- `list` is safe and ends.
 use borrow.Author.Needs.{needs}
 use Prim.Native.Nat.{_-_, _≤_}
+use Rattle.limits.specs.Limits.{maxGroups}
 use Rattle.table_commands.proofs.tables.list.Statement.{statement}
 use Rattle.table_commands.proofs.tables.list.Tie as tie
 
+-- g is a group number, or past the last
 abbrev Inv-loop : tie.InvT-loop
-Inv-loop text user g₀ g = g ≤ 64
+Inv-loop text user g₀ g = g ≤ maxGroups
 
 abbrev μ-loop : tie.MeasureT-loop
-μ-loop text user g₀ g = 64 - g
+μ-loop text user g₀ g = maxGroups - g
 
 loop-holds : tie.Need-loop-holds Inv-loop μ-loop
 loop-holds c = search needs
+
+cast-t6 : tie.Need-cast-t6 Inv-loop μ-loop
+cast-t6 c = search needs
 
 is-listed-requires : tie.Need-is-listed-requires Inv-loop μ-loop
 is-listed-requires c κs = search needs
@@ -38,6 +43,7 @@ list-spec =
     Inv-loop
     μ-loop
     loop-holds
+    cast-t6
     is-listed-requires
     group-requires
     add-g
