@@ -83,7 +83,7 @@ returns-2 c =
     let at-memberships = c .before .before .before .memberships in
     let at-l = c .before .before .before .before .before .before .before .before .l in
     let at-load = c .before .before .before .before .before .before .before .before .before .before .before .load in
-    let at-start = c .before .before .before .before .before .before .before .before .before .before .before .before .before .before .before .before .before .before .before .before .before .before .before in
+    let at-start = c .before .before .before .before .before .before .before .before .before .before .before .before .before .before .before .before .before .before .before .before .before .before in
     let K = (outcome-kept _ _ _ _ _ _ _ _ (at-load .ensures) _ _ (at-l .given .1)) in at-call .ensures (tableOf (at-start .args .table .now)) (holding K) (rw (at-memberships .ensures) (grouped K (at-start .args .user .now))) ∙ either-kept K _ _ _ _ _
 
 pub verdict-spec : {M : Type 1} → statement M
