@@ -2,6 +2,8 @@
 use borrow.Author.Needs.{needs}
 use Prim.Native.Nat.{ℕ}
 use lib.ListN.{length-replicate, getD-replicate}
+use Rattle.limits.specs.Limits.{maxHeaderLines}
+use Rattle.rpc_request.specs.Index.{bucketCount, placeCount}
 use Rattle.rpc_text.proofs.Answers.{verdict-denied, verdict-permitted, verdict-default}
 use Rattle.rpc_text.proofs.verdict.verdict_at.Statement.{statement}
 use Rattle.rpc_text.proofs.verdict.verdict_at.Tie as tie
@@ -15,7 +17,7 @@ slice-aggregate-index-lines-2 c = search needs
 index-lines-requires : tie.Need-index-lines-requires
 index-lines-requires c κs =
     let at-start = c .before .before .before .before .before .before in
-    (at-start .pre .1, length-replicate {A = ℕ} 256 8192, length-replicate {A = ℕ} 2731 0, λ b l. getD-replicate 256 b 8192 0 l)
+    (at-start .pre .1, length-replicate {A = ℕ} bucketCount maxHeaderLines, length-replicate {A = ℕ} placeCount 0, λ b l. getD-replicate bucketCount b maxHeaderLines 0 l)
 
 slice-aggregate-member-at : tie.Need-slice-aggregate-member-at
 slice-aggregate-member-at c = search needs
