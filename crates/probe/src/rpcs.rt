@@ -28,7 +28,7 @@ fn factory_rpc(identity: &[u8], path: &[u8], headers: &[u8]) -> RpcAnswer
     ensures { λ a. ⌜ a ≡ factoryRpc (requestFault (now (identity .entry)) (now (path .entry)) (now (headers .entry))) ⌝ }
 {
     let number = rpc_request::request::request_fault(identity, path, headers);
-    if number != 255 {
+    if number != limits::CLEAR {
         return RpcAnswer::Judged(Verdict::Refused(number));
     }
     RpcAnswer::PermitAll
