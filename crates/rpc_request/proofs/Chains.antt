@@ -21,7 +21,7 @@ use Rattle.policy.specs.Text.{empty}
 use Rattle.rpc.specs.Request.{Line, longer, cutAt, lineOf, cons, linesOf, headersOf, readable, badHeaders, joined, valuesOf, headerValue}
 use Rattle.rpc.specs.Call.{written}
 use Rattle.rpc_request.specs.Steps.{cutHere, Cut, commaed, lineValue}
-use Rattle.rpc_request.specs.Index.{bucketCount, placeCount, bucketOf, inBucket, LineAt, Chain, stop, link, onto, Indexed}
+use Rattle.rpc_request.specs.Index.{bucketCount, placeCount, bucketOf, inBucket, LineAt, Chain, stop, link, onto, Blank, Indexed}
 use Rattle.rpc_request.proofs.Lines.{part-long, here-some, here-none, fueled, read-is, Reading, reading-on, lines-cut, lines-uncut, lines-bad, lines-on, lines-over, headers-short, headers-read}
 use Rattle.rpc_request.proofs.Values.{gather, gather-nil, gather-cons, gathered, one-bucket, commaed-nil, commaed-append, joined-is, line-value}
 
@@ -132,16 +132,16 @@ pub record Indexing (h last before : Str) (i : ℕ) : Type 0 where
   pub places : length before ≡ placeCount
   pub chains : (b : ℕ) → b < bucketCount → Chain h before i (getD last b 0) (only (inBucket b) back)
 
-pub indexing-start : (h last before : Str) → badHeaders h ≡ false → length last ≡ bucketCount → length before ≡ placeCount → ((b : ℕ) → b < bucketCount → getD last b 0 ≡ maxHeaderLines) → Indexing h last before 0
-indexing-start h last before g a b q = record {
+pub indexing-start : (h last before : Str) → Blank h last before → Indexing h last before 0
+indexing-start h last before x = record {
   fuel = length h;
   reading = record { inside = omega arith; enough = omega arith };
-  good = headers-read h g;
+  good = headers-read h (x .good);
   back = [];
   is = sym (onto-nil _);
-  buckets = a;
-  places = b;
-  chains = λ n l. subst (Chain h before 0 (getD last n 0)) (sym (only-nil n)) (stop (let s = headers-short h g in let z = q n l in omega arith));
+  buckets = x .buckets;
+  places = x .places;
+  chains = λ n l. subst (Chain h before 0 (getD last n 0)) (sym (only-nil n)) (stop (let s = headers-short h (x .good) in let z = x .empty n l in omega arith));
 }
 
 module _ (h last before : Str) (i e : ℕ) (l : i < length h) (k : Cut 10 h i e) (j : Indexing h last before i) where

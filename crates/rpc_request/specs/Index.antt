@@ -1,7 +1,7 @@
 -- What the programs answer step by step: the header lines by bucket, a chain of lines for each, from the last to the first. Any bucket would do: only
 -- that equal names share one is used.
 use mathlib.Core.Path.{_≡_}
-use mathlib.Core.Bool.{Bool}
+use mathlib.Core.Bool.{Bool, false}
 use mathlib.Core.List.{List, [], _∷_}
 use mathlib.Core.Option.{some}
 use Prim.Native.Nat.{ℕ, _+_, _-_, _*_, _/_, _%_, _≤_, _<_}
@@ -11,7 +11,7 @@ use Rattle.limits.specs.Limits.{maxHeaderLines}
 use Rattle.text.specs.Test.{only}
 use Rattle.text.specs.String.{Str}
 use Rattle.text.specs.Frame.{part}
-use Rattle.rpc.specs.Request.{Line, cutAt, lineOf, headersOf}
+use Rattle.rpc.specs.Request.{Line, cutAt, lineOf, headersOf, badHeaders}
 use Rattle.rpc.specs.Call.{written}
 use Rattle.rpc_request.specs.Steps.{Cut}
 
@@ -40,12 +40,20 @@ pub record LineAt (h : Str) (p e : ℕ) (x : Line) : Type 0 where
 -- the lines l, the last first, that `before` links from p on; the first of them ends before `top`
 pub data Chain (h before : Str) : ℕ → ℕ → List Line → Type 0 where
   stop : {top p : ℕ} → length h ≤ p → Chain h before top p []
-  link : {top p e : ℕ} {x : Line} {l : List Line} → LineAt h p e x → e < top → Chain h before p (getD before (p / 3) 0) l → Chain h before top p (x ∷ l)
+  link : {top p e : ℕ} {x : Line} {l : List Line}
+      → LineAt h p e x → e < top → Chain h before p (getD before (p / 3) 0) l → Chain h before top p (x ∷ l)
 
 -- l, the last first, in front of r
 unfoldable pub onto : List Line → List Line → List Line
 onto [] r = r
 onto (x ∷ l) r = onto l (x ∷ r)
+
+-- good header lines, and the two arrays of their index before the first of them is in it
+pub record Blank (h last before : Str) : Type 0 where
+  pub good : badHeaders h ≡ false
+  pub buckets : length last ≡ bucketCount
+  pub places : length before ≡ placeCount
+  pub empty : (b : ℕ) → b < bucketCount → getD last b 0 ≡ maxHeaderLines
 
 -- a chain for each bucket, from what `last` has for it
 pub record Indexed (h last before : Str) : Type 0 where
@@ -55,3 +63,8 @@ pub record Indexed (h last before : Str) : Type 0 where
   pub buckets : length last ≡ bucketCount
   pub places : length before ≡ placeCount
   pub chains : (b : ℕ) → b < bucketCount → Chain h before (length h) (getD last b 0) (only (inBucket b) back)
+
+-- an index of the header lines, and room for the value of a header
+pub record Ready (h last before out : Str) : Type 0 where
+  pub indexed : Indexed h last before
+  pub room : maxHeaderLines ≤ length out

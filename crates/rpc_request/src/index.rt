@@ -1,14 +1,13 @@
 // The header lines by bucket, so that the lines of one name are found without a look at the others.
 ghost use mathlib.Core.Path.{_≡_};
-ghost use mathlib.Core.Bool.{true, false};
+ghost use mathlib.Core.Bool.{true};
 ghost use mathlib.Core.Option.{some};
-ghost use Prim.Native.Nat.{ℕ, _+_, _≤_, _<_};
-ghost use lib.ListN.{length, getD};
-ghost use Rattle.limits.specs.Limits.{maxHeaderLines};
+ghost use Prim.Native.Nat.{_+_, _≤_, _<_};
+ghost use lib.ListN.{length};
 ghost use Rattle.text.specs.Fill.{Wrote};
-ghost use Rattle.rpc.specs.Request.{Line, cutAt, lineOf, readable, badHeaders};
+ghost use Rattle.rpc.specs.Request.{Line, cutAt, lineOf, readable};
 ghost use Rattle.rpc_request.specs.Steps.{lineValue, Joined};
-ghost use Rattle.rpc_request.specs.Index.{bucketCount, placeCount, bucketOf, Indexed};
+ghost use Rattle.rpc_request.specs.Index.{bucketCount, bucketOf, Blank, Indexed, Ready};
 
 // The lengths of the two arrays of an index: any number of buckets would do; a line has three bytes or more, so no two lines have the same third of where
 // they start.
@@ -44,7 +43,7 @@ fn line_bucket(l: &[u8]) -> usize
 
 // Stores where the last line of each bucket starts and, at a third of where a line starts, where the line of its bucket before it does.
 pub fn index_lines(h: &[u8], last: &mut [u16], before: &mut [u16])
-    requires { ⌜ (badHeaders (now h) ≡ false) × (length (now last) ≡ bucketCount) × (length (now before) ≡ placeCount) × ((b : ℕ) → b < bucketCount → getD (now last) b 0 ≡ maxHeaderLines) ⌝ }
+    requires { ⌜ Blank (now h) (now last) (now before) ⌝ }
     ensures { λ _. ⌜ Indexed (now (h .entry)) (now (last .exit)) (now (before .exit)) ⌝ }
 {
     let n = h.len();
@@ -62,7 +61,8 @@ pub fn index_lines(h: &[u8], last: &mut [u16], before: &mut [u16])
 // starts.
 fn join_line(l: &[u8], key: &[u8], out: &mut [u8], at: usize) -> usize
     requires { ⌜ (readable (lineOf (cutAt 58 (now l))) ≡ true) × (length (now l) ≤ at) × (at ≤ length (now out)) ⌝ }
-    ensures { λ r. ⌜ Wrote (now (out .entry)) r (lineValue (now (key .entry)) (now (l .entry))) (now (out .exit)) at × (at ≤ r + length (now (l .entry))) ⌝ }
+    ensures { λ r. ⌜ Wrote (now (out .entry)) r (lineValue (now (key .entry)) (now (l .entry))) (now (out .exit)) at
+        × (at ≤ r + length (now (l .entry))) ⌝ }
 {
     let c = crate::headers::byte_from(l, 0, b':');
     if !text::string::is_same(&l[0..c], key) {
@@ -85,7 +85,7 @@ pub struct Span {
 
 // The value of the header `key`, at the end of `out`: the values of its lines, each after a comma, without the first comma.
 pub fn header_value(h: &[u8], last: &[u16], before: &[u16], key: &[u8], out: &mut [u8]) -> Span
-    requires { ⌜ Indexed (now h) (now last) (now before) × (maxHeaderLines ≤ length (now out)) ⌝ }
+    requires { ⌜ Ready (now h) (now last) (now before) (now out) ⌝ }
     ensures { λ r. ⌜ Joined (now (key .entry)) (now (h .entry)) (now (out .exit)) r ⌝ }
 {
     let n = h.len();

@@ -13,7 +13,8 @@ use rpc::verdict::Verdict;
 // The policy at i: deny rules first, then allow rules.
 fn verdict_at(s: &[u8], i: usize, identity: &[u8], path: &[u8], headers: &[u8]) -> Verdict
     requires { ⌜ Stands 16 (now s) i × (badHeaders (now headers) ≡ false) ⌝ }
-    ensures { λ r. ⌜ r ≡ verdict (policyIn (treeAt 16 (now (s .entry)) i)) (request (now (identity .entry)) (now (path .entry)) (now (headers .entry))) ⌝ }
+    ensures { λ r. ⌜ r ≡ verdict (policyIn (treeAt 16 (now (s .entry)) i))
+        (request (now (identity .entry)) (now (path .entry)) (now (headers .entry))) ⌝ }
 {
     let mut last = [rpc_request::index::NO_LINE; rpc_request::index::BUCKETS];
     let mut before = [0u16; rpc_request::index::PLACES];
