@@ -1,7 +1,7 @@
 // The RPC probe.
 ghost use mathlib.Core.Path.{_≡_};
 ghost use Rattle.rpc.specs.Request.{requestFault};
-ghost use Rattle.probe.specs.Rpc.{factoryRpc, probeRpc, rpcProbeWord};
+ghost use Rattle.probe.specs.Rpc.{factoryRpc, probeRpc};
 use crate::force::Source;
 use rotation::Record;
 use rpc::verdict::Verdict;
@@ -11,16 +11,6 @@ pub enum RpcAnswer {
     // Without a text: everything is permitted, and no rule named.
     PermitAll,
     Judged(Verdict),
-}
-
-// The answer word.
-pub fn of_rpc(a: RpcAnswer) -> u64
-    ensures { λ w. ⌜ w ≡ rpcProbeWord a ⌝ }
-{
-    match a {
-        RpcAnswer::PermitAll => 256,
-        RpcAnswer::Judged(v) => rpc::word::of_verdict(v),
-    }
 }
 
 // Kind 1 without a text permits all, once the request is judged.

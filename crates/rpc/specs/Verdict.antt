@@ -2,7 +2,7 @@
 use mathlib.Core.Bool.{Bool, true, false}
 use mathlib.Core.List.{List, [], _∷_}
 use mathlib.Core.Option.{Option, none, some}
-use Prim.Native.Nat.{ℕ, suc, _+_, _*_, _%_, _^_}
+use Prim.Native.Nat.{ℕ, suc}
 use Rattle.text.specs.Test.{_and_, if_then_else_, all, any}
 use Rattle.text.specs.String.{Str}
 use Rattle.policy.specs.Policy.{Header, Rule, Policy}
@@ -48,14 +48,3 @@ permits (Refused n) = false
 permits (Denied n) = false
 permits (Permitted n) = true
 permits Default = false
-
--- bits 16 to 31: a rule's number + 1; a list has at most 64 rules
-abbrev pub ruleBits : ℕ → ℕ
-ruleBits n = (n % 2 ^ 16 + 1) * 2 ^ 16
-
--- the answer word: the action from bit 8 on, and the number in the list that it names; or the refusal's number
-unfoldable pub rpcWord : Verdict → ℕ
-rpcWord (Refused n) = n
-rpcWord (Denied n) = ruleBits n
-rpcWord (Permitted n) = 2 ^ 8 + ruleBits n
-rpcWord Default = 0
