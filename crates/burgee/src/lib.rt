@@ -8,13 +8,14 @@ ghost use mathlib.Core.Path.{_≡_};
 ghost use Rattle.path_text.specs.Calls.{bytesFor, textFor, answer, lent};
 ghost use Rattle.table.specs.Text.{check};
 ghost use Rattle.table.specs.Group.{groupCount};
-ghost use Rattle.verdict_text.specs.Calls.{pathVerdict, treeVerdict, pathWord, treeWord};
-ghost use Rattle.burgee.specs.Word.{filledWord, checkedWord, countedWord};
+ghost use Rattle.verdict_text.specs.Calls.{pathVerdict, treeVerdict};
+ghost use Rattle.burgee.specs.Word.{filledWord, checkedWord, countedWord, pathWord, treeWord};
 
 // Path text to path bytes.
 #[no_mangle]
 pub extern "C" fn burgee_path_read(text: &[u8], out: &mut [u8]) -> u64
-    ensures { λ r. ⌜ (r ≡ filledWord (answer (now (out .entry)) (bytesFor (now (text .entry))))) × (now (out .exit) ≡ lent (now (out .entry)) (bytesFor (now (text .entry)))) ⌝ }
+    ensures { λ r. ⌜ (r ≡ filledWord (answer (now (out .entry)) (bytesFor (now (text .entry)))))
+        × (now (out .exit) ≡ lent (now (out .entry)) (bytesFor (now (text .entry)))) ⌝ }
 {
     word::of_filled(path_text::reader::read_text(text, out))
 }
@@ -22,7 +23,8 @@ pub extern "C" fn burgee_path_read(text: &[u8], out: &mut [u8]) -> u64
 // Path bytes to path text.
 #[no_mangle]
 pub extern "C" fn burgee_path_write(bytes: &[u8], out: &mut [u8]) -> u64
-    ensures { λ r. ⌜ (r ≡ filledWord (answer (now (out .entry)) (textFor (now (bytes .entry))))) × (now (out .exit) ≡ lent (now (out .entry)) (textFor (now (bytes .entry)))) ⌝ }
+    ensures { λ r. ⌜ (r ≡ filledWord (answer (now (out .entry)) (textFor (now (bytes .entry)))))
+        × (now (out .exit) ≡ lent (now (out .entry)) (textFor (now (bytes .entry)))) ⌝ }
 {
     word::of_filled(path_write::write_text(bytes, out))
 }
@@ -54,7 +56,7 @@ pub extern "C" fn burgee_path_verdict(
 ) -> u64
     ensures { λ r. ⌜ r ≡ pathWord (pathVerdict (now (table .entry)) (now (user .entry)) mode (now (origin .entry)) (now (path .entry))) ⌝ }
 {
-    verdict_text::word::of_path(verdicts::path_verdict(table, user, mode, origin, path))
+    word::of_path(verdicts::path_verdict(table, user, mode, origin, path))
 }
 
 // ALL, NONE or MIXED for the paths at or beneath, and the rule that MIXED names.
@@ -68,5 +70,5 @@ pub extern "C" fn burgee_tree_verdict(
 ) -> u64
     ensures { λ r. ⌜ r ≡ treeWord (treeVerdict (now (table .entry)) (now (user .entry)) mode (now (origin .entry)) (now (path .entry))) ⌝ }
 {
-    verdict_text::word::of_tree(verdicts::tree_verdict(table, user, mode, origin, path))
+    word::of_tree(verdicts::tree_verdict(table, user, mode, origin, path))
 }

@@ -1,26 +1,16 @@
 // The C boundary of RPC policies.
 ghost use mathlib.Core.Path.{_≡_};
 ghost use Rattle.policy.specs.Policy.{judgement};
-ghost use Rattle.policy_text.specs.Answer.{checkOf, policyWord};
-ghost use Rattle.rpc.specs.Verdict.{rpcWord};
+ghost use Rattle.policy_text.specs.Answer.{checkOf};
 ghost use Rattle.rpc.specs.Call.{rpcVerdict};
-use policy_text::check::Check;
-
-fn of_check(c: Check) -> u64
-    ensures { λ r. ⌜ r ≡ policyWord c ⌝ }
-{
-    match c {
-        Check::Accepted => 0,
-        Check::Refused(number) => number as u64,
-    }
-}
+ghost use Rattle.burgee.specs.Word.{policyWord, rpcWord};
 
 // A policy: accepted or refused.
 #[no_mangle]
 pub extern "C" fn burgee_policy_check(policy: &[u8]) -> u64
     ensures { λ r. ⌜ r ≡ policyWord (checkOf (judgement (now (policy .entry)))) ⌝ }
 {
-    of_check(policy_text::check::check_policy(policy))
+    crate::word::of_policy(policy_text::check::check_policy(policy))
 }
 
 // The action for one RPC, and the rule that decides.
@@ -33,5 +23,5 @@ pub extern "C" fn burgee_rpc_verdict(
 ) -> u64
     ensures { λ r. ⌜ r ≡ rpcWord (rpcVerdict (now (policy .entry)) (now (identity .entry)) (now (path .entry)) (now (headers .entry))) ⌝ }
 {
-    rpc::word::of_verdict(rpc_text::verdict::rpc_verdict(policy, identity, path, headers))
+    crate::word::of_rpc(rpc_text::verdict::rpc_verdict(policy, identity, path, headers))
 }

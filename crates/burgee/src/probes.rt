@@ -1,8 +1,8 @@
 // The C boundary of the probes, which judge a request on what is in force: a record's five numbers, the store, and a request.
 ghost use mathlib.Core.Path.{_≡_};
-ghost use Rattle.verdict_text.specs.Calls.{pathWord, treeWord};
 ghost use Rattle.probe.specs.Probe.{probePath, probeTree};
-ghost use Rattle.probe.specs.Rpc.{probeRpc, rpcProbeWord};
+ghost use Rattle.probe.specs.Rpc.{probeRpc};
+ghost use Rattle.burgee.specs.Word.{pathWord, treeWord, rpcProbeWord};
 ghost use Rattle.burgee.specs.Record.{recordOf};
 use rotation::Record;
 
@@ -32,10 +32,11 @@ pub extern "C" fn burgee_probe_path(
     origin: &[u8],
     path: &[u8],
 ) -> u64
-    ensures { λ r. ⌜ r ≡ pathWord (probePath (recordOf kind «live_slot» «live_len» rotating «candidate_len») (now (store .entry)) (now (user .entry)) mode (now (origin .entry)) (now (path .entry))) ⌝ }
+    ensures { λ r. ⌜ r ≡ pathWord (probePath (recordOf kind «live_slot» «live_len» rotating «candidate_len»)
+        (now (store .entry)) (now (user .entry)) mode (now (origin .entry)) (now (path .entry))) ⌝ }
 {
     let r = record_of(kind, live_slot, live_len, rotating, candidate_len);
-    verdict_text::word::of_path(probe::probe_path(r, store, user, mode, origin, path))
+    crate::word::of_path(probe::probe_path(r, store, user, mode, origin, path))
 }
 
 // ALL, NONE or MIXED for the paths at or beneath, and the rule that MIXED names.
@@ -52,10 +53,11 @@ pub extern "C" fn burgee_probe_tree(
     origin: &[u8],
     path: &[u8],
 ) -> u64
-    ensures { λ r. ⌜ r ≡ treeWord (probeTree (recordOf kind «live_slot» «live_len» rotating «candidate_len») (now (store .entry)) (now (user .entry)) mode (now (origin .entry)) (now (path .entry))) ⌝ }
+    ensures { λ r. ⌜ r ≡ treeWord (probeTree (recordOf kind «live_slot» «live_len» rotating «candidate_len»)
+        (now (store .entry)) (now (user .entry)) mode (now (origin .entry)) (now (path .entry))) ⌝ }
 {
     let r = record_of(kind, live_slot, live_len, rotating, candidate_len);
-    verdict_text::word::of_tree(probe::probe_tree(r, store, user, mode, origin, path))
+    crate::word::of_tree(probe::probe_tree(r, store, user, mode, origin, path))
 }
 
 // The action for one RPC, and the rule that decides.
@@ -71,8 +73,9 @@ pub extern "C" fn burgee_probe_rpc(
     path: &[u8],
     headers: &[u8],
 ) -> u64
-    ensures { λ r. ⌜ r ≡ rpcProbeWord (probeRpc (recordOf kind «live_slot» «live_len» rotating «candidate_len») (now (store .entry)) (now (identity .entry)) (now (path .entry)) (now (headers .entry))) ⌝ }
+    ensures { λ r. ⌜ r ≡ rpcProbeWord (probeRpc (recordOf kind «live_slot» «live_len» rotating «candidate_len»)
+        (now (store .entry)) (now (identity .entry)) (now (path .entry)) (now (headers .entry))) ⌝ }
 {
     let r = record_of(kind, live_slot, live_len, rotating, candidate_len);
-    probe::rpcs::of_rpc(probe::rpcs::probe_rpc(r, store, identity, path, headers))
+    crate::word::of_rpc_probe(probe::rpcs::probe_rpc(r, store, identity, path, headers))
 }

@@ -45,7 +45,8 @@ pub fn close_step(r: Record, n: usize) -> Answered
 }
 
 pub fn upload_step(r: Record, store: &mut [u8], text: &[u8]) -> Answered
-    ensures { λ a. ⌜ (a ≡ answered (upload offeredCheck r (length (now (store .entry))) (now (text .entry)))) × (now (store .exit) ≡ uploadStore offeredCheck r (now (store .entry)) (now (text .entry))) ⌝ }
+    ensures { λ a. ⌜ (a ≡ answered (upload offeredCheck r (length (now (store .entry))) (now (text .entry))))
+        × (now (store .exit) ≡ uploadStore offeredCheck r (now (store .entry)) (now (text .entry))) ⌝ }
 {
     of_stepped(upload::upload(r, store, text))
 }
@@ -53,7 +54,8 @@ pub fn upload_step(r: Record, store: &mut [u8], text: &[u8]) -> Answered
 // A rotation begins.
 #[no_mangle]
 pub extern "C" fn burgee_start(rec: &mut Record, store: &[u8]) -> u64
-    ensures { λ w. ⌜ (w ≡ answered (start (now (rec .entry)) (length (now (store .entry)))) .word) × (now (rec .exit) ≡ answered (start (now (rec .entry)) (length (now (store .entry)))) .next) ⌝ }
+    ensures { λ w. ⌜ (w ≡ answered (start (now (rec .entry)) (length (now (store .entry)))) .word)
+        × (now (rec .exit) ≡ answered (start (now (rec .entry)) (length (now (store .entry)))) .next) ⌝ }
 {
     let a = start_step(*rec, store.len());
     let word = a.word;
@@ -83,7 +85,8 @@ pub extern "C" fn burgee_upload(rec: &mut Record, store: &mut [u8], text: &[u8])
 // The candidate becomes the live text.
 #[no_mangle]
 pub extern "C" fn burgee_finalize(rec: &mut Record, store: &[u8]) -> u64
-    ensures { λ w. ⌜ (w ≡ answered (finalize (now (rec .entry)) (length (now (store .entry)))) .word) × (now (rec .exit) ≡ answered (finalize (now (rec .entry)) (length (now (store .entry)))) .next) ⌝ }
+    ensures { λ w. ⌜ (w ≡ answered (finalize (now (rec .entry)) (length (now (store .entry)))) .word)
+        × (now (rec .exit) ≡ answered (finalize (now (rec .entry)) (length (now (store .entry)))) .next) ⌝ }
 {
     let a = finalize_step(*rec, store.len());
     let word = a.word;
@@ -97,7 +100,8 @@ pub extern "C" fn burgee_finalize(rec: &mut Record, store: &[u8]) -> u64
 // The candidate is dropped.
 #[no_mangle]
 pub extern "C" fn burgee_close(rec: &mut Record, store: &[u8]) -> u64
-    ensures { λ w. ⌜ (w ≡ answered (close (now (rec .entry)) (length (now (store .entry)))) .word) × (now (rec .exit) ≡ answered (close (now (rec .entry)) (length (now (store .entry)))) .next) ⌝ }
+    ensures { λ w. ⌜ (w ≡ answered (close (now (rec .entry)) (length (now (store .entry)))) .word)
+        × (now (rec .exit) ≡ answered (close (now (rec .entry)) (length (now (store .entry)))) .next) ⌝ }
 {
     let a = close_step(*rec, store.len());
     let word = a.word;

@@ -1,4 +1,4 @@
 -- What the proofs of several functions use.
 mod Empty
-mod Sources
+pub mod Sources
 mod Probes

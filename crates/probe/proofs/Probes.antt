@@ -14,6 +14,7 @@ use Rattle.verdict_text.specs.Calls.{pathVerdict, treeVerdict}
 use Rattle.verdict_text.specs.Either.{oneOf, refusedAs}
 use Rattle.verdict_text.specs.declared.Verdict.{Verdict}
 use Rattle.rpc.specs.Call.{rpcVerdict}
+use Rattle.rotation.specs.State.{slotStart}
 use Rattle.rotation.specs.Calls.{probeRefusal}
 use Rattle.rotation.specs.declared.Record.{Record}
 use Rattle.rotation.specs.declared.InForce.{InForce}
@@ -34,7 +35,7 @@ module _ (store user : Str) (mode : ℕ) (origin text : Str) (whole : Bool) wher
   abbrev pub eitherPart : ℕ → ℕ → Verdict
   eitherPart start end = oneOf whole (pathVerdict (part store start end) user mode origin text) (treeVerdict (part store start end) user mode origin text)
 
-  either-part : (slot len : ℕ) → eitherPart (slot * 32768) (slot * 32768 + len) ≡ either (force.Text slot len)
+  either-part : (slot len : ℕ) → eitherPart (slotStart slot) (slotStart slot + len) ≡ either (force.Text slot len)
   unfolding pathOn treeOn
   either-part slot len = ap (λ (x : Str). oneOf whole (pathVerdict x user mode origin text) (treeVerdict x user mode origin text)) (part-is store slot len)
 
@@ -56,7 +57,7 @@ module _ (store identity path headers : Str) where
   abbrev pub rpcPart : ℕ → ℕ → RpcAnswer
   rpcPart start end = Judged (rpcVerdict (part store start end) identity path headers)
 
-  rpc-part : (slot len : ℕ) → rpcPart (slot * 32768) (slot * 32768 + len) ≡ rpcOn store identity path headers (force.Text slot len)
+  rpc-part : (slot len : ℕ) → rpcPart (slotStart slot) (slotStart slot + len) ≡ rpcOn store identity path headers (force.Text slot len)
   unfolding rpcOn
   rpc-part slot len = ap (λ (x : Str). Judged (rpcVerdict x identity path headers)) (part-is store slot len)
 

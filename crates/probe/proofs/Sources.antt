@@ -6,6 +6,7 @@ use native.Mathlib.Omega.{arith}
 use borrow.Author.Tests.{eq-eqb, ne-eqb, eqb-true, ltb-false}
 use lib.Dec.{eqb}
 use lib.ListN.{take, drop}
+use Rattle.limits.specs.Limits.{slotLength, storeLength}
 use Rattle.text.specs.Test.{if_then_else_}
 use Rattle.text.specs.String.{Str}
 use Rattle.text.specs.Refusal.{clear}
@@ -46,7 +47,7 @@ module _ {A : Type 0} (refused : ℕ → A) (judged : InForce → A) (part : ℕ
 -- the part of the store that is lent on
 pub part-is : (store : Str) (slot len : ℕ) → take (slotStart slot + len - slotStart slot) (drop (slotStart slot) store) ≡ textIn store slot len
 unfolding textIn
-part-is store slot len = let e : slot * 32768 + len - slot * 32768 ≡ len = omega arith in rw e
+part-is store slot len = let e : slotStart slot + len - slotStart slot ≡ len = omega arith in rw e
 
 -- ---- the source itself
 
@@ -59,20 +60,24 @@ module _ (kind : ℕ) (r : Record) (n number : ℕ) (e : number ≡ probeRefusal
   unfolding sourceOf probed if_then_else_
   source-placed h f i g j = rw (← e, eq-eqb number clear h) (ap placed (sym j ∙ i))
 
+  pub source-part : number ≡ clear → (f : InForce) → f ≡ inForce r → (slot len start : ℕ) → f ≡ force.Text slot len → start ≡ slotStart slot → Part start (start + len) ≡ sourceOf kind r n
+  unfolding placed
+  source-part h f i slot len start j k = ap (λ (x : ℕ). Part x (x + len)) k ∙ source-placed h f i (force.Text slot len) j
+
 -- ---- it lies within the store
 
 module _ (r : Record) (n own : ℕ) (e : recordRefusal r n own ≡ clear) where
   not-short : shortStore n ≡ false
   unfolding recordRefusal if_then_else_
-  not-short = by (shortStore n) (λ t. let z : _≡_ {A = ℕ} 11 255 = rw t at e in absurd (omega arith)) (λ t. t)
+  not-short = by (shortStore n) (λ t. let z : _≡_ {A = ℕ} 11 clear = rw t at e in absurd (omega arith)) (λ t. t)
 
   not-bad : badRecord r ≡ false
   unfolding recordRefusal if_then_else_
-  not-bad = by (badRecord r) (λ t. let z : _≡_ {A = ℕ} 15 255 = rw (not-short, t) at e in absurd (omega arith)) (λ t. t)
+  not-bad = by (badRecord r) (λ t. let z : _≡_ {A = ℕ} 15 clear = rw (not-short, t) at e in absurd (omega arith)) (λ t. t)
 
-  store-long : 65536 ≤ n
+  store-long : storeLength ≤ n
   unfolding shortStore
-  store-long = ltb-false n 65536 not-short
+  store-long = ltb-false n storeLength not-short
 
 -- a part within n bytes
 abbrev Within : ℕ → Source → Type 0
@@ -80,11 +85,11 @@ Within n (Refused number) = Unit {0}
 Within n (Part start end) = (start ≤ end) × (end ≤ n)
 Within n Factory = Unit {0}
 
-place-within : (n slot len : ℕ) → 65536 ≤ n → slot ≤ 1 → len ≤ 32768 → Within n (placed (force.Text slot len))
+place-within : (n slot len : ℕ) → storeLength ≤ n → slot ≤ 1 → len ≤ slotLength → Within n (placed (force.Text slot len))
 unfolding placed
 place-within n slot len h i j = (omega arith, omega arith)
 
-force-within : (r : Record) (n : ℕ) → 65536 ≤ n → badRecord r ≡ false → Within n (placed (inForce r))
+force-within : (r : Record) (n : ℕ) → storeLength ≤ n → badRecord r ≡ false → Within n (placed (inForce r))
 unfolding inForce if_then_else_ placed
 force-within r n h g =
     by (given (r .«candidate_len»)) (λ t. rw t (place-within n _ _ h (candidate-low r) (length-short _ (good-candidate r g) t)))

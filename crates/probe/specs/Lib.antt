@@ -1,3 +1,4 @@
 pub mod Probe
 pub mod Rpc
 pub mod Source
+pub mod Either

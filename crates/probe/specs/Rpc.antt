@@ -1,12 +1,11 @@
 -- The RPC probe, for a record of kind 1.
-use Prim.Native.Nat.{ℕ, _^_}
+use Prim.Native.Nat.{ℕ}
 use lib.Dec.{eqb}
 use lib.ListN.{length}
 use Rattle.text.specs.Test.{if_then_else_}
 use Rattle.text.specs.String.{Str}
 use Rattle.text.specs.Refusal.{clear}
 use Rattle.rpc.specs.Request.{requestFault}
-use Rattle.rpc.specs.Verdict.{rpcWord}
 use Rattle.rpc.specs.Call.{rpcVerdict}
 use Rattle.rpc.specs.declared.verdict.Verdict.the-variants.{Refused}
 use Rattle.rotation.specs.State.{textIn}
@@ -30,8 +29,3 @@ rpcOn store identity path headers Factory = factoryRpc (requestFault identity pa
 
 unfoldable pub probeRpc : Record → Str → Str → Str → Str → RpcAnswer
 probeRpc r store identity path headers = probed rpcRefused (rpcOn store identity path headers) 1 r (length store)
-
--- the answer word: factory permits from bit 8 on, and names no rule
-unfoldable pub rpcProbeWord : RpcAnswer → ℕ
-rpcProbeWord PermitAll = 2 ^ 8
-rpcProbeWord (Judged v) = rpcWord v

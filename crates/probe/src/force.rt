@@ -15,15 +15,15 @@ pub enum Source {
 pub fn find_source(r: Record, n: usize, kind: u32) -> Source
     ensures { λ s. ⌜ s ≡ sourceOf kind r n ⌝ }
 {
-    let number = rotation_step::probe_refusal(r, n, kind);
-    if number != 255 {
+    let number = rotation::state::probe_refusal(r, n, kind);
+    if number != limits::CLEAR {
         return Source::Refused(number);
     }
     let force = rotation::state::in_force(r);
     let InForce::Text { slot, len } = force else {
         return Source::Factory;
     };
-    let start = slot as usize * 32768;
+    let start = rotation::state::slot_start(slot);
     Source::Part {
         start: start,
         end: start + len as usize,

@@ -1,17 +1,13 @@
 // Probes: a request judged on what is in force.
-mod force;
+pub mod force;
 pub mod rpcs;
 
 ghost use mathlib.Core.Path.{_≡_};
-ghost use mathlib.Core.Option.{none};
 ghost use Prim.Native.Nat.{_≤_};
 ghost use lib.ListN.{length};
 ghost use Rattle.text.specs.Frame.{part};
-ghost use Rattle.table.specs.declared.Checked.the-variants.{Accepted};
-ghost use Rattle.verdict.specs.Verdict.{NONE};
-ghost use Rattle.verdict_text.specs.Calls.{requestRefusal, pathAnswer, pathVerdict, treeAnswer, treeVerdict};
-ghost use Rattle.verdict_text.specs.Either.{oneOf};
 ghost use Rattle.probe.specs.Probe.{probePath, probeTree};
+ghost use Rattle.probe.specs.Either.{factoryAnswer, textAnswer, probeAnswer};
 use crate::force::Source;
 use rotation::Record;
 use verdict_text::PathAnswer;
@@ -20,7 +16,7 @@ use verdict_text::Verdict;
 
 // Kind 2 without a text: as a table without rules, which denies all.
 fn factory(user: &[u8], mode: u32, origin: &[u8], path: &[u8], whole: bool) -> Verdict
-    ensures { λ r. ⌜ r ≡ oneOf whole (pathAnswer Accepted (requestRefusal (now (user .entry)) mode (now (origin .entry)) (now (path .entry))) none) (treeAnswer Accepted (requestRefusal (now (user .entry)) mode (now (origin .entry)) (now (path .entry))) NONE) ⌝ }
+    ensures { λ r. ⌜ r ≡ factoryAnswer whole (now (user .entry)) mode (now (origin .entry)) (now (path .entry)) ⌝ }
 {
     let f = [0u8; 1];
     let starts = [0u16; 1];
@@ -40,7 +36,7 @@ fn judge(
     whole: bool,
 ) -> Verdict
     requires { ⌜ (start ≤ end) × (end ≤ length (now store)) ⌝ }
-    ensures { λ r. ⌜ r ≡ oneOf whole (pathVerdict (part (now (store .entry)) start end) (now (user .entry)) mode (now (origin .entry)) (now (path .entry))) (treeVerdict (part (now (store .entry)) start end) (now (user .entry)) mode (now (origin .entry)) (now (path .entry))) ⌝ }
+    ensures { λ r. ⌜ r ≡ textAnswer whole (part (now (store .entry)) start end) (now (user .entry)) mode (now (origin .entry)) (now (path .entry)) ⌝ }
 {
     verdicts::verdict(&store[start..end], user, mode, origin, path, whole)
 }
@@ -55,7 +51,7 @@ fn probe(
     path: &[u8],
     whole: bool,
 ) -> Verdict
-    ensures { λ a. ⌜ a ≡ oneOf whole (probePath r (now (store .entry)) (now (user .entry)) mode (now (origin .entry)) (now (path .entry))) (probeTree r (now (store .entry)) (now (user .entry)) mode (now (origin .entry)) (now (path .entry))) ⌝ }
+    ensures { λ a. ⌜ a ≡ probeAnswer whole r (now (store .entry)) (now (user .entry)) mode (now (origin .entry)) (now (path .entry)) ⌝ }
 {
     let s = crate::force::find_source(r, store.len(), 2);
     match s {

@@ -1,7 +1,7 @@
 // The RPC probe.
 ghost use mathlib.Core.Path.{_≡_};
 ghost use Rattle.rpc.specs.Request.{requestFault};
-ghost use Rattle.probe.specs.Rpc.{factoryRpc, probeRpc, rpcProbeWord};
+ghost use Rattle.probe.specs.Rpc.{factoryRpc, probeRpc};
 use crate::force::Source;
 use rotation::Record;
 use rpc::verdict::Verdict;
@@ -13,22 +13,12 @@ pub enum RpcAnswer {
     Judged(Verdict),
 }
 
-// The answer word.
-pub fn of_rpc(a: RpcAnswer) -> u64
-    ensures { λ w. ⌜ w ≡ rpcProbeWord a ⌝ }
-{
-    match a {
-        RpcAnswer::PermitAll => 256,
-        RpcAnswer::Judged(v) => rpc::word::of_verdict(v),
-    }
-}
-
 // Kind 1 without a text permits all, once the request is judged.
 fn factory_rpc(identity: &[u8], path: &[u8], headers: &[u8]) -> RpcAnswer
     ensures { λ a. ⌜ a ≡ factoryRpc (requestFault (now (identity .entry)) (now (path .entry)) (now (headers .entry))) ⌝ }
 {
     let number = rpc_request::request::request_fault(identity, path, headers);
-    if number != 255 {
+    if number != limits::CLEAR {
         return RpcAnswer::Judged(Verdict::Refused(number));
     }
     RpcAnswer::PermitAll

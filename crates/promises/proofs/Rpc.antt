@@ -7,6 +7,7 @@ use Prim.Native.Nat.{ℕ, suc, _+_}
 use native.Mathlib.Omega.{arith}
 use lib.Dec.{ltb}
 use lib.ListN.{length}
+use Rattle.limits.specs.Limits.{maxPolicyText}
 use Rattle.text.specs.Test.{if_then_else_}
 use Rattle.text.specs.String.{Str}
 use Rattle.text.specs.Refusal.{clear}
@@ -69,7 +70,7 @@ tree-of (some j) e = (_, refl)
 
 tree-judged : (s : Str) → judgement s ≡ clear → treeJudgement (parse s) ≡ clear
 unfolding judgement if_then_else_
-tree-judged s e = by (ltb 16384 (length s)) (λ t. let i : 30 ≡ clear = rw t at e in absurd (omega arith)) (λ t. rw t at e)
+tree-judged s e = by (ltb maxPolicyText (length s)) (λ t. let i : 30 ≡ clear = rw t at e in absurd (omega arith)) (λ t. rw t at e)
 
 policy-of : (s : Str) → judgement s ≡ clear → (p : Policy) × (policyOf s ≡ some p)
 unfolding policyOf if_then_else_

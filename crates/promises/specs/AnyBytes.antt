@@ -11,17 +11,16 @@ use Rattle.text.specs.String.{Str}
 use Rattle.path_text.specs.Calls.{bytesFor, textFor, answer, lent}
 use Rattle.table.specs.Text.{check}
 use Rattle.table.specs.Group.{groupCount}
-use Rattle.verdict_text.specs.Calls.{pathVerdict, treeVerdict, pathWord, treeWord}
+use Rattle.verdict_text.specs.Calls.{pathVerdict, treeVerdict}
 use Rattle.policy.specs.Policy.{judgement}
-use Rattle.policy_text.specs.Answer.{checkOf, policyWord}
+use Rattle.policy_text.specs.Answer.{checkOf}
 use Rattle.rpc.specs.Call.{rpcVerdict}
-use Rattle.rpc.specs.Verdict.{rpcWord}
 use Rattle.rotation.specs.Calls.{start, upload, uploadStore, finalize, close}
 use Rattle.rotation.specs.declared.Record.{Record}
 use Rattle.upload.specs.Offered.{offeredCheck}
 use Rattle.probe.specs.Probe.{probePath, probeTree}
-use Rattle.probe.specs.Rpc.{probeRpc, rpcProbeWord}
-use Rattle.burgee.specs.Word.{filledWord, checkedWord, countedWord}
+use Rattle.probe.specs.Rpc.{probeRpc}
+use Rattle.burgee.specs.Word.{filledWord, checkedWord, countedWord, pathWord, treeWord, policyWord, rpcWord, rpcProbeWord}
 
 -- every public call, with what it is given
 pub data PublicCall : Type 0 where

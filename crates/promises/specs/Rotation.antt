@@ -21,7 +21,8 @@ use Rattle.upload.specs.Offered.{offeredCheck}
 pub record StepPromise (l : Lent) : Type 0 where
   pub start : answers offeredCheck Start l ≡ Accepted → leaves offeredCheck Start l ≡ record { state = started (l .state); store = l .store }
   pub upload : (text : Str) → answers offeredCheck (Upload text) l ≡ Accepted
-      → leaves offeredCheck (Upload text) l ≡ record { state = uploaded (l .state) (length text); store = put (l .store) (slotStart (candidateSlot (l .state))) text }
+      → leaves offeredCheck (Upload text) l
+      ≡ record { state = uploaded (l .state) (length text); store = put (l .store) (slotStart (candidateSlot (l .state))) text }
   pub finalize : answers offeredCheck Finalize l ≡ Accepted → leaves offeredCheck Finalize l ≡ record { state = finalized (l .state); store = l .store }
   pub close : answers offeredCheck Close l ≡ Accepted → leaves offeredCheck Close l ≡ record { state = closed (l .state); store = l .store }
   -- a refused call leaves the record and every byte of the store as they stood
@@ -50,10 +51,14 @@ pub record RotationPromise (l : Lent) (whole : Whole l) : Type 0 where
   -- until a finalize the live text stays, byte for byte
   pub stays : (cs : List Call) → Trying cs → live (end offeredCheck cs l) ≡ live l
   -- and close brings it back in force
-  pub back : (cs : List Call) → Trying cs → answers offeredCheck Close (end offeredCheck cs l) ≡ Accepted → force (leaves offeredCheck Close (end offeredCheck cs l)) ≡ live l
+  pub back : (cs : List Call) → Trying cs
+      → answers offeredCheck Close (end offeredCheck cs l) ≡ Accepted → force (leaves offeredCheck Close (end offeredCheck cs l)) ≡ live l
   -- a text that was uploaded is in force, the first as well as every later one
-  pub tried : (cs : List Call) (text : Str) → answers offeredCheck (Upload text) (end offeredCheck cs l) ≡ Accepted → force (leaves offeredCheck (Upload text) (end offeredCheck cs l)) ≡ some text
+  pub tried : (cs : List Call) (text : Str)
+      → answers offeredCheck (Upload text) (end offeredCheck cs l) ≡ Accepted → force (leaves offeredCheck (Upload text) (end offeredCheck cs l)) ≡ some text
   -- and finalize makes live what was in force
-  pub settled : (cs : List Call) → answers offeredCheck Finalize (end offeredCheck cs l) ≡ Accepted → live (leaves offeredCheck Finalize (end offeredCheck cs l)) ≡ force (end offeredCheck cs l)
+  pub settled : (cs : List Call)
+      → answers offeredCheck Finalize (end offeredCheck cs l) ≡ Accepted
+      → live (leaves offeredCheck Finalize (end offeredCheck cs l)) ≡ force (end offeredCheck cs l)
   -- record and store follow a machine that has only a kind, a live text, a candidate and an on-or-off flag
   pub follows : (cs : List Call) (c : Call) → Follows offeredCheck c (end offeredCheck cs l)

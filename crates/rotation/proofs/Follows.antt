@@ -8,6 +8,7 @@ use native.Mathlib.Omega.{arith}
 use borrow.Author.Tests.{ne-eqb, eqb-true, eqb-false, ltb-false, le-ltb}
 use lib.Dec.{eqb, ltb}
 use lib.ListN.{length}
+use Rattle.limits.specs.Limits.{slotLength, storeLength}
 use Rattle.text.specs.Test.{_and_, _or_, if_then_else_}
 use Rattle.text.specs.String.{Str}
 use Rattle.text.specs.Fill.{put}
@@ -83,9 +84,9 @@ module _ (r : Record) (good : badRecord r ≡ false) where
   pub good-candidate : badLength (r .«candidate_len») ≡ false
   good-candidate = or-false-l (badLength (r .«candidate_len»)) _ tail-3
 
-pub length-short : (len : ℕ) → badLength len ≡ false → given len ≡ true → len ≤ 32768
+pub length-short : (len : ℕ) → badLength len ≡ false → given len ≡ true → len ≤ slotLength
 unfolding badLength
-length-short len e g = ltb-false 32768 len (and-false (given len) _ g e)
+length-short len e g = ltb-false slotLength len (and-false (given len) _ g e)
 
 pub slot-low : (r : Record) → badSlot r ≡ false → given (r .«live_len») ≡ true → r .«live_slot» ≤ 1
 unfolding badSlot
@@ -99,9 +100,9 @@ good-is : (a b c d : Bool) (e : Bool) → a ≡ false → b ≡ false → c ≡ 
 unfolding _or_
 good-is a b c d e p q r s t = rw (p, q, r, s, t)
 
-length-good : (len : ℕ) → len ≤ 32768 → badLength len ≡ false
+length-good : (len : ℕ) → len ≤ slotLength → badLength len ≡ false
 unfolding badLength _and_
-length-good len h = by (given len) (λ t. rw t (le-ltb 32768 len h)) (λ t. rw t)
+length-good len h = by (given len) (λ t. rw t (le-ltb slotLength len h)) (λ t. rw t)
 
 started-good : (r : Record) → badRecord r ≡ false → badRecord (started r) ≡ false
 unfolding badRecord started badKind badSlot badLength given off _and_
@@ -123,7 +124,7 @@ on-uploaded : (r : Record) (len : ℕ) → off r ≡ false → (off r and given 
 unfolding _and_
 on-uploaded r len e = rw e
 
-uploaded-good : (r : Record) (len : ℕ) → badRecord r ≡ false → off r ≡ false → len ≤ 32768 → badRecord (uploaded r len) ≡ false
+uploaded-good : (r : Record) (len : ℕ) → badRecord r ≡ false → off r ≡ false → len ≤ slotLength → badRecord (uploaded r len) ≡ false
 unfolding badRecord uploaded badKind badSlot off
 uploaded-good r len g o h = good-is _ _ _ _ _ (good-kind r g) (good-slot r g) (good-live r g) (length-good len h) (on-uploaded r len o)
 
@@ -140,9 +141,9 @@ module _ (l : Lent) (w : Whole l) where
   unfolding recordRefusal if_then_else_
   own k = rw (w .long, w .good)
 
-  store-long : 65536 ≤ n
+  store-long : storeLength ≤ n
   unfolding shortStore
-  store-long = ltb-false n 65536 (w .long)
+  store-long = ltb-false n storeLength (w .long)
 
   start-number : startRefusal r n ≡ machineRefusal Start (machineOf l)
   unfolding startRefusal machineRefusal machineOf
@@ -162,7 +163,7 @@ module _ (l : Lent) (w : Whole l) where
 
 -- ---- what a machine is left with
 
-some-held : (store : Str) (slot len : ℕ) → len ≤ 32768 → heldText store slot len ≡ some (textIn store slot len)
+some-held : (store : Str) (slot len : ℕ) → len ≤ slotLength → heldText store slot len ≡ some (textIn store slot len)
 unfolding heldText given if_then_else_
 some-held store slot len h = rw (ne-eqb len noLength (λ e. omega arith))
 
@@ -187,8 +188,8 @@ module _ (r : Record) (g : given (r .«live_len») ≡ true) where
   unfolding candidateSlot _and_ if_then_else_
   candidate-zero t = rw (g, t)
 
-module _ (store text : Str) (long : 65536 ≤ length store) (short : length text ≤ 32768) (slot k len : ℕ) where
-  kept-first : slot ≡ 0 → k ≡ 1 → len ≤ 32768 → textIn (put store (slotStart k) text) slot len ≡ textIn store slot len
+module _ (store text : Str) (long : storeLength ≤ length store) (short : length text ≤ slotLength) (slot k len : ℕ) where
+  kept-first : slot ≡ 0 → k ≡ 1 → len ≤ slotLength → textIn (put store (slotStart k) text) slot len ≡ textIn store slot len
   kept-first e f h = rw (e, f) (put-first store text long short len h)
 
   kept-second : slot ≡ 1 → k ≡ 0 → textIn (put store (slotStart k) text) slot len ≡ textIn store slot len
@@ -197,7 +198,7 @@ module _ (store text : Str) (long : 65536 ≤ length store) (short : length text
 both-same : (kind : ℕ) (a b c d : Option Str) (o : Bool) → a ≡ b → c ≡ d → _≡_ {A = Machine} (record { kind = kind; live = a; candidate = c; rotating = o }) (record { kind = kind; live = b; candidate = d; rotating = o })
 both-same kind a b c d o e f = rw (e, f)
 
-module _ (l : Lent) (w : Whole l) (text : Str) (short : length text ≤ 32768) where
+module _ (l : Lent) (w : Whole l) (text : Str) (short : length text ≤ slotLength) where
   abbrev live : ℕ
   live = l .state .«live_len»
 
@@ -251,10 +252,10 @@ module _ (c : Call) (l : Lent) (w : Whole l) (a : Checked) (next : Record) where
 module _ (l : Lent) (w : Whole l) where
   number-on : offRefusal (l .state) (length (l .store)) ≡ clear → off (l .state) ≡ false
   unfolding offRefusal if_then_else_
-  number-on e = by (off (l .state)) (λ t. let z : _≡_ {A = ℕ} 13 255 = sym (own l w 13) ∙ (rw t at e) in absurd (omega arith)) (λ t. t)
+  number-on e = by (off (l .state)) (λ t. let z : _≡_ {A = ℕ} 13 clear = sym (own l w 13) ∙ (rw t at e) in absurd (omega arith)) (λ t. t)
 
 -- `check` accepts no text that is longer than a slot
-module _ (check : ℕ → Str → Checked) (short : (kind : ℕ) (text : Str) → check kind text ≡ Accepted → length text ≤ 32768) (l : Lent) (w : Whole l) where
+module _ (check : ℕ → Str → Checked) (short : (kind : ℕ) (text : Str) → check kind text ≡ Accepted → length text ≤ slotLength) (l : Lent) (w : Whole l) where
   follows-start : Follows check Start l
   unfolding answers leaves start machineAnswer machineStep offered
   follows-start = record {
@@ -302,7 +303,7 @@ module _ (check : ℕ → Str → Checked) (short : (kind : ℕ) (text : Str) �
     unfolding if_then_else_
     upload-went t = rw (stepped-next a (l .state) (uploaded (l .state) (length text)), stored-by a (l .state) (l .store) text, t)
 
-    upload-short : isAccepted a ≡ true → length text ≤ 32768
+    upload-short : isAccepted a ≡ true → length text ≤ slotLength
     upload-short t = short (l .state .kind) text (unless-accepted _ _ t .1)
 
     upload-next : machineOf uploads ≡ (if isAccepted a then machineNext (Upload text) (machineOf l) else machineOf l)
@@ -315,7 +316,7 @@ module _ (check : ℕ → Str → Checked) (short : (kind : ℕ) (text : Str) �
         by (isAccepted a)
         (λ t. rw (upload-went t)
         (record {
-          long = ap (λ (n : ℕ). ltb n 65536) (stored-long l w text (upload-short t)) ∙ w .long;
+          long = ap (λ (n : ℕ). ltb n storeLength) (stored-long l w text (upload-short t)) ∙ w .long;
           good = uploaded-good (l .state) (length text) (w .good) (number-on l w (unless-accepted _ _ t .0)) (upload-short t);
         }))
         (λ t. rw (upload-kept t) w)
@@ -332,7 +333,7 @@ module _ (check : ℕ → Str → Checked) (short : (kind : ℕ) (text : Str) �
       whole = upload-whole;
     }
 
-module _ (check : ℕ → Str → Checked) (short : (kind : ℕ) (text : Str) → check kind text ≡ Accepted → length text ≤ 32768) where
+module _ (check : ℕ → Str → Checked) (short : (kind : ℕ) (text : Str) → check kind text ≡ Accepted → length text ≤ slotLength) where
   pub follows : (c : Call) (l : Lent) → Whole l → Follows check c l
   follows Start l w = follows-start check short l w
   follows (Upload text) l w = follows-upload check short l w text

@@ -5,6 +5,7 @@ use Prim.Native.Nat.{ℕ, _+_, _-_, _≤_}
 use native.Mathlib.Omega.{arith}
 use lib.ListN.{length, take, drop, length-append}
 use lib.Seq.{length-take-le, take-at, drop-at, drop-drop, take-append-le, take-take, drop-append-add}
+use Rattle.limits.specs.Limits.{slotLength, storeLength}
 use Rattle.text.specs.String.{Str}
 use Rattle.text.specs.Fill.{put}
 use Rattle.rotation.specs.State.{slotStart, textIn}
@@ -34,16 +35,16 @@ module _ (d : Str) (at : ℕ) (s : Str) (h : at + length s ≤ length d) where
       let a : drop k ((take at d ++ s) ++ drop (at + length s) d) ≡ drop j (drop (at + length s) d) = ap (λ (n : ℕ). drop n ((take at d ++ s) ++ drop (at + length s) d)) m ∙ drop-append-add (take at d ++ s) (drop (at + length s) d) j in
       ap (drop k) (sym (append-assoc (take at d) s (drop (at + length s) d))) ∙ a ∙ drop-drop j (at + length s) d ∙ ap (λ (n : ℕ). drop n d) (sym e)
 
-module _ (store text : Str) (long : 65536 ≤ length store) (short : length text ≤ 32768) where
+module _ (store text : Str) (long : storeLength ≤ length store) (short : length text ≤ slotLength) where
   pub put-own : (slot : ℕ) → slot ≤ 1 → textIn (put store (slotStart slot) text) slot (length text) ≡ text
   unfolding textIn
   put-own slot h = put-text store (slotStart slot) text (omega arith)
 
   -- the other slot's text stays
-  pub put-first : (len : ℕ) → len ≤ 32768 → textIn (put store (slotStart 1) text) 0 len ≡ textIn store 0 len
+  pub put-first : (len : ℕ) → len ≤ slotLength → textIn (put store (slotStart 1) text) 0 len ≡ textIn store 0 len
   unfolding textIn
-  put-first len h = put-before store 32768 text (omega arith) len h
+  put-first len h = put-before store slotLength text (omega arith) len h
 
   pub put-second : (len : ℕ) → textIn (put store (slotStart 0) text) 1 len ≡ textIn store 1 len
   unfolding textIn
-  put-second len = ap (take len) (put-after store 0 text (omega arith) 32768 (omega arith))
+  put-second len = ap (take len) (put-after store 0 text (omega arith) slotLength (omega arith))

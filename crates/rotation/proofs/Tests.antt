@@ -2,11 +2,14 @@
 use mathlib.Core.Path.{_≡_, refl, sym, ap, _∙_}
 use mathlib.Core.Bool.{Bool, true, false, not, _&&_, _||_}
 use Prim.Native.Nat.{ℕ, _≤_, _<_}
-use borrow.Author.Tests.{lt-ltb, le-ltb}
+use borrow.Author.Tests.{eq-eqb, ne-eqb, lt-ltb, le-ltb}
 use lib.Dec.{eqb, ltb}
+use Rattle.limits.specs.Limits.{slotLength, storeLength}
 use Rattle.text.specs.Test.{_and_, if_then_else_}
+use Rattle.text.specs.Refusal.{clear}
 use Rattle.text.proofs.Tests.{or-is}
 use Rattle.rotation.specs.State.{given, off, shortStore, badKind, badSlot, badLength, badRecord, recordRefusal, candidateSlot, inForce}
+use Rattle.rotation.specs.Calls.{otherKind, probeRefusal}
 use Rattle.rotation.specs.declared.Record.{Record}
 use Rattle.rotation.specs.declared.InForce.the-variants.{Text, Factory}
 
@@ -15,7 +18,7 @@ unfolding _and_
 and-is true b = refl
 and-is false b = refl
 
-pub length-is : (len : ℕ) (g : Bool) → g ≡ given len → (g && ltb 32768 len) ≡ badLength len
+pub length-is : (len : ℕ) (g : Bool) → g ≡ given len → (g && ltb slotLength len) ≡ badLength len
 unfolding badLength
 length-is len g e = rw e (and-is _ _)
 
@@ -26,17 +29,25 @@ module _ (r : Record) where
   record-is g l c h eg el ec eh = rw (eg, el, ec, eh) (simp (or-is, and-is))
 
   module _ (n own : ℕ) where
-    pub refused-short : n < 65536 → 11 ≡ recordRefusal r n own
+    pub refused-short : n < storeLength → 11 ≡ recordRefusal r n own
     unfolding recordRefusal shortStore if_then_else_
-    refused-short h = rw (lt-ltb n 65536 h)
+    refused-short h = rw (lt-ltb n storeLength h)
 
-    pub refused-bad : 65536 ≤ n → badRecord r ≡ true → 15 ≡ recordRefusal r n own
+    pub refused-bad : storeLength ≤ n → badRecord r ≡ true → 15 ≡ recordRefusal r n own
     unfolding recordRefusal shortStore if_then_else_
-    refused-bad h e = rw (le-ltb n 65536 h, e)
+    refused-bad h e = rw (le-ltb n storeLength h, e)
 
-    pub refused-own : 65536 ≤ n → badRecord r ≡ false → own ≡ recordRefusal r n own
+    pub refused-own : storeLength ≤ n → badRecord r ≡ false → own ≡ recordRefusal r n own
     unfolding recordRefusal shortStore if_then_else_
-    refused-own h e = rw (le-ltb n 65536 h, e)
+    refused-own h e = rw (le-ltb n storeLength h, e)
+
+  pub probe-same : (n kind k : ℕ) → r .kind ≡ kind → k ≡ recordRefusal r n clear → k ≡ probeRefusal kind r n
+  unfolding probeRefusal otherKind if_then_else_
+  probe-same n kind k e h = h ∙ rw (eq-eqb (r .kind) kind e)
+
+  pub probe-other : (n kind k : ℕ) → (r .kind ≡ kind → ⊥) → k ≡ recordRefusal r n 16 → k ≡ probeRefusal kind r n
+  unfolding probeRefusal otherKind if_then_else_
+  probe-other n kind k e h = h ∙ rw (ne-eqb (r .kind) kind e)
 
   pub slot-one : (g : Bool) → g ≡ given (r .«live_len») → (g && eqb (r .«live_slot») 0) ≡ true → 1 ≡ candidateSlot r
   unfolding candidateSlot if_then_else_

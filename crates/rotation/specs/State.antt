@@ -4,6 +4,7 @@ use Prim.Native.Nat.{ℕ, _*_}
 use mathlib.Core.Bool.{Bool, not}
 use lib.Dec.{eqb, ltb}
 use lib.ListN.{take, drop}
+use Rattle.limits.specs.Limits.{slotLength, storeLength}
 use Rattle.text.specs.Test.{_and_, _or_, if_then_else_}
 use Rattle.text.specs.String.{Str}
 use Rattle.text.specs.Refusal.{_when_else_}
@@ -30,7 +31,7 @@ on r = not (off r)
 
 -- 11: "store shorter than 65,536 bytes"
 unfoldable pub shortStore : ℕ → Bool
-shortStore n = ltb n 65536
+shortStore n = ltb n storeLength
 
 unfoldable pub badKind : Record → Bool
 badKind r = not (eqb (r .kind) 1 or eqb (r .kind) 2)
@@ -40,7 +41,7 @@ unfoldable pub badSlot : Record → Bool
 badSlot r = given (r .«live_len») and ltb 1 (r .«live_slot»)
 
 unfoldable pub badLength : ℕ → Bool
-badLength len = given len and ltb 32768 len
+badLength len = given len and ltb slotLength len
 
 -- 15: "record: kind not 1 or 2, slot over 1, length over 32,768, candidate while off"
 unfoldable pub badRecord : Record → Bool
@@ -54,7 +55,7 @@ recordRefusal r n own = 11 when shortStore n else 15 when badRecord r else own
 
 -- "the store is two slots of 32,768 bytes"
 abbrev pub slotStart : ℕ → ℕ
-slotStart slot = slot * 32768
+slotStart slot = slot * slotLength
 
 -- "the slot that isn't live (slot 0 if none is live)"
 unfoldable pub candidateSlot : Record → ℕ

@@ -1,6 +1,7 @@
 // What a record says.
 ghost use mathlib.Core.Path.{_≡_};
-ghost use Rattle.rotation.specs.State.{given, badLength, badRecord, recordRefusal, candidateSlot, inForce, atRest};
+ghost use Rattle.rotation.specs.State.{given, badLength, badRecord, recordRefusal, slotStart, candidateSlot, inForce, atRest};
+ghost use Rattle.rotation.specs.Calls.{probeRefusal};
 use crate::InForce;
 use crate::Record;
 
@@ -13,7 +14,7 @@ fn is_given(len: u32) -> bool
 fn is_bad_length(len: u32) -> bool
     ensures { λ b. ⌜ b ≡ badLength len ⌝ }
 {
-    is_given(len) & (32768 < len)
+    is_given(len) & (limits::SLOT_LENGTH < len as usize)
 }
 
 // 15.
@@ -32,13 +33,30 @@ fn is_bad(r: Record) -> bool
 pub fn refusal(r: Record, n: usize, own: u8) -> u8
     ensures { λ k. ⌜ k ≡ recordRefusal r n own ⌝ }
 {
-    if n < 65536 {
+    if n < limits::STORE_LENGTH {
         return 11;
     }
     if is_bad(r) {
         return 15;
     }
     own
+}
+
+// Of a probe for records of that kind: 11, 15 or 16.
+pub fn probe_refusal(r: Record, n: usize, kind: u32) -> u8
+    ensures { λ k. ⌜ k ≡ probeRefusal kind r n ⌝ }
+{
+    if r.kind == kind {
+        return refusal(r, n, limits::CLEAR);
+    }
+    refusal(r, n, 16)
+}
+
+// Where a slot starts in the store.
+pub fn slot_start(slot: u32) -> usize
+    ensures { λ k. ⌜ k ≡ slotStart slot ⌝ }
+{
+    slot as usize * limits::SLOT_LENGTH
 }
 
 // The slot that is not live.

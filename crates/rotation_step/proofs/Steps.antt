@@ -7,8 +7,8 @@ use Rattle.text.specs.Refusal.{clear}
 use Rattle.table.specs.Text.{unless}
 use Rattle.table.specs.declared.Checked.{Checked}
 use Rattle.table.specs.declared.Checked.the-variants.{Accepted, Refused}
-use Rattle.rotation.specs.State.{given, off, on, recordRefusal}
-use Rattle.rotation.specs.Calls.{startRefusal, offRefusal, noCandidate, finalizeRefusal, otherKind, probeRefusal, stepped}
+use Rattle.rotation.specs.State.{noLength, given, off, on, recordRefusal}
+use Rattle.rotation.specs.Calls.{startRefusal, offRefusal, noCandidate, finalizeRefusal, stepped}
 use Rattle.rotation.specs.declared.Record.{Record}
 use Rattle.rotation.specs.declared.Stepped.{Stepped}
 
@@ -21,7 +21,7 @@ unfolding unless if_then_else_
 checked-some number e = rw (ne-eqb number clear e)
 
 module _ (r : Record) (n k : ℕ) where
-  pub start-off : r .rotating ≡ 0 → k ≡ recordRefusal r n 255 → k ≡ startRefusal r n
+  pub start-off : r .rotating ≡ 0 → k ≡ recordRefusal r n clear → k ≡ startRefusal r n
   unfolding startRefusal on off if_then_else_
   start-off e h = h ∙ rw (eq-eqb (r .rotating) 0 e)
 
@@ -33,7 +33,7 @@ module _ (r : Record) (n k : ℕ) where
   unfolding offRefusal off if_then_else_
   off-off e h = h ∙ rw (eq-eqb (r .rotating) 0 e)
 
-  pub off-on : (r .rotating ≡ 0 → ⊥) → k ≡ recordRefusal r n 255 → k ≡ offRefusal r n
+  pub off-on : (r .rotating ≡ 0 → ⊥) → k ≡ recordRefusal r n clear → k ≡ offRefusal r n
   unfolding offRefusal off if_then_else_
   off-on e h = h ∙ rw (ne-eqb (r .rotating) 0 e)
 
@@ -41,21 +41,13 @@ module _ (r : Record) (n k : ℕ) where
   unfolding finalizeRefusal off if_then_else_
   finalize-off e h = h ∙ rw (eq-eqb (r .rotating) 0 e)
 
-  pub finalize-none : (r .rotating ≡ 0 → ⊥) → r .«candidate_len» ≡ 4294967295 → k ≡ recordRefusal r n 14 → k ≡ finalizeRefusal r n
+  pub finalize-none : (r .rotating ≡ 0 → ⊥) → r .«candidate_len» ≡ noLength → k ≡ recordRefusal r n 14 → k ≡ finalizeRefusal r n
   unfolding finalizeRefusal off noCandidate given if_then_else_
-  finalize-none e c h = h ∙ rw (ne-eqb (r .rotating) 0 e, eq-eqb (r .«candidate_len») 4294967295 c)
+  finalize-none e c h = h ∙ rw (ne-eqb (r .rotating) 0 e, eq-eqb (r .«candidate_len») noLength c)
 
-  pub finalize-some : (r .rotating ≡ 0 → ⊥) → (r .«candidate_len» ≡ 4294967295 → ⊥) → k ≡ recordRefusal r n 255 → k ≡ finalizeRefusal r n
+  pub finalize-some : (r .rotating ≡ 0 → ⊥) → (r .«candidate_len» ≡ noLength → ⊥) → k ≡ recordRefusal r n clear → k ≡ finalizeRefusal r n
   unfolding finalizeRefusal off noCandidate given if_then_else_
-  finalize-some e c h = h ∙ rw (ne-eqb (r .rotating) 0 e, ne-eqb (r .«candidate_len») 4294967295 c)
-
-  pub probe-same : (kind : ℕ) → r .kind ≡ kind → k ≡ recordRefusal r n 255 → k ≡ probeRefusal kind r n
-  unfolding probeRefusal otherKind if_then_else_
-  probe-same kind e h = h ∙ rw (eq-eqb (r .kind) kind e)
-
-  pub probe-other : (kind : ℕ) → (r .kind ≡ kind → ⊥) → k ≡ recordRefusal r n 16 → k ≡ probeRefusal kind r n
-  unfolding probeRefusal otherKind if_then_else_
-  probe-other kind e h = h ∙ rw (ne-eqb (r .kind) kind e)
+  finalize-some e c h = h ∙ rw (ne-eqb (r .rotating) 0 e, ne-eqb (r .«candidate_len») noLength c)
 
 -- a step of a call that judges no text
 pub steps : (r next : Record) (number k : ℕ) (c : Checked) (s : Stepped) → k ≡ number → c ≡ unless k 0 Accepted → s ≡ stepped c r next → s ≡ stepped (unless number 0 Accepted) r next

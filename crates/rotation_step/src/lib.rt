@@ -2,7 +2,7 @@
 ghost use mathlib.Core.Path.{_≡_};
 ghost use Rattle.table.specs.Text.{unless};
 ghost use Rattle.table.specs.declared.Checked.the-variants.{Accepted};
-ghost use Rattle.rotation.specs.Calls.{stepped, startRefusal, offRefusal, finalizeRefusal, probeRefusal, uploaded, start, finalize, close};
+ghost use Rattle.rotation.specs.Calls.{stepped, startRefusal, offRefusal, finalizeRefusal, uploaded, start, finalize, close};
 use rotation::Record;
 use rotation::Stepped;
 use table::Checked;
@@ -30,7 +30,7 @@ pub fn settle(c: Checked, r: Record, next: Record) -> Stepped
 fn checked(number: u8) -> Checked
     ensures { λ c. ⌜ c ≡ unless number 0 Accepted ⌝ }
 {
-    if number == 255 {
+    if number == limits::CLEAR {
         return Checked::Accepted;
     }
     Checked::Refused {
@@ -39,12 +39,12 @@ fn checked(number: u8) -> Checked
     }
 }
 
-// 11, 15 or 12; 255 for none.
+// 11, 15 or 12; `CLEAR` for none.
 fn start_refusal(r: Record, n: usize) -> u8
     ensures { λ k. ⌜ k ≡ startRefusal r n ⌝ }
 {
     if r.rotating == 0 {
-        return rotation::state::refusal(r, n, 255);
+        return rotation::state::refusal(r, n, limits::CLEAR);
     }
     rotation::state::refusal(r, n, 12)
 }
@@ -56,7 +56,7 @@ pub fn off_refusal(r: Record, n: usize) -> u8
     if r.rotating == 0 {
         return rotation::state::refusal(r, n, 13);
     }
-    rotation::state::refusal(r, n, 255)
+    rotation::state::refusal(r, n, limits::CLEAR)
 }
 
 // 11, 15, 13 or 14.
@@ -69,17 +69,7 @@ fn finalize_refusal(r: Record, n: usize) -> u8
     if r.candidate_len == rotation::NO_LENGTH {
         return rotation::state::refusal(r, n, 14);
     }
-    rotation::state::refusal(r, n, 255)
-}
-
-// Of a probe for records of that kind: 11, 15 or 16.
-pub fn probe_refusal(r: Record, n: usize, kind: u32) -> u8
-    ensures { λ k. ⌜ k ≡ probeRefusal kind r n ⌝ }
-{
-    if r.kind == kind {
-        return rotation::state::refusal(r, n, 255);
-    }
-    rotation::state::refusal(r, n, 16)
+    rotation::state::refusal(r, n, limits::CLEAR)
 }
 
 // The candidate gets its length.

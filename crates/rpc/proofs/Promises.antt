@@ -28,9 +28,9 @@ no-and true = refl
 no-and false = refl
 
 -- "headers must all match"
-pub each-header : (r : Request) (u : Rule) (h : Header) → h ∈ u .headers → headerMatches r h ≡ false → ruleMatches r u ≡ false
+pub each-header : (r : Request) (u : Rule) (h : Header) → h ∈ u .headers → headerMatches (r .headers) h ≡ false → ruleMatches r u ≡ false
 unfolding ruleMatches
-each-header r u h m e = by (ruleMatches r u) (λ t. clash (all→ (headerMatches r) (u .headers) (and-r _ _ (and-r _ _ t)) h m) e) (λ t. t)
+each-header r u h m e = by (ruleMatches r u) (λ t. clash (all→ (headerMatches (r .headers)) (u .headers) (and-r _ _ (and-r _ _ t)) h m) e) (λ t. t)
 
 module _ (p : Policy) (r : Request) where
   -- "If a request matches any of the deny rules, then it will be denied."

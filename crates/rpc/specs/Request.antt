@@ -5,6 +5,7 @@ use mathlib.Core.Option.{Option, none, some}
 use Prim.Native.Nat.{ℕ, zero, suc}
 use lib.Dec.{eqb, ltb}
 use lib.ListN.{length}
+use Rattle.limits.specs.Limits.{maxRequestString, maxHeaderLines}
 use Rattle.text.specs.Test.{_and_, _or_, if_then_else_, all, only}
 use Rattle.text.specs.Byte.{isPrint}
 use Rattle.text.specs.String.{Str, same}
@@ -64,11 +65,11 @@ readable (some a) = true
 
 -- 40: "identity or path over 256 bytes or a byte outside 0x20 to 0x7E"
 unfoldable pub badText : Str → Bool
-badText s = ltb 256 (length s) or not (all isPrint s)
+badText s = ltb maxRequestString (length s) or not (all isPrint s)
 
 -- 41: "header lines ill-formed, a value byte outside that range, or over 8,192 bytes together"
 unfoldable pub badHeaders : Str → Bool
-badHeaders s = ltb 8192 (length s) or not (readable (headersOf s))
+badHeaders s = ltb maxHeaderLines (length s) or not (readable (headersOf s))
 
 -- the refusal number of a request; `clear` where there is none
 unfoldable pub requestFault : Str → Str → Str → ℕ

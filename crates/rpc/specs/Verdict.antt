@@ -2,12 +2,12 @@
 use mathlib.Core.Bool.{Bool, true, false}
 use mathlib.Core.List.{List, [], _∷_}
 use mathlib.Core.Option.{Option, none, some}
-use Prim.Native.Nat.{ℕ, suc, _+_, _*_, _%_, _^_}
+use Prim.Native.Nat.{ℕ, suc}
 use Rattle.text.specs.Test.{_and_, if_then_else_, all, any}
 use Rattle.text.specs.String.{Str}
 use Rattle.policy.specs.Policy.{Header, Rule, Policy}
 use Rattle.rpc.specs.Pattern.{matches}
-use Rattle.rpc.specs.Request.{Request, headerValue}
+use Rattle.rpc.specs.Request.{Line, Request, headerValue}
 use Rattle.rpc.specs.declared.verdict.Verdict.{Verdict}
 use Rattle.rpc.specs.declared.verdict.Verdict.the-variants.{Refused, Denied, Permitted, Default}
 
@@ -17,12 +17,12 @@ listed [] v = true
 listed (p ∷ ps) v = any (λ (q : Str). matches q v) (p ∷ ps)
 
 -- "Entries of a list are alternatives"; `values` is never empty
-unfoldable pub headerMatches : Request → Header → Bool
-headerMatches r h = any (λ (p : Str). matches p (headerValue (h .key) (r .headers))) (h .values)
+unfoldable pub headerMatches : List Line → Header → Bool
+headerMatches lines h = any (λ (p : Str). matches p (headerValue (h .key) lines)) (h .values)
 
 -- "headers must all match"
 unfoldable pub ruleMatches : Request → Rule → Bool
-ruleMatches r u = listed (u .principals) (r .identity) and listed (u .paths) (r .path) and all (headerMatches r) (u .headers)
+ruleMatches r u = listed (u .principals) (r .identity) and listed (u .paths) (r .path) and all (headerMatches (r .headers)) (u .headers)
 
 -- the number of the first that passes, counted from k
 unfoldable pub firstFrom : {A : Type 0} → ℕ → (A → Bool) → List A → Option ℕ
@@ -48,14 +48,3 @@ permits (Refused n) = false
 permits (Denied n) = false
 permits (Permitted n) = true
 permits Default = false
-
--- bits 16 to 31: a rule's number + 1; a list has at most 64 rules
-abbrev pub ruleBits : ℕ → ℕ
-ruleBits n = (n % 2 ^ 16 + 1) * 2 ^ 16
-
--- the answer word: the action from bit 8 on, and the number in the list that it names; or the refusal's number
-unfoldable pub rpcWord : Verdict → ℕ
-rpcWord (Refused n) = n
-rpcWord (Denied n) = ruleBits n
-rpcWord (Permitted n) = 2 ^ 8 + ruleBits n
-rpcWord Default = 0

@@ -1,3 +1,2 @@
 pub mod pattern;
 pub mod verdict;
-pub mod word;

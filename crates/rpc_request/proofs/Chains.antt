@@ -9,6 +9,7 @@ use lib.Dec.{eqb, ltb}
 use lib.ListN.{length, take, drop, getD, set, length-set, length-drop, drop-of-length-le}
 use lib.Seq.{take-all, drop-at, drop-drop, length-take-le, getD-set-same, getD-set-other}
 use borrow.Author.Tests.{eqb-true, eqb-false, ltb-true, ltb-false, lt-ltb, le-ltb}
+use Rattle.limits.specs.Limits.{maxHeaderLines}
 use Rattle.text.specs.Test.{_and_, if_then_else_, only}
 use Rattle.text.specs.String.{Str}
 use Rattle.text.specs.Frame.{part}
@@ -20,7 +21,7 @@ use Rattle.text_affix.specs.Affix.{empty}
 use Rattle.rpc.specs.Request.{Line, longer, cutAt, lineOf, cons, linesOf, headersOf, readable, badHeaders, joined, valuesOf, headerValue}
 use Rattle.rpc.specs.Call.{written}
 use Rattle.rpc_request.specs.Steps.{cutHere, Cut, commaed, lineValue}
-use Rattle.rpc_request.specs.Index.{bucketOf, inBucket, LineAt, Chain, stop, link, onto, Indexed}
+use Rattle.rpc_request.specs.Index.{bucketCount, placeCount, bucketOf, inBucket, LineAt, Chain, stop, link, onto, Blank, Indexed}
 use Rattle.rpc_request.proofs.Lines.{part-long, here-some, here-none, fueled, read-is, Reading, reading-on, lines-cut, lines-uncut, lines-bad, lines-on, lines-over, headers-short, headers-read}
 use Rattle.rpc_request.proofs.Values.{gather, gather-nil, gather-cons, gathered, one-bucket, commaed-nil, commaed-append, joined-is, line-value}
 
@@ -67,7 +68,7 @@ cut-same b h i e f x y =
 third-other : (p i : ℕ) → p + 3 ≤ i → p / 3 ≡ i / 3 → ⊥
 third-other p i l e = omega (arith, e)
 
-pub third-small : (i : ℕ) → i < 8192 → i / 3 < 2731
+pub third-small : (i : ℕ) → i < maxHeaderLines → i / 3 < placeCount
 third-small i l = omega arith
 
 -- a link that is set above a chain is no part of it
@@ -127,20 +128,20 @@ pub record Indexing (h last before : Str) (i : ℕ) : Type 0 where
   pub good : readable (linesOf fuel (drop i h)) ≡ true
   pub back : List Line
   pub is : written (headersOf h) ≡ onto back (written (linesOf fuel (drop i h)))
-  pub buckets : length last ≡ 256
-  pub places : length before ≡ 2731
-  pub chains : (b : ℕ) → b < 256 → Chain h before i (getD last b 0) (only (inBucket b) back)
+  pub buckets : length last ≡ bucketCount
+  pub places : length before ≡ placeCount
+  pub chains : (b : ℕ) → b < bucketCount → Chain h before i (getD last b 0) (only (inBucket b) back)
 
-pub indexing-start : (h last before : Str) → badHeaders h ≡ false → length last ≡ 256 → length before ≡ 2731 → ((b : ℕ) → b < 256 → getD last b 0 ≡ 8192) → Indexing h last before 0
-indexing-start h last before g a b q = record {
+pub indexing-start : (h last before : Str) → Blank h last before → Indexing h last before 0
+indexing-start h last before x = record {
   fuel = length h;
   reading = record { inside = omega arith; enough = omega arith };
-  good = headers-read h g;
+  good = headers-read h (x .good);
   back = [];
   is = sym (onto-nil _);
-  buckets = a;
-  places = b;
-  chains = λ n l. subst (Chain h before 0 (getD last n 0)) (sym (only-nil n)) (stop (let s = headers-short h g in let z = q n l in omega arith));
+  buckets = x .buckets;
+  places = x .places;
+  chains = λ n l. subst (Chain h before 0 (getD last n 0)) (sym (only-nil n)) (stop (let s = headers-short h (x .good) in let z = x .empty n l in omega arith));
 }
 
 module _ (h last before : Str) (i e : ℕ) (l : i < length h) (k : Cut 10 h i e) (j : Indexing h last before i) where
@@ -163,17 +164,17 @@ module _ (h last before : Str) (i e : ℕ) (l : i < length h) (k : Cut 10 h i e)
       let o = read-is _ a in
       (a, ap written (lines-cut h i e g l k indexing-cut ∙ ap (λ (z : Option Line). cons z (linesOf g (drop (e + 1) h))) q ∙ ap (cons (some x)) (o .1) ∙ cons-some x (o .0)) ∙ written-some _ ∙ ap (λ (z : List Line). x ∷ z) (sym (written-some _) ∙ ap written (sym (o .1))))
 
-  pub third-place : length h ≤ 8192 → i / 3 < length before
+  pub third-place : length h ≤ maxHeaderLines → i / 3 < length before
   third-place s = let z = third-small i (omega arith) in omega (arith, j .places)
 
-  module _ (b : ℕ) (small : b < 256) (named : (x : Line) → lineOf (cutAt 58 (part h i e)) ≡ some x → b ≡ bucketOf (x .name)) (short : length h ≤ 8192) where
+  module _ (b : ℕ) (small : b < bucketCount) (named : (x : Line) → lineOf (cutAt 58 (part h i e)) ≡ some x → b ≡ bucketOf (x .name)) (short : length h ≤ maxHeaderLines) where
     abbrev last′ : Str
     last′ = set last b i
 
     abbrev before′ : Str
     before′ = set before (i / 3) (getD last b 0)
 
-    chains-on : (x : Line) → lineOf (cutAt 58 (part h i e)) ≡ some x → (n : ℕ) → n < 256 → Chain h before′ (e + 1) (getD last′ n 0) (only (inBucket n) (x ∷ j .back))
+    chains-on : (x : Line) → lineOf (cutAt 58 (part h i e)) ≡ some x → (n : ℕ) → n < bucketCount → Chain h before′ (e + 1) (getD last′ n 0) (only (inBucket n) (x ∷ j .back))
     chains-on x q n s =
         let low = k .low in
         by (inBucket n x)
@@ -227,7 +228,7 @@ pub record Gathering (key h before out : Str) (p at : ℕ) : Type 0 where
   pub high : at ≤ length out
   pub room : length out + top ≤ at + length h
 
-pub gathering-start : (key h last before out : Str) (b : ℕ) → Indexed h last before → b ≡ bucketOf key → b < 256 → Gathering key h before out (getD last b 0) (length out)
+pub gathering-start : (key h last before out : Str) (b : ℕ) → Indexed h last before → b ≡ bucketOf key → b < bucketCount → Gathering key h before out (getD last b 0) (length out)
 gathering-start key h last before out b x q s = record {
   top = length h;
   left = only (inBucket b) (x .back);
@@ -283,7 +284,7 @@ module _ (key h before out : Str) (p at e : ℕ) (l : p < length h) (k : Cut 10 
     pub linked-room : length h ≤ length out → length (part h p e) ≤ at
     linked-room w = omega (arith, linked-long, g .room, g .under, g .low)
 
-    pub linked-place : length h ≤ 8192 → length before ≡ 2731 → p / 3 < length before
+    pub linked-place : length h ≤ maxHeaderLines → length before ≡ placeCount → p / 3 < length before
     linked-place s q = let z = third-small p (omega arith) in omega (arith, q)
 
     -- a chain falls

@@ -10,6 +10,7 @@ use lib.Dec.{ltb}
 use lib.ListN.{length, take, drop, getD, length-drop, drop-of-length-le}
 use lib.Seq.{drop-cons, take-all, length-take-le}
 use borrow.Author.Tests.{eq-eqb, ne-eqb, lt-ltb, le-ltb, ltb-true, ltb-false, not-false}
+use Rattle.limits.specs.Limits.{maxRequestString, maxHeaderLines}
 use Rattle.text.specs.Test.{_and_, _or_, if_then_else_, all}
 use Rattle.text.specs.Byte.{isPrint}
 use Rattle.text.specs.String.{Str}
@@ -254,25 +255,25 @@ judging-done h i j l = sym (j .is ∙ ap readable (lines-over h i (j .fuel) l) �
 
 -- ---- 40 and 41
 
-pub bad-long : (h : Str) → 8192 < length h → true ≡ badHeaders h
+pub bad-long : (h : Str) → maxHeaderLines < length h → true ≡ badHeaders h
 unfolding badHeaders _or_
-bad-long h l = rw (lt-ltb 8192 (length h) l)
+bad-long h l = rw (lt-ltb maxHeaderLines (length h) l)
 
-pub bad-lines : (h : Str) (r : Bool) → length h ≤ 8192 → r ≡ readable (headersOf h) → not r ≡ badHeaders h
+pub bad-lines : (h : Str) (r : Bool) → length h ≤ maxHeaderLines → r ≡ readable (headersOf h) → not r ≡ badHeaders h
 unfolding badHeaders _or_
-bad-lines h r l e = rw (le-ltb 8192 (length h) l) (ap not e)
+bad-lines h r l e = rw (le-ltb maxHeaderLines (length h) l) (ap not e)
 
-pub text-long : (t : Str) → 256 < length t → true ≡ badText t
+pub text-long : (t : Str) → maxRequestString < length t → true ≡ badText t
 unfolding badText _or_
-text-long t l = rw (lt-ltb 256 (length t) l)
+text-long t l = rw (lt-ltb maxRequestString (length t) l)
 
-pub text-bytes : (t : Str) (r : Bool) → length t ≤ 256 → r ≡ all isPrint t → not r ≡ badText t
+pub text-bytes : (t : Str) (r : Bool) → length t ≤ maxRequestString → r ≡ all isPrint t → not r ≡ badText t
 unfolding badText _or_
-text-bytes t r l e = rw (le-ltb 256 (length t) l) (ap not e)
+text-bytes t r l e = rw (le-ltb maxRequestString (length t) l) (ap not e)
 
-pub headers-short : (h : Str) → badHeaders h ≡ false → length h ≤ 8192
+pub headers-short : (h : Str) → badHeaders h ≡ false → length h ≤ maxHeaderLines
 unfolding badHeaders
-headers-short h e = ltb-false 8192 (length h) (or-false-l _ _ e)
+headers-short h e = ltb-false maxHeaderLines (length h) (or-false-l _ _ e)
 
 pub headers-read : (h : Str) → badHeaders h ≡ false → readable (headersOf h) ≡ true
 unfolding badHeaders

@@ -1,22 +1,31 @@
 -- What the programs answer step by step: the header lines by bucket, a chain of lines for each, from the last to the first. Any bucket would do: only
 -- that equal names share one is used.
 use mathlib.Core.Path.{_≡_}
-use mathlib.Core.Bool.{Bool}
+use mathlib.Core.Bool.{Bool, false}
 use mathlib.Core.List.{List, [], _∷_}
 use mathlib.Core.Option.{some}
 use Prim.Native.Nat.{ℕ, _+_, _-_, _*_, _/_, _%_, _≤_, _<_}
 use lib.Dec.{eqb}
 use lib.ListN.{length, getD}
+use Rattle.limits.specs.Limits.{maxHeaderLines}
 use Rattle.text.specs.Test.{only}
 use Rattle.text.specs.String.{Str}
 use Rattle.text.specs.Frame.{part}
-use Rattle.rpc.specs.Request.{Line, cutAt, lineOf, headersOf}
+use Rattle.rpc.specs.Request.{Line, cutAt, lineOf, headersOf, badHeaders}
 use Rattle.rpc.specs.Call.{written}
 use Rattle.rpc_request.specs.Steps.{Cut}
 
+-- how many buckets; any number would do
+abbrev pub bucketCount : ℕ
+bucketCount = 256
+
+-- how many places: a line has three bytes or more, so no two lines have the same third of where they start
+abbrev pub placeCount : ℕ
+placeCount = maxHeaderLines / 3 + 1
+
 -- a number that equal names share
 unfoldable pub bucketOf : Str → ℕ
-bucketOf s = (length s % 256 + 3 * getD s 0 0 + 5 * getD s (length s / 2) 0 + 7 * getD s (length s - 1) 0) % 256
+bucketOf s = (length s % bucketCount + 3 * getD s 0 0 + 5 * getD s (length s / 2) 0 + 7 * getD s (length s - 1) 0) % bucketCount
 
 -- the name of a line has the bucket b
 unfoldable pub inBucket : ℕ → Line → Bool
@@ -31,19 +40,31 @@ pub record LineAt (h : Str) (p e : ℕ) (x : Line) : Type 0 where
 -- the lines l, the last first, that `before` links from p on; the first of them ends before `top`
 pub data Chain (h before : Str) : ℕ → ℕ → List Line → Type 0 where
   stop : {top p : ℕ} → length h ≤ p → Chain h before top p []
-  link : {top p e : ℕ} {x : Line} {l : List Line} → LineAt h p e x → e < top → Chain h before p (getD before (p / 3) 0) l → Chain h before top p (x ∷ l)
+  link : {top p e : ℕ} {x : Line} {l : List Line}
+      → LineAt h p e x → e < top → Chain h before p (getD before (p / 3) 0) l → Chain h before top p (x ∷ l)
 
 -- l, the last first, in front of r
 unfoldable pub onto : List Line → List Line → List Line
 onto [] r = r
 onto (x ∷ l) r = onto l (x ∷ r)
 
--- A chain for each bucket, from what `last` has for it. A line has three bytes or more, so those that start at different positions below 8,192 have
--- different places in `before`, 2,731 in all.
+-- good header lines, and the two arrays of their index before the first of them is in it
+pub record Blank (h last before : Str) : Type 0 where
+  pub good : badHeaders h ≡ false
+  pub buckets : length last ≡ bucketCount
+  pub places : length before ≡ placeCount
+  pub empty : (b : ℕ) → b < bucketCount → getD last b 0 ≡ maxHeaderLines
+
+-- a chain for each bucket, from what `last` has for it
 pub record Indexed (h last before : Str) : Type 0 where
   pub back : List Line
   pub is : written (headersOf h) ≡ onto back []
-  pub short : length h ≤ 8192
-  pub buckets : length last ≡ 256
-  pub places : length before ≡ 2731
-  pub chains : (b : ℕ) → b < 256 → Chain h before (length h) (getD last b 0) (only (inBucket b) back)
+  pub short : length h ≤ maxHeaderLines
+  pub buckets : length last ≡ bucketCount
+  pub places : length before ≡ placeCount
+  pub chains : (b : ℕ) → b < bucketCount → Chain h before (length h) (getD last b 0) (only (inBucket b) back)
+
+-- an index of the header lines, and room for the value of a header
+pub record Ready (h last before out : Str) : Type 0 where
+  pub indexed : Indexed h last before
+  pub room : maxHeaderLines ≤ length out

@@ -62,7 +62,7 @@ fn are_lines(h: &[u8]) -> bool
 pub fn is_bad_headers(h: &[u8]) -> bool
     ensures { λ r. ⌜ r ≡ badHeaders (now (h .entry)) ⌝ }
 {
-    if 8192 < h.len() {
+    if limits::MAX_HEADER_LINES < h.len() {
         return true;
     }
     !are_lines(h)

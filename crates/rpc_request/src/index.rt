@@ -1,17 +1,26 @@
 // The header lines by bucket, so that the lines of one name are found without a look at the others.
 ghost use mathlib.Core.Path.{_≡_};
-ghost use mathlib.Core.Bool.{true, false};
+ghost use mathlib.Core.Bool.{true};
 ghost use mathlib.Core.Option.{some};
-ghost use Prim.Native.Nat.{ℕ, _+_, _≤_, _<_};
-ghost use lib.ListN.{length, getD};
+ghost use Prim.Native.Nat.{_+_, _≤_, _<_};
+ghost use lib.ListN.{length};
 ghost use Rattle.text.specs.Fill.{Wrote};
-ghost use Rattle.rpc.specs.Request.{Line, cutAt, lineOf, readable, badHeaders};
+ghost use Rattle.rpc.specs.Request.{Line, cutAt, lineOf, readable};
 ghost use Rattle.rpc_request.specs.Steps.{lineValue, Joined};
-ghost use Rattle.rpc_request.specs.Index.{bucketOf, Indexed};
+ghost use Rattle.rpc_request.specs.Index.{bucketCount, bucketOf, Blank, Indexed, Ready};
+
+// The lengths of the two arrays of an index: any number of buckets would do; a line has three bytes or more, so no two lines have the same third of where
+// they start.
+pub const BUCKETS: usize = 256;
+
+pub const PLACES: usize = limits::MAX_HEADER_LINES / 3 + 1;
+
+// Stands for no line: no line starts there.
+pub const NO_LINE: u16 = limits::MAX_HEADER_LINES as u16;
 
 // A number that equal names share.
 fn bucket(name: &[u8]) -> usize
-    ensures { λ r. ⌜ (r ≡ bucketOf (now (name .entry))) × (r < 256) ⌝ }
+    ensures { λ r. ⌜ (r ≡ bucketOf (now (name .entry))) × (r < bucketCount) ⌝ }
 {
     let n = name.len();
     if n == 0 {
@@ -20,22 +29,21 @@ fn bucket(name: &[u8]) -> usize
     let first = name[0] as usize;
     let middle = name[n / 2] as usize;
     let last = name[n - 1] as usize;
-    (n % 256 + 3 * first + 5 * middle + 7 * last) % 256
+    (n % BUCKETS + 3 * first + 5 * middle + 7 * last) % BUCKETS
 }
 
 // The bucket of a line's name.
 fn line_bucket(l: &[u8]) -> usize
     requires { ⌜ readable (lineOf (cutAt 58 (now l))) ≡ true ⌝ }
-    ensures { λ r. ⌜ (r < 256) × ((x : Line) → lineOf (cutAt 58 (now (l .entry))) ≡ some x → r ≡ bucketOf (x .name)) ⌝ }
+    ensures { λ r. ⌜ (r < bucketCount) × ((x : Line) → lineOf (cutAt 58 (now (l .entry))) ≡ some x → r ≡ bucketOf (x .name)) ⌝ }
 {
     let c = crate::headers::byte_from(l, 0, b':');
     bucket(&l[0..c])
 }
 
-// Stores where the last line of each bucket starts and, at a third of where a line starts, where the line of its bucket before it does; 8192 stands for
-// none. A line has three bytes or more.
+// Stores where the last line of each bucket starts and, at a third of where a line starts, where the line of its bucket before it does.
 pub fn index_lines(h: &[u8], last: &mut [u16], before: &mut [u16])
-    requires { ⌜ (badHeaders (now h) ≡ false) × (length (now last) ≡ 256) × (length (now before) ≡ 2731) × ((b : ℕ) → b < 256 → getD (now last) b 0 ≡ 8192) ⌝ }
+    requires { ⌜ Blank (now h) (now last) (now before) ⌝ }
     ensures { λ _. ⌜ Indexed (now (h .entry)) (now (last .exit)) (now (before .exit)) ⌝ }
 {
     let n = h.len();
@@ -53,7 +61,8 @@ pub fn index_lines(h: &[u8], last: &mut [u16], before: &mut [u16])
 // starts.
 fn join_line(l: &[u8], key: &[u8], out: &mut [u8], at: usize) -> usize
     requires { ⌜ (readable (lineOf (cutAt 58 (now l))) ≡ true) × (length (now l) ≤ at) × (at ≤ length (now out)) ⌝ }
-    ensures { λ r. ⌜ Wrote (now (out .entry)) r (lineValue (now (key .entry)) (now (l .entry))) (now (out .exit)) at × (at ≤ r + length (now (l .entry))) ⌝ }
+    ensures { λ r. ⌜ Wrote (now (out .entry)) r (lineValue (now (key .entry)) (now (l .entry))) (now (out .exit)) at
+        × (at ≤ r + length (now (l .entry))) ⌝ }
 {
     let c = crate::headers::byte_from(l, 0, b':');
     if !text::string::is_same(&l[0..c], key) {
@@ -76,7 +85,7 @@ pub struct Span {
 
 // The value of the header `key`, at the end of `out`: the values of its lines, each after a comma, without the first comma.
 pub fn header_value(h: &[u8], last: &[u16], before: &[u16], key: &[u8], out: &mut [u8]) -> Span
-    requires { ⌜ Indexed (now h) (now last) (now before) × (8192 ≤ length (now out)) ⌝ }
+    requires { ⌜ Ready (now h) (now last) (now before) (now out) ⌝ }
     ensures { λ r. ⌜ Joined (now (key .entry)) (now (h .entry)) (now (out .exit)) r ⌝ }
 {
     let n = h.len();

@@ -6,13 +6,13 @@ ghost use Rattle.rpc.specs.Request.{badText, requestFault};
 fn is_bad_text(t: &[u8]) -> bool
     ensures { λ r. ⌜ r ≡ badText (now (t .entry)) ⌝ }
 {
-    if 256 < t.len() {
+    if limits::MAX_REQUEST_STRING < t.len() {
         return true;
     }
     !text::string::all_print(t)
 }
 
-// The refusal number of a request; 255 where there is none.
+// The refusal number of a request; `CLEAR` where there is none.
 pub fn request_fault(identity: &[u8], path: &[u8], headers: &[u8]) -> u8
     ensures { λ r. ⌜ r ≡ requestFault (now (identity .entry)) (now (path .entry)) (now (headers .entry)) ⌝ }
 {
@@ -25,5 +25,5 @@ pub fn request_fault(identity: &[u8], path: &[u8], headers: &[u8]) -> u8
     if crate::headers::is_bad_headers(headers) {
         return 41;
     }
-    255
+    limits::CLEAR
 }

@@ -8,6 +8,7 @@ use native.Mathlib.Omega.{arith}
 use borrow.Author.Tests.{eq-eqb, ne-eqb}
 use Rattle.text.specs.Test.{_or_, if_then_else_}
 use Rattle.text.specs.String.{Str, bytes}
+use Rattle.text.specs.Refusal.{clear}
 use Rattle.text.proofs.Tests.{by}
 use Rattle.rfc8259.specs.Json.{Json}
 use Rattle.json.specs.Scan.{whiteAt}
@@ -62,13 +63,13 @@ module _ (r : Request) (j : Json) where
 
 -- ---- rpc_verdict
 
-unless-refused : (n : ℕ) (v : Verdict) → (n ≡ 255 → ⊥) → unless n v ≡ Refused n
+unless-refused : (n : ℕ) (v : Verdict) → (n ≡ clear → ⊥) → unless n v ≡ Refused n
 unfolding unless if_then_else_
-unless-refused n v h = rw (ne-eqb n 255 h)
+unless-refused n v h = rw (ne-eqb n clear h)
 
-unless-clear : (n : ℕ) (v : Verdict) → n ≡ 255 → unless n v ≡ v
+unless-clear : (n : ℕ) (v : Verdict) → n ≡ clear → unless n v ≡ v
 unfolding unless if_then_else_
-unless-clear n v h = rw (eq-eqb n 255 h)
+unless-clear n v h = rw (eq-eqb n clear h)
 
 by-policy : (p : Policy) (r : Request) → verdictBy (some p) r ≡ verdict p r
 unfolding verdictBy
@@ -82,15 +83,15 @@ module _ (policy identity path headers : Str) where
   pub policy-refused : (n : ℕ) → check.Refused n ≡ checkOf (judgement policy) → Refused n ≡ rpcVerdict policy identity path headers
   policy-refused n h = let z = refused-is n (judgement policy) h in ap Refused (z .0) ∙ sym (call-open ∙ unless-refused _ _ (z .1))
 
-  module _ (c : judgement policy ≡ 255) where
-    pub request-refused : (n : ℕ) → n ≡ requestFault identity path headers → (n ≡ 255 → ⊥) → Refused n ≡ rpcVerdict policy identity path headers
+  module _ (c : judgement policy ≡ clear) where
+    pub request-refused : (n : ℕ) → n ≡ requestFault identity path headers → (n ≡ clear → ⊥) → Refused n ≡ rpcVerdict policy identity path headers
     request-refused n e z = ap Refused e ∙ sym (call-open ∙ unless-clear _ _ c ∙ unless-refused _ _ (λ x. z (e ∙ x)))
 
-    pub request-judged : (i : ℕ) → i ≡ whiteAt policy 0 → requestFault identity path headers ≡ 255 → (v : Verdict) → v ≡ verdict (policyIn (treeAt 16 policy i)) (request identity path headers) → v ≡ rpcVerdict policy identity path headers
+    pub request-judged : (i : ℕ) → i ≡ whiteAt policy 0 → requestFault identity path headers ≡ clear → (v : Verdict) → v ≡ verdict (policyIn (treeAt 16 policy i)) (request identity path headers) → v ≡ rpcVerdict policy identity path headers
     request-judged i w f v e = e ∙ sym (call-open ∙ unless-clear _ _ c ∙ unless-clear _ _ f ∙ ap (λ (o : Option Policy). verdictBy o (request identity path headers)) (policy-is policy c i w) ∙ by-policy _ _)
 
-pub headers-good : (identity path headers : Str) → requestFault identity path headers ≡ 255 → badHeaders headers ≡ false
+pub headers-good : (identity path headers : Str) → requestFault identity path headers ≡ clear → badHeaders headers ≡ false
 unfolding requestFault if_then_else_
 headers-good identity path headers e =
-    by (badText identity or badText path) (λ t. let z : _≡_ {A = ℕ} 40 255 = rw t at e in absurd (omega arith))
-    (λ t. by (badHeaders headers) (λ u. let z : _≡_ {A = ℕ} 41 255 = rw (t, u) at e in absurd (omega arith)) (λ u. u))
+    by (badText identity or badText path) (λ t. let z : _≡_ {A = ℕ} 40 clear = rw t at e in absurd (omega arith))
+    (λ t. by (badHeaders headers) (λ u. let z : _≡_ {A = ℕ} 41 clear = rw (t, u) at e in absurd (omega arith)) (λ u. u))

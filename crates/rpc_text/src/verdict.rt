@@ -13,12 +13,13 @@ use rpc::verdict::Verdict;
 // The policy at i: deny rules first, then allow rules.
 fn verdict_at(s: &[u8], i: usize, identity: &[u8], path: &[u8], headers: &[u8]) -> Verdict
     requires { ⌜ Stands 16 (now s) i × (badHeaders (now headers) ≡ false) ⌝ }
-    ensures { λ r. ⌜ r ≡ verdict (policyIn (treeAt 16 (now (s .entry)) i)) (request (now (identity .entry)) (now (path .entry)) (now (headers .entry))) ⌝ }
+    ensures { λ r. ⌜ r ≡ verdict (policyIn (treeAt 16 (now (s .entry)) i))
+        (request (now (identity .entry)) (now (path .entry)) (now (headers .entry))) ⌝ }
 {
-    let mut last = [8192u16; 256];
-    let mut before = [0u16; 2731];
+    let mut last = [rpc_request::index::NO_LINE; rpc_request::index::BUCKETS];
+    let mut before = [0u16; rpc_request::index::PLACES];
     rpc_request::index::index_lines(headers, &mut last, &mut before);
-    let mut out = [0u8; 8192];
+    let mut out = [0u8; limits::MAX_HEADER_LINES];
     let d = policy_text::place::member_at(s, i, b"deny_rules", 16);
     let denied = crate::rule::first_rule(s, d, identity, path, headers, &last, &before, &mut out);
     if let First::At(n) = denied {
@@ -41,7 +42,7 @@ pub fn rpc_verdict(policy: &[u8], identity: &[u8], path: &[u8], headers: &[u8]) 
         return Verdict::Refused(number);
     }
     let number = rpc_request::request::request_fault(identity, path, headers);
-    if number != 255 {
+    if number != limits::CLEAR {
         return Verdict::Refused(number);
     }
     let i = json::scan::skip_white(policy, 0);

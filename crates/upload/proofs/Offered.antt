@@ -5,6 +5,7 @@ use native.Mathlib.Omega.{arith}
 use borrow.Author.Tests.{eq-eqb, ne-eqb, eqb-true, ltb-false}
 use lib.Dec.{eqb, ltb}
 use lib.ListN.{length}
+use Rattle.limits.specs.Limits.{maxTableText, maxPolicyText, slotLength, storeLength}
 use Rattle.text.specs.Test.{if_then_else_}
 use Rattle.text.specs.String.{Str}
 use Rattle.text.specs.Fill.{put}
@@ -26,23 +27,23 @@ use Rattle.upload.specs.Offered.{ofPolicy, offeredCheck}
 pub never : {X : Type 0} (n l : ℕ) → Refused n l ≡ Accepted → X
 never n l e = let z : _≡_ {A = ℕ} 0 1 = cc in absurd (omega arith)
 
-table-short : (text : Str) → check text ≡ Accepted → length text ≤ 32768
+table-short : (text : Str) → check text ≡ Accepted → length text ≤ maxTableText
 unfolding check if_then_else_
-table-short text e = by (ltb 32768 (length text)) (λ t. never 1 0 (rw t at e)) (λ t. ltb-false 32768 (length text) t)
+table-short text e = by (ltb maxTableText (length text)) (λ t. never 1 0 (rw t at e)) (λ t. ltb-false maxTableText (length text) t)
 
 of-policy-accepted : (n : ℕ) → ofPolicy (checkOf n) ≡ Accepted → n ≡ clear
 unfolding ofPolicy checkOf if_then_else_
 of-policy-accepted n e = by (eqb n clear) (λ t. eqb-true n clear t) (λ t. never n 0 (rw t at e))
 
-policy-short : (text : Str) → judgement text ≡ clear → length text ≤ 16384
+policy-short : (text : Str) → judgement text ≡ clear → length text ≤ maxPolicyText
 unfolding judgement if_then_else_
-policy-short text e = by (ltb 16384 (length text)) (λ t. let z : _≡_ {A = ℕ} 30 255 = rw t at e in absurd (omega arith)) (λ t. ltb-false 16384 (length text) t)
+policy-short text e = by (ltb maxPolicyText (length text)) (λ t. let z : _≡_ {A = ℕ} 30 clear = rw t at e in absurd (omega arith)) (λ t. ltb-false maxPolicyText (length text) t)
 
-pub offered-short : (kind : ℕ) (text : Str) → offeredCheck kind text ≡ Accepted → length text ≤ 32768
+pub offered-short : (kind : ℕ) (text : Str) → offeredCheck kind text ≡ Accepted → length text ≤ slotLength
 unfolding offeredCheck if_then_else_
 offered-short kind text e =
     by (eqb kind 1)
-    (λ t. let h : length text ≤ 16384 = policy-short text (of-policy-accepted (judgement text) (rw t at e)) in omega arith)
+    (λ t. let h : length text ≤ maxPolicyText = policy-short text (of-policy-accepted (judgement text) (rw t at e)) in omega arith)
     (λ t. table-short text (rw t at e))
 
 -- ---- the check
@@ -72,20 +73,20 @@ module _ (r : Record) (n : ℕ) (text : Str) where
   unfolding unless if_then_else_
   accepted-long number c e = by (eqb number clear) (λ t. (eqb-true number clear t, rw t at e)) (λ t. never number 0 (rw t at e))
 
-  long-store : (own : ℕ) → recordRefusal r n own ≡ clear → 65536 ≤ n
+  long-store : (own : ℕ) → recordRefusal r n own ≡ clear → storeLength ≤ n
   unfolding recordRefusal shortStore if_then_else_
-  long-store own e = by (ltb n 65536) (λ t. let z : _≡_ {A = ℕ} 11 255 = rw t at e in absurd (omega arith)) (λ t. ltb-false n 65536 t)
+  long-store own e = by (ltb n storeLength) (λ t. let z : _≡_ {A = ℕ} 11 clear = rw t at e in absurd (omega arith)) (λ t. ltb-false n storeLength t)
 
-  upload-long : uploadAnswer offeredCheck r n text ≡ Accepted → 65536 ≤ n
+  upload-long : uploadAnswer offeredCheck r n text ≡ Accepted → storeLength ≤ n
   unfolding uploadAnswer offRefusal
   upload-long e = long-store _ (accepted-long _ _ e .0)
 
-  pub upload-short : uploadAnswer offeredCheck r n text ≡ Accepted → length text ≤ 32768
+  pub upload-short : uploadAnswer offeredCheck r n text ≡ Accepted → length text ≤ slotLength
   unfolding uploadAnswer
   upload-short e = offered-short (r .kind) text (accepted-long _ _ e .1)
 
-  pub upload-room : (slot : ℕ) → slot ≡ candidateSlot r → uploadAnswer offeredCheck r n text ≡ Accepted → slotStart slot + 32768 ≤ n
-  upload-room slot e a = let low : slot ≤ 1 = rw e (candidate-low r) in omega (arith, upload-long a)
+  pub upload-room : (slot start : ℕ) → slot ≡ candidateSlot r → start ≡ slotStart slot → uploadAnswer offeredCheck r n text ≡ Accepted → start + slotLength ≤ n
+  upload-room slot start e f a = let low : slot ≤ 1 = rw e (candidate-low r) in omega (arith, f, upload-long a)
 
 -- what is left after a refusal, and after an accepted upload
 module _ (r : Record) (store text : Str) (c : Checked) (answered : c ≡ uploadAnswer offeredCheck r (length store) text) where
@@ -106,8 +107,9 @@ module _ (r : Record) (store text : Str) (c : Checked) (answered : c ≡ uploadA
   unfolding storedBy
   put-stores c e = rw e
 
-  pub upload-accepted : (s : Stepped) (next : Record) (slot : ℕ) (after : Str) → c ≡ Accepted → slot ≡ candidateSlot r → next ≡ uploaded r (length text) → s ≡ stepped c r next → after ≡ put store (slotStart slot) text
+  pub upload-accepted : (s : Stepped) (next : Record) (slot start : ℕ) (after : Str)
+      → c ≡ Accepted → slot ≡ candidateSlot r → start ≡ slotStart slot → next ≡ uploaded r (length text) → s ≡ stepped c r next → after ≡ put store start text
       → (s ≡ upload offeredCheck r (length store) text) × (after ≡ uploadStore offeredCheck r store text)
   unfolding upload uploadStore
-  upload-accepted s next slot after e f g h i =
-      (h ∙ rw g (ap (λ (k : Checked). stepped k r (uploaded r (length text))) answered), i ∙ rw f (put-stores c e ∙ ap (λ (k : Checked). storedBy k r store text) answered))
+  upload-accepted s next slot start after e f k g h i =
+      (h ∙ rw g (ap (λ (k : Checked). stepped k r (uploaded r (length text))) answered), i ∙ rw (k, f) (put-stores c e ∙ ap (λ (k : Checked). storedBy k r store text) answered))

@@ -2,8 +2,8 @@
 ghost use mathlib.Core.Path.{_≡_};
 ghost use Prim.Native.Nat.{_+_, _≤_};
 ghost use lib.ListN.{length};
+ghost use Rattle.limits.specs.Limits.{slotLength};
 ghost use Rattle.text.specs.Fill.{put};
-ghost use Rattle.rotation.specs.State.{slotStart};
 ghost use Rattle.rotation.specs.Calls.{uploadAnswer, upload, uploadStore};
 ghost use Rattle.upload.specs.Offered.{ofPolicy, offeredCheck};
 use policy_text::check::Check;
@@ -39,7 +39,7 @@ fn answer(r: Record, n: usize, text: &[u8]) -> Checked
     ensures { λ c. ⌜ c ≡ uploadAnswer offeredCheck r n (now (text .entry)) ⌝ }
 {
     let number = rotation_step::off_refusal(r, n);
-    if number != 255 {
+    if number != limits::CLEAR {
         return Checked::Refused {
             number: number,
             line: 0,
@@ -49,23 +49,25 @@ fn answer(r: Record, n: usize, text: &[u8]) -> Checked
 }
 
 // The text goes to the start of a slot.
-fn store_at(slot: u32, text: &[u8], store: &mut [u8])
-    requires { ⌜ (slotStart slot + 32768 ≤ length (now store)) × (length (now text) ≤ 32768) ⌝ }
-    ensures { λ u. ⌜ now (store .exit) ≡ put (now (store .entry)) (slotStart slot) (now (text .entry)) ⌝ }
+fn store_at(start: usize, text: &[u8], store: &mut [u8])
+    requires { ⌜ (start + slotLength ≤ length (now store)) × (length (now text) ≤ slotLength) ⌝ }
+    ensures { λ u. ⌜ now (store .exit) ≡ put (now (store .entry)) start (now (text .entry)) ⌝ }
 {
-    text::fill::copy(text, store, slot as usize * 32768);
+    text::fill::copy(text, store, start);
 }
 
 // The whole text is checked, then stored to the slot that is not live.
 pub fn upload(r: Record, store: &mut [u8], text: &[u8]) -> Stepped
-    ensures { λ s. ⌜ (s ≡ upload offeredCheck r (length (now (store .entry))) (now (text .entry))) × (now (store .exit) ≡ uploadStore offeredCheck r (now (store .entry)) (now (text .entry))) ⌝ }
+    ensures { λ s. ⌜ (s ≡ upload offeredCheck r (length (now (store .entry))) (now (text .entry)))
+        × (now (store .exit) ≡ uploadStore offeredCheck r (now (store .entry)) (now (text .entry))) ⌝ }
 {
     let n = store.len();
     let c = answer(r, n, text);
     let Checked::Accepted = c else {
         return rotation_step::settle(c, r, r);
     };
-    store_at(rotation::state::candidate_slot(r), text, store);
+    let slot = rotation::state::candidate_slot(r);
+    store_at(rotation::state::slot_start(slot), text, store);
     let len = text.len();
     let next = rotation_step::with_candidate(r, len as u32);
     rotation_step::settle(c, r, next)

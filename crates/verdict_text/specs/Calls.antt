@@ -1,5 +1,5 @@
 -- The answers of the two verdict calls, over the texts that they are given.
-use Prim.Native.Nat.{ℕ, _+_, _*_, _%_}
+use Prim.Native.Nat.{ℕ}
 use mathlib.Core.Bool.{Bool, true, false, not}
 use mathlib.Core.List.{[]}
 use mathlib.Core.Option.{Option, none, some}
@@ -77,13 +77,6 @@ unfoldable pub pathVerdict : Str → Str → ℕ → Str → Str → PathAnswer
 pathVerdict table user mode origin text =
     pathAnswer (check table) (requestRefusal user mode origin text) (decider (tableOf table) (request user mode origin text))
 
--- the answer word: the action from bit 8 on, the rule's number + 1 from bit 16 on; or the refusal's number, and its line from bit 8 on
-unfoldable pub pathWord : PathAnswer → ℕ
-pathWord (path.Permit r) = 256 + 65536 * (r .0 + 1)
-pathWord (path.Deny r) = 65536 * (r .0 + 1)
-pathWord path.Default = 0
-pathWord (path.Refused n l) = n + 256 * (l % 4294967296)
-
 -- ---- the tree verdict
 
 -- "with MIXED that number comes beside it"
@@ -101,10 +94,3 @@ treeAnswer checked.Accepted number w = if eqb number clear then spread w else tr
 unfoldable pub treeVerdict : Str → Str → ℕ → Str → Str → TreeAnswer
 treeVerdict table user mode origin text =
     treeAnswer (check table) (requestRefusal user mode origin text) (tree (tableOf table) (request user mode origin text))
-
--- the answer word: 0 NONE, 1 ALL, 2 MIXED from bit 8 on, and with MIXED the rule's number + 1 from bit 16 on; a refusal as above
-unfoldable pub treeWord : TreeAnswer → ℕ
-treeWord trees.All = 256
-treeWord trees.None = 0
-treeWord (trees.Mixed r) = 512 + 65536 * (r .0 + 1)
-treeWord (trees.Refused n l) = n + 256 * (l % 4294967296)

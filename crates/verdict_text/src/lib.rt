@@ -1,7 +1,6 @@
 // Requests and answers of the single-path verdict and the tree verdict.
 pub mod answer;
 pub mod request;
-pub mod word;
 
 use table::RuleNumber;
 

@@ -1,7 +1,7 @@
 -- The word of what `path_verdict` answers.
 use borrow.Author.Needs.{needs}
 use mathlib.Core.Path.{ap, _∙_}
-use Rattle.verdict_text.specs.Calls.{pathWord}
+use Rattle.burgee.specs.Word.{pathWord}
 use Rattle.burgee.proofs.burgee_path_verdict.Statement.{statement}
 use Rattle.burgee.proofs.burgee_path_verdict.Tie as tie
 

@@ -1,7 +1,7 @@
 -- The word of what `tree_verdict` answers.
 use borrow.Author.Needs.{needs}
 use mathlib.Core.Path.{ap, _∙_}
-use Rattle.verdict_text.specs.Calls.{treeWord}
+use Rattle.burgee.specs.Word.{treeWord}
 use Rattle.burgee.proofs.burgee_tree_verdict.Statement.{statement}
 use Rattle.burgee.proofs.burgee_tree_verdict.Tie as tie
 

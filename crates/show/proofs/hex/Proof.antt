@@ -5,6 +5,7 @@ use lib.ListN.{length}
 use Rattle.show.proofs.hex.Statement.{statement}
 use Rattle.show.proofs.hex.Tie as tie
 
+-- i is within s
 abbrev Inv-loop : tie.InvT-loop
 Inv-loop s i₀ i = i ≤ length s
 

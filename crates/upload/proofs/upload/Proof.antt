@@ -27,18 +27,22 @@ returns c =
 candidate-slot-requires : tie.Need-candidate-slot-requires
 candidate-slot-requires c κs = search needs
 
+slot-start-requires : tie.Need-slot-start-requires
+slot-start-requires c κs = search needs
+
 store-at-requires : tie.Need-store-at-requires
 store-at-requires c κs =
-    let at-candidate-slot = c .before .candidate-slot in
-    let at-enum-told = c .before .before .enum-told in
-    let at-answer = c .before .before .before .before .answer in
+    let at-slot-start = c .before .slot-start in
+    let at-candidate-slot = c .before .before .candidate-slot in
+    let at-enum-told = c .before .before .before .enum-told in
+    let at-answer = c .before .before .before .before .before .answer in
     let accepted = sym (at-answer .ensures) ∙ at-enum-told .given .1 in
-    (upload-room _ _ _ _ (at-candidate-slot .ensures) accepted, upload-short _ _ _ accepted)
+    (upload-room _ _ _ _ _ (at-candidate-slot .ensures) (at-slot-start .ensures) accepted, upload-short _ _ _ accepted)
 
 cast-with-candidate : tie.Need-cast-with-candidate
 cast-with-candidate c =
-    let at-enum-told = c .before .before .before .before .before .enum-told in
-    let at-answer = c .before .before .before .before .before .before .before .answer in
+    let at-enum-told = c .before .before .before .before .before .before .enum-told in
+    let at-answer = c .before .before .before .before .before .before .before .before .answer in
     omega (arith, upload-short _ _ _ (sym (at-answer .ensures) ∙ at-enum-told .given .1))
 
 with-candidate-requires : tie.Need-with-candidate-requires
@@ -55,10 +59,11 @@ returns-2 c =
     let at-settle2 = c .settle2 in
     let at-with-candidate = c .before .with-candidate in
     let at-store-at = c .before .before .before .before .store-at in
-    let at-candidate-slot = c .before .before .before .before .before .before .candidate-slot in
-    let at-enum-told = c .before .before .before .before .before .before .before .enum-told in
-    let at-answer = c .before .before .before .before .before .before .before .before .before .answer in
-    upload-accepted _ _ _ _ (at-answer .ensures) _ _ _ _ (at-enum-told .given .1) (at-candidate-slot .ensures) (at-with-candidate .ensures) (at-settle2 .ensures) (at-store-at .ensures)
+    let at-slot-start = c .before .before .before .before .before .before .slot-start in
+    let at-candidate-slot = c .before .before .before .before .before .before .before .candidate-slot in
+    let at-enum-told = c .before .before .before .before .before .before .before .before .enum-told in
+    let at-answer = c .before .before .before .before .before .before .before .before .before .before .answer in
+    upload-accepted _ _ _ _ (at-answer .ensures) _ _ _ _ _ (at-enum-told .given .1) (at-candidate-slot .ensures) (at-slot-start .ensures) (at-with-candidate .ensures) (at-settle2 .ensures) (at-store-at .ensures)
 
 pub upload-spec : {M : Type 1} → statement M
 upload-spec =
@@ -70,6 +75,7 @@ upload-spec =
     settle-requires
     returns
     candidate-slot-requires
+    slot-start-requires
     store-at-requires
     cast-with-candidate
     with-candidate-requires

@@ -1,7 +1,7 @@
 -- The word of what `probe_path` answers.
 use borrow.Author.Needs.{needs}
 use mathlib.Core.Path.{ap, _∙_}
-use Rattle.verdict_text.specs.Calls.{pathWord}
+use Rattle.burgee.specs.Word.{pathWord}
 use Rattle.burgee.proofs.probes.burgee_probe_path.Statement.{statement}
 use Rattle.burgee.proofs.probes.burgee_probe_path.Tie as tie
 

@@ -1,7 +1,7 @@
 -- The word of what `probe_tree` answers.
 use borrow.Author.Needs.{needs}
 use mathlib.Core.Path.{ap, _∙_}
-use Rattle.verdict_text.specs.Calls.{treeWord}
+use Rattle.burgee.specs.Word.{treeWord}
 use Rattle.burgee.proofs.probes.burgee_probe_tree.Statement.{statement}
 use Rattle.burgee.proofs.probes.burgee_probe_tree.Tie as tie
 

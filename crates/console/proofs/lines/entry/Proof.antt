@@ -5,6 +5,7 @@ use lib.ListN.{length}
 use Rattle.console.proofs.lines.entry.Statement.{statement}
 use Rattle.console.proofs.lines.entry.Tie as tie
 
+-- at is within the text
 abbrev Inv-loop : tie.InvT-loop
 Inv-loop text key at₀ at = at ≤ length text
 

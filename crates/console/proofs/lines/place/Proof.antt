@@ -5,6 +5,7 @@ use lib.ListN.{length}
 use Rattle.console.proofs.lines.place.Statement.{statement}
 use Rattle.console.proofs.lines.place.Tie as tie
 
+-- at is within the text, and no fewer bytes than lines are passed
 abbrev Inv-loop : tie.InvT-loop
 Inv-loop text word n₀ at₀ n at = (n ≤ at) × (at ≤ length text)
 

@@ -5,6 +5,7 @@ use lib.ListN.{length}
 use Rattle.console.proofs.lines.start.Statement.{statement}
 use Rattle.console.proofs.lines.start.Tie as tie
 
+-- at is within the text
 abbrev Inv-loop : tie.InvT-loop
 Inv-loop text n at₀ left₀ at left = at ≤ length text
 

@@ -5,6 +5,7 @@ use lib.ListN.{length}
 use Rattle.console.proofs.rows.find.Statement.{statement}
 use Rattle.console.proofs.rows.find.Tie as tie
 
+-- at is within the text
 abbrev Inv-loop : tie.InvT-loop
 Inv-loop text kind number left₀ at₀ left at = at ≤ length text
 

@@ -6,6 +6,7 @@ use lib.ListN.{length}
 use Rattle.console.proofs.say.printable_end.Statement.{statement}
 use Rattle.console.proofs.say.printable_end.Tie as tie
 
+-- i is within s, and not before `at`
 abbrev Inv-loop : tie.InvT-loop
 Inv-loop s at i₀ i = (at ≤ i) × (i ≤ length s)
 

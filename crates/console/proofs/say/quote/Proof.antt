@@ -6,6 +6,7 @@ use lib.ListN.{length}
 use Rattle.console.proofs.say.quote.Statement.{statement}
 use Rattle.console.proofs.say.quote.Tie as tie
 
+-- at is within s
 abbrev Inv-loop : tie.InvT-loop
 Inv-loop s at₀ t3 at = at ≤ length s
 

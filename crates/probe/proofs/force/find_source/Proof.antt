@@ -1,6 +1,6 @@
 use borrow.Author.Needs.{needs}
 use Rattle.probe.specs.Source.{placed}
-use Rattle.probe.proofs.Sources.{source-refused, source-placed}
+use Rattle.probe.proofs.Sources.{source-refused, source-placed, source-part}
 use Rattle.probe.proofs.force.find_source.Statement.{statement}
 use Rattle.probe.proofs.force.find_source.Tie as tie
 
@@ -31,11 +31,8 @@ returns-2 c =
     let at-probe-refusal = c .before .before .before .before .probe-refusal in
     source-placed _ _ _ _ (at-probe-refusal .ensures) (at-if1 .left) _ (at-in-force .ensures) _ (at-enum-told .given .1)
 
-cast-start : tie.Need-cast-start
-cast-start c = search needs
-
-mul-start : tie.Need-mul-start
-mul-start c = search needs
+slot-start-requires : tie.Need-slot-start-requires
+slot-start-requires c κs = search needs
 
 cast-t10 : tie.Need-cast-t10
 cast-t10 c = search needs
@@ -44,13 +41,13 @@ add-t11 : tie.Need-add-t11
 add-t11 c = search needs
 
 returns-3 : tie.Need-returns-3
-unfolding placed
 returns-3 c =
-    let at-force = c .before .force in
-    let at-in-force = c .before .before .before .in-force in
-    let at-if1 = c .before .before .before .before .if1 in
-    let at-probe-refusal = c .before .before .before .before .before .probe-refusal in
-    source-placed _ _ _ _ (at-probe-refusal .ensures) (at-if1 .left) _ (at-in-force .ensures) _ (at-force .given .1)
+    let at-slot-start = c .slot-start in
+    let at-force = c .before .before .force in
+    let at-in-force = c .before .before .before .before .in-force in
+    let at-if1 = c .before .before .before .before .before .if1 in
+    let at-probe-refusal = c .before .before .before .before .before .before .probe-refusal in
+    source-part _ _ _ _ (at-probe-refusal .ensures) (at-if1 .left) _ (at-in-force .ensures) _ _ _ (at-force .given .1) (at-slot-start .ensures)
 
 pub find-source-spec : {M : Type 1} → statement M
 find-source-spec =
@@ -62,8 +59,7 @@ find-source-spec =
     enum-known-force
     enum-told
     returns-2
-    cast-start
-    mul-start
+    slot-start-requires
     cast-t10
     add-t11
     returns-3)

@@ -8,6 +8,7 @@ use Rattle.rpc_request.proofs.Chains.{Gathering, gathering-start, steps
 use Rattle.rpc_request.proofs.index.header_value.Statement.{statement}
 use Rattle.rpc_request.proofs.index.header_value.Tie as tie
 
+-- the values of the lines that are passed stand from `at` on, those of the chain from p on are still to be stored in front of them
 abbrev Inv-loop : tie.InvT-loop
 Inv-loop h last before key out₀ n end b p₀ at₀ out p at = (length out ≡ length out₀) × Gathering key h before out p at
 
@@ -26,7 +27,7 @@ shared-slice-read-p : tie.Need-shared-slice-read-p Inv-loop μ-loop
 shared-slice-read-p c =
     let at-bucket = c .before .bucket in
     let at-start = c .before .before .before .before .before .before .before in
-    omega (arith, at-bucket .ensures .1, at-start .pre .0 .buckets)
+    omega (arith, at-bucket .ensures .1, at-start .pre .indexed .buckets)
 
 cast-p : tie.Need-cast-p Inv-loop μ-loop
 cast-p c =
@@ -38,7 +39,7 @@ loop-holds : tie.Need-loop-holds Inv-loop μ-loop
 loop-holds c =
     let at-bucket = c .before .bucket in
     let at-start = c .before .before .before .before .before .before .before in
-    (refl, gathering-start _ _ _ _ _ _ (at-start .pre .0) (at-bucket .ensures .0) (at-bucket .ensures .1))
+    (refl, gathering-start _ _ _ _ _ _ (at-start .pre .indexed) (at-bucket .ensures .0) (at-bucket .ensures .1))
 
 byte-from-requires : tie.Need-byte-from-requires Inv-loop μ-loop
 byte-from-requires c κs = search needs
@@ -58,12 +59,12 @@ join-line-requires c κs =
     let at-loop-test = c .before .before .before .loop-test in
     let at-loop = c .before .before .before .before .loop in
     let at-start = c .before .before .before .before .before .before .before .before .before .before .before .before in
-    let g = linked _ _ _ _ _ _ _ (at-loop-test .taken) (at-byte-from .ensures) (at-loop .inv .1) in (linked-line _ _ _ _ _ _ _ (at-loop-test .taken) (at-byte-from .ensures) g, linked-room _ _ _ _ _ _ _ (at-loop-test .taken) (at-byte-from .ensures) g (omega (arith, at-loop .inv .0, at-start .pre .1, at-start .pre .0 .short)), g .high)
+    let g = linked _ _ _ _ _ _ _ (at-loop-test .taken) (at-byte-from .ensures) (at-loop .inv .1) in (linked-line _ _ _ _ _ _ _ (at-loop-test .taken) (at-byte-from .ensures) g, linked-room _ _ _ _ _ _ _ (at-loop-test .taken) (at-byte-from .ensures) g (omega (arith, at-loop .inv .0, at-start .pre .room, at-start .pre .indexed .short)), g .high)
 
 mul-p-2 : tie.Need-mul-p-2 Inv-loop μ-loop
 mul-p-2 c =
     let at-start = c .before .before .before .before .before .before .before .before .before .before .before .before .before .before .before in
-    omega (arith, at-start .pre .0 .short)
+    omega (arith, at-start .pre .indexed .short)
 
 shared-slice-read-p-2 : tie.Need-shared-slice-read-p-2 Inv-loop μ-loop
 shared-slice-read-p-2 c =
@@ -71,7 +72,7 @@ shared-slice-read-p-2 c =
     let at-loop-test = c .before .before .before .before .before .before .before .loop-test in
     let at-loop = c .before .before .before .before .before .before .before .before .loop in
     let at-start = c .before .before .before .before .before .before .before .before .before .before .before .before .before .before .before .before in
-    let g = linked _ _ _ _ _ _ _ (at-loop-test .taken) (at-byte-from .ensures) (at-loop .inv .1) in linked-place _ _ _ _ _ _ _ (at-loop-test .taken) (at-byte-from .ensures) g (at-start .pre .0 .short) (at-start .pre .0 .places)
+    let g = linked _ _ _ _ _ _ _ (at-loop-test .taken) (at-byte-from .ensures) (at-loop .inv .1) in linked-place _ _ _ _ _ _ _ (at-loop-test .taken) (at-byte-from .ensures) g (at-start .pre .indexed .short) (at-start .pre .indexed .places)
 
 cast-p-2 : tie.Need-cast-p-2 Inv-loop μ-loop
 cast-p-2 c =

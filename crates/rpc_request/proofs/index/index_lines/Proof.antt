@@ -9,6 +9,7 @@ use Rattle.rpc_request.proofs.Chains.{Indexing, indexing-start, indexin
 use Rattle.rpc_request.proofs.index.index_lines.Statement.{statement}
 use Rattle.rpc_request.proofs.index.index_lines.Tie as tie
 
+-- the lines before i are in the chains, and those from i on are good
 abbrev Inv-loop : tie.InvT-loop
 Inv-loop h last₀ before₀ n i₀ last before i = Indexing h last before i
 
@@ -18,7 +19,7 @@ abbrev μ-loop : tie.MeasureT-loop
 loop-holds : tie.Need-loop-holds Inv-loop μ-loop
 loop-holds c =
     let at-start = c .before .before .before in
-    indexing-start _ _ _ (at-start .pre .0) (at-start .pre .1) (at-start .pre .2) (at-start .pre .3)
+    indexing-start _ _ _ (at-start .pre)
 
 byte-from-requires : tie.Need-byte-from-requires Inv-loop μ-loop
 byte-from-requires c κs = search needs
@@ -53,7 +54,7 @@ slice-read-before c =
 mul-before-2 : tie.Need-mul-before-2 Inv-loop μ-loop
 mul-before-2 c =
     let at-start = c .before .before .before .before .before .before .before .before .before in
-    omega (arith, headers-short _ (at-start .pre .0))
+    omega (arith, headers-short _ (at-start .pre .good))
 
 slice-write-before : tie.Need-slice-write-before Inv-loop μ-loop
 slice-write-before c =
@@ -61,12 +62,12 @@ slice-write-before c =
     let at-loop-test = c .before .before .before .before .loop-test in
     let at-loop = c .before .before .before .before .before .loop in
     let at-start = c .before .before .before .before .before .before .before .before .before in
-    third-place _ _ _ _ _ (at-loop-test .taken) (at-byte-from .ensures) (at-loop .inv) (headers-short _ (at-start .pre .0))
+    third-place _ _ _ _ _ (at-loop-test .taken) (at-byte-from .ensures) (at-loop .inv) (headers-short _ (at-start .pre .good))
 
 cast-last : tie.Need-cast-last Inv-loop μ-loop
 cast-last c =
     let at-start = c .before .before .before .before .before .before .before .before .before in
-    omega (arith, headers-short _ (at-start .pre .0))
+    omega (arith, headers-short _ (at-start .pre .good))
 
 mul-last : tie.Need-mul-last Inv-loop μ-loop
 mul-last c =
@@ -100,26 +101,26 @@ loop-again c =
     let at-loop-test = c .before .before .before .before .loop-test in
     let at-loop = c .before .before .before .before .before .loop in
     let at-start = c .before .before .before .before .before .before .before .before .before in
-    indexing-on _ _ _ _ _ (at-loop-test .taken) (at-byte-from .ensures) (at-loop .inv) _ (at-line-bucket .ensures .0) (at-line-bucket .ensures .1) (headers-short _ (at-start .pre .0))
+    indexing-on _ _ _ _ _ (at-loop-test .taken) (at-byte-from .ensures) (at-loop .inv) _ (at-line-bucket .ensures .0) (at-line-bucket .ensures .1) (headers-short _ (at-start .pre .good))
 
 same-length : tie.Need-same-length Inv-loop μ-loop
 same-length c =
     let at-loop = c .before .loop in
     let at-start = c .before .before .before .before .before in
-    at-loop .inv .buckets ∙ sym (at-start .pre .1)
+    at-loop .inv .buckets ∙ sym (at-start .pre .buckets)
 
 same-length-2 : tie.Need-same-length-2 Inv-loop μ-loop
 same-length-2 c =
     let at-loop = c .before .loop in
     let at-start = c .before .before .before .before .before in
-    at-loop .inv .places ∙ sym (at-start .pre .2)
+    at-loop .inv .places ∙ sym (at-start .pre .places)
 
 returns : tie.Need-returns Inv-loop μ-loop
 returns c =
     let at-loop-test = c .loop-test in
     let at-loop = c .before .loop in
     let at-start = c .before .before .before .before .before in
-    indexing-done _ _ _ _ (at-start .pre .0) (at-loop .inv) (at-loop-test .left)
+    indexing-done _ _ _ _ (at-start .pre .good) (at-loop .inv) (at-loop-test .left)
 
 pub index-lines-spec : {M : Type 1} → statement M
 index-lines-spec =

@@ -2,6 +2,8 @@
 use borrow.Author.Needs.{needs}
 use Prim.Native.Nat.{ℕ}
 use lib.ListN.{length-replicate, getD-replicate}
+use Rattle.limits.specs.Limits.{maxHeaderLines}
+use Rattle.rpc_request.specs.Index.{bucketCount, placeCount}
 use Rattle.rpc_text.proofs.Answers.{verdict-denied, verdict-permitted, verdict-default}
 use Rattle.rpc_text.proofs.verdict.verdict_at.Statement.{statement}
 use Rattle.rpc_text.proofs.verdict.verdict_at.Tie as tie
@@ -15,7 +17,12 @@ slice-aggregate-index-lines-2 c = search needs
 index-lines-requires : tie.Need-index-lines-requires
 index-lines-requires c κs =
     let at-start = c .before .before .before .before .before .before in
-    (at-start .pre .1, length-replicate {A = ℕ} 256 8192, length-replicate {A = ℕ} 2731 0, λ b l. getD-replicate 256 b 8192 0 l)
+    record {
+      good = at-start .pre .1;
+      buckets = length-replicate {A = ℕ} bucketCount maxHeaderLines;
+      places = length-replicate {A = ℕ} placeCount 0;
+      empty = λ b l. getD-replicate bucketCount b maxHeaderLines 0 l;
+    }
 
 slice-aggregate-member-at : tie.Need-slice-aggregate-member-at
 slice-aggregate-member-at c = search needs
@@ -38,7 +45,7 @@ first-rule-requires : tie.Need-first-rule-requires
 first-rule-requires c κs =
     let at-member-at = c .before .before .before .member-at in
     let at-index-lines = c .before .before .before .before .before .before .before .index-lines in
-    (at-member-at .ensures .1, at-index-lines .ensures, search needs)
+    (at-member-at .ensures .1, record { indexed = at-index-lines .ensures; room = search needs })
 
 enum-known-denied : tie.Need-enum-known-denied
 enum-known-denied c = search needs
@@ -74,7 +81,7 @@ first-rule-requires-2 : tie.Need-first-rule-requires-2
 first-rule-requires-2 c κs =
     let at-member-at2 = c .before .before .before .member-at2 in
     let at-index-lines = c .before .before .before .before .before .before .before .before .before .before .before .before .before .before .before .before .index-lines in
-    (at-member-at2 .ensures .1, at-index-lines .ensures, search needs)
+    (at-member-at2 .ensures .1, record { indexed = at-index-lines .ensures; room = search needs })
 
 enum-known-allowed : tie.Need-enum-known-allowed
 enum-known-allowed c = search needs

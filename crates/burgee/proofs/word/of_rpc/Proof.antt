@@ -1,15 +1,15 @@
--- `of_verdict` equals its definition.
+-- `of_rpc` equals its definition.
 use borrow.Author.Needs.{needs}
-use mathlib.Core.Path.{sym, ap}
-use Rattle.rpc.specs.Verdict.{rpcWord}
-use Rattle.rpc.proofs.word.of_verdict.Statement.{statement}
-use Rattle.rpc.proofs.word.of_verdict.Tie as tie
+use mathlib.Core.Path.{sym, ap, _∙_}
+use Rattle.burgee.specs.Word.{rpcWord}
+use Rattle.burgee.proofs.word.of_rpc.Statement.{statement}
+use Rattle.burgee.proofs.word.of_rpc.Tie as tie
 
 enum-known-v : tie.Need-enum-known-v
 enum-known-v c = search needs
 
-cast-result : tie.Need-cast-result
-cast-result c = search needs
+of-refusal-requires : tie.Need-of-refusal-requires
+of-refusal-requires c κs = search needs
 
 enum-known-v-2 : tie.Need-enum-known-v-2
 enum-known-v-2 c = search needs
@@ -38,8 +38,9 @@ enum-told c = search needs
 returns : tie.Need-returns
 unfolding rpcWord
 returns c =
-    let at-v = c .before .v in
-    sym (ap rpcWord (at-v .given .1))
+    let at-of-refusal = c .of-refusal in
+    let at-v = c .before .before .v in
+    at-of-refusal .ensures ∙ sym (ap rpcWord (at-v .given .1))
 
 returns-2 : tie.Need-returns-2
 unfolding rpcWord
@@ -59,12 +60,12 @@ returns-4 c =
     let at-enum-told = c .enum-told in
     sym (ap rpcWord (at-enum-told .given .1))
 
-pub of-verdict-spec : {M : Type 1} → statement M
-of-verdict-spec =
+pub of-rpc-spec : {M : Type 1} → statement M
+of-rpc-spec =
     tie.close
     (tie.spec
     enum-known-v
-    cast-result
+    of-refusal-requires
     enum-known-v-2
     add-result
     mul-result

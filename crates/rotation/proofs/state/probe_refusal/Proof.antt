@@ -1,7 +1,7 @@
 use borrow.Author.Needs.{needs}
-use Rattle.rotation_step.proofs.Steps.{probe-same, probe-other}
-use Rattle.rotation_step.proofs.probe_refusal.Statement.{statement}
-use Rattle.rotation_step.proofs.probe_refusal.Tie as tie
+use Rattle.rotation.proofs.Tests.{probe-same, probe-other}
+use Rattle.rotation.proofs.state.probe_refusal.Statement.{statement}
+use Rattle.rotation.proofs.state.probe_refusal.Tie as tie
 
 refusal-requires : tie.Need-refusal-requires
 refusal-requires c κs = search needs

@@ -1,8 +1,9 @@
+-- `of_path` equals its definition.
 use borrow.Author.Needs.{needs}
-use mathlib.Core.Path.{sym, ap}
-use Rattle.verdict_text.specs.Calls.{pathWord}
-use Rattle.verdict_text.proofs.word.of_path.Statement.{statement}
-use Rattle.verdict_text.proofs.word.of_path.Tie as tie
+use mathlib.Core.Path.{sym, ap, _∙_}
+use Rattle.burgee.specs.Word.{pathWord}
+use Rattle.burgee.proofs.word.of_path.Statement.{statement}
+use Rattle.burgee.proofs.word.of_path.Tie as tie
 
 enum-known-a : tie.Need-enum-known-a
 enum-known-a c = search needs
@@ -37,14 +38,8 @@ enum-told c = search needs
 enum-known-a-3 : tie.Need-enum-known-a-3
 enum-known-a-3 c = search needs
 
-cast-result-3 : tie.Need-cast-result-3
-cast-result-3 c = search needs
-
-mul-result-3 : tie.Need-mul-result-3
-mul-result-3 c = search needs
-
-add-result-4 : tie.Need-add-result-4
-add-result-4 c = search needs
+of-refusal-requires : tie.Need-of-refusal-requires
+of-refusal-requires c κs = search needs
 
 returns : tie.Need-returns
 unfolding pathWord
@@ -67,8 +62,9 @@ returns-3 c =
 returns-4 : tie.Need-returns-4
 unfolding pathWord
 returns-4 c =
-    let at-a3 = c .before .a3 in
-    sym (ap pathWord (at-a3 .given .1))
+    let at-of-refusal = c .of-refusal in
+    let at-a3 = c .before .before .a3 in
+    at-of-refusal .ensures ∙ sym (ap pathWord (at-a3 .given .1))
 
 pub of-path-spec : {M : Type 1} → statement M
 of-path-spec =
@@ -85,9 +81,7 @@ of-path-spec =
     mul-result-2
     enum-told
     enum-known-a-3
-    cast-result-3
-    mul-result-3
-    add-result-4
+    of-refusal-requires
     returns
     returns-2
     returns-3

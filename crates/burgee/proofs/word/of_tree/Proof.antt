@@ -1,8 +1,9 @@
+-- `of_tree` equals its definition.
 use borrow.Author.Needs.{needs}
-use mathlib.Core.Path.{sym, ap}
-use Rattle.verdict_text.specs.Calls.{treeWord}
-use Rattle.verdict_text.proofs.word.of_tree.Statement.{statement}
-use Rattle.verdict_text.proofs.word.of_tree.Tie as tie
+use mathlib.Core.Path.{sym, ap, _∙_}
+use Rattle.burgee.specs.Word.{treeWord}
+use Rattle.burgee.proofs.word.of_tree.Statement.{statement}
+use Rattle.burgee.proofs.word.of_tree.Tie as tie
 
 enum-told : tie.Need-enum-told
 enum-told c = search needs
@@ -28,14 +29,8 @@ add-result-2 c = search needs
 enum-known-a-2 : tie.Need-enum-known-a-2
 enum-known-a-2 c = search needs
 
-cast-result-2 : tie.Need-cast-result-2
-cast-result-2 c = search needs
-
-mul-result-2 : tie.Need-mul-result-2
-mul-result-2 c = search needs
-
-add-result-3 : tie.Need-add-result-3
-add-result-3 c = search needs
+of-refusal-requires : tie.Need-of-refusal-requires
+of-refusal-requires c κs = search needs
 
 returns : tie.Need-returns
 unfolding treeWord
@@ -58,8 +53,9 @@ returns-3 c =
 returns-4 : tie.Need-returns-4
 unfolding treeWord
 returns-4 c =
-    let at-a2 = c .before .a2 in
-    sym (ap treeWord (at-a2 .given .1))
+    let at-of-refusal = c .of-refusal in
+    let at-a2 = c .before .before .a2 in
+    at-of-refusal .ensures ∙ sym (ap treeWord (at-a2 .given .1))
 
 pub of-tree-spec : {M : Type 1} → statement M
 of-tree-spec =
@@ -73,9 +69,7 @@ of-tree-spec =
     mul-result
     add-result-2
     enum-known-a-2
-    cast-result-2
-    mul-result-2
-    add-result-3
+    of-refusal-requires
     returns
     returns-2
     returns-3
