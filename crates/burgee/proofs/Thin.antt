@@ -118,7 +118,9 @@ stepped stepOf 𝓤 κs a = record {
 abbrev Step : (Record → ℕ → Answered) → {M : Type 1} (𝓤 : URA M) (H : Heap 𝓤) (A : Atoms 𝓤) → Contract 𝓤
 Step stepOf 𝓤 H A = tripleOf 𝓤 H A step.signature (closing 𝓤 H A step.ended (stepped stepOf 𝓤))
 
-module _ (k : Name) (stepOf : Record → ℕ → Answered) (keeps : (r : Record) (n : ℕ) → (stepOf r n .word ≡ 0 → ⊥) → stepOf r n .next ≡ r) {M : Type 1} (𝓤 : URA M) (H : Heap 𝓤) (A : Atoms 𝓤) (W : Given 𝓤 H A) (κ κ′ : Lft) (bounds : AllOutlive 2 (f.signature .outlives) (κ, (κ′, tt))) (q q′ : Share) (b o : ℕ) (γ : GName) (h : Record) (s : RefT (List ℕ)) where
+module _ (k : Name) (stepOf : Record → ℕ → Answered) (keeps : (r : Record) (n : ℕ) → (stepOf r n .word ≡ 0 → ⊥) → stepOf
+    r n .next ≡ r) {M : Type 1} (𝓤 : URA M) (H : Heap 𝓤) (A : Atoms 𝓤) (W : Given 𝓤 H A) (κ κ′ : Lft)
+    (bounds : AllOutlive 2 (f.signature .outlives) (κ, (κ′, tt))) (q q′ : Share) (b o : ℕ) (γ : GName) (h : Record) (s : RefT (List ℕ)) where
   abbrev n : ℕ
   n = length (s .now)
 

@@ -28,5 +28,14 @@ use Rattle.rpc.specs.Pattern as pattern
 use Rattle.promises.specs.Examples.{Example, examples}
 
 pub marked : map (λ (x : Example). x .given) examples ≡ map (λ (x : Example). x .expected) examples
-unfolding xor _and_ _or_ if_then_else_ all any only twice same more before _>>=_ ret byte run string times key element path unsized keyOver elemOver overLimit outsideName outsideValue keyStray elemStray strayByte halfWild keyMisplaced elemMisplaced misplaced keyTwice leastRefusal pathRefusal goodPath whole readBytes literal until name item value each elements readText reader.key reader.element onto lines pair pairs nonempty frame unknown code versionBody groupBody memberBody ruleBody ruleEntry body entry entryOf table-line.whole framed decoded lineOf kindOf outOfOrder unsizedShort pastLimit stray strays misplaces sameMember sameId repeats listed unlisted refusal first with after unless judge check filterMap Option·elim read entries asGroup asMember asRule versionOf timeOf table tableOf lists badUser wild definite holds meets covers conflict clashes agrees agree meld join definites better earlier prefer candidate choose concerns applies matches decider action permits fits opposes word answer tree badMode badOrigin unspelled requestRefusal spelled request decidedBy pathAnswer pathVerdict spread treeAnswer treeVerdict empty begins ends pattern.matches examples
+unfolding xor _and_ _or_ if_then_else_ all any only twice same more before _>>=_ ret byte run string times key element
+    path unsized keyOver elemOver overLimit outsideName outsideValue keyStray elemStray strayByte halfWild keyMisplaced
+    elemMisplaced misplaced keyTwice leastRefusal pathRefusal goodPath whole readBytes literal until name item value
+    each elements readText reader.key reader.element onto lines pair pairs nonempty frame unknown code versionBody
+    groupBody memberBody ruleBody ruleEntry body entry entryOf table-line.whole framed decoded lineOf kindOf outOfOrder
+    unsizedShort pastLimit stray strays misplaces sameMember sameId repeats listed unlisted refusal first with after
+    unless judge check filterMap Option·elim read entries asGroup asMember asRule versionOf timeOf table tableOf lists
+    badUser wild definite holds meets covers conflict clashes agrees agree meld join definites better earlier prefer
+    candidate choose concerns applies matches decider action permits fits opposes word answer tree badMode badOrigin
+    unspelled requestRefusal spelled request decidedBy pathAnswer pathVerdict spread treeAnswer treeVerdict empty begins ends pattern.matches examples
 marked = refl

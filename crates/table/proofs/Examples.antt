@@ -78,7 +78,11 @@ checked :
     × (order ≡ 260 ∷ 516 ∷ 1028 ∷ [])
     × (strings ≡ 517 ∷ 518 ∷ 519 ∷ 515 ∷ 519 ∷ 519 ∷ 0 ∷ [])
     × (against ≡ 776 ∷ 1032 ∷ 776 ∷ 520 ∷ 521 ∷ 521 ∷ 774 ∷ [])
-unfolding good hex frames order strings against _and_ _or_ if_then_else_ all any twice same _>>=_ ret byte run string times key element path unsized keyOver elemOver overLimit outsideName outsideValue keyStray elemStray strayByte halfWild keyMisplaced elemMisplaced misplaced keyTwice onto lines pair pairs nonempty frame unknown code versionBody groupBody memberBody ruleBody ruleEntry body entry whole entryOf framed decoded lineOf kindOf outOfOrder unsizedShort pastLimit stray strays misplaces sameMember sameId repeats listed unlisted refusal first with after unless judge check checkWord
+unfolding good hex frames order strings against _and_ _or_ if_then_else_ all any twice same _>>=_ ret byte run string
+    times key element path unsized keyOver elemOver overLimit outsideName outsideValue keyStray elemStray strayByte
+    halfWild keyMisplaced elemMisplaced misplaced keyTwice onto lines pair pairs nonempty frame unknown code versionBody
+    groupBody memberBody ruleBody ruleEntry body entry whole entryOf framed decoded lineOf kindOf outOfOrder
+    unsizedShort pastLimit stray strays misplaces sameMember sameId repeats listed unlisted refusal first with after unless judge check checkWord
 checked = (refl, refl, refl, refl, refl, refl)
 
 -- ---- groups of a user
@@ -94,5 +98,11 @@ counts : List ℕ
 counts = count (bytes "u") five ∷ count (bytes "v") five ∷ count (bytes "w") five ∷ count [] five ∷ count [] ("" ∷ []) ∷ []
 
 counted-right : counts ≡ 131584 ∷ 65792 ∷ 0 ∷ 20 ∷ 258 ∷ []
-unfolding count counts _and_ _or_ if_then_else_ all any twice same _>>=_ ret byte run string times key element path unsized keyOver elemOver overLimit outsideName outsideValue keyStray elemStray strayByte halfWild keyMisplaced elemMisplaced misplaced keyTwice onto lines pair pairs nonempty frame unknown code versionBody groupBody memberBody ruleBody ruleEntry body entry whole entryOf framed decoded lineOf kindOf outOfOrder unsizedShort pastLimit stray strays misplaces sameMember sameId repeats listed unlisted refusal first with after unless judge check checkWord filterMap Option·elim read entries asGroup asMember asRule versionOf timeOf table tableOf lists numbered memberships groupsOf counted badUser countFor groupCount countWord
+unfolding count counts _and_ _or_ if_then_else_ all any twice same _>>=_ ret byte run string times key element path
+    unsized keyOver elemOver overLimit outsideName outsideValue keyStray elemStray strayByte halfWild keyMisplaced
+    elemMisplaced misplaced keyTwice onto lines pair pairs nonempty frame unknown code versionBody groupBody memberBody
+    ruleBody ruleEntry body entry whole entryOf framed decoded lineOf kindOf outOfOrder unsizedShort pastLimit stray
+    strays misplaces sameMember sameId repeats listed unlisted refusal first with after unless judge check checkWord
+    filterMap Option·elim read entries asGroup asMember asRule versionOf timeOf table tableOf lists numbered memberships
+    groupsOf counted badUser countFor groupCount countWord
 counted-right = refl

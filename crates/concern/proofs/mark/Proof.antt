@@ -29,10 +29,7 @@ shared-slice-read-s : tie.Need-shared-slice-read-s Inv-loop μ-loop
 shared-slice-read-s c = omega arith
 
 cast-s : tie.Need-cast-s Inv-loop μ-loop
-cast-s c =
-    let at-shared-slice-known6 = c .shared-slice-known6 in
-    let at-loop = c .before .before .loop in
-    omega (arith, at-shared-slice-known6 .given (at-loop .i))
+cast-s c = omega (arith, c .shared-slice-known6 .given (c .before .before .loop .i))
 
 cast-t16 : tie.Need-cast-t16 Inv-loop μ-loop
 cast-t16 c = omega arith
@@ -42,10 +39,10 @@ group-of-requires c κs = omega arith
 
 mark-at-requires : tie.Need-mark-at-requires Inv-loop μ-loop
 mark-at-requires c κs =
-    let at-group-of = c .group-of in
-    let at-loop-test = c .before .before .loop-test in
-    let at-start = c .before .before .before .before .before .before .before .before .before .before in
-    (at-start .pre .0 .rules .laid _ (at-loop-test .taken), λ e. rw (ap (λ (g : GroupNumber). g .0) (at-group-of .ensures)) (at-start .pre .0 .groups _ (at-loop-test .taken) e))
+    let at-start = c .before .before .before .before .before .before .before .before .before .before in (
+      at-start .pre .0 .rules .laid _ (c .before .before .loop-test .taken),
+      λ e. rw (ap (λ (g : GroupNumber). g .0) (c .group-of .ensures)) (at-start .pre .0 .groups _ (c .before .before .loop-test .taken) e),
+    )
 
 slice-write-on : tie.Need-slice-write-on Inv-loop μ-loop
 slice-write-on c = omega arith
@@ -57,42 +54,20 @@ loop-less : tie.Need-loop-less Inv-loop μ-loop
 loop-less c = omega arith
 
 loop-again : tie.Need-loop-again Inv-loop μ-loop
-loop-again c =
-    let at-mark-at = c .mark-at in
-    let at-group-of = c .before .group-of in
-    let at-loop = c .before .before .before .before .loop in
-    let at-start = c .before .before .before .before .before .before .before .before .before .before .before in
-    let by : ℕ → ℕ → Bool = λ g j. appliesBy (at-start .args .set) g (at-start .args .user .now) (at-start .args .mode) (at-start .args .origin .now) (ruleIn (at-start .args .f .now) (getD (at-start .args .starts .now) j 0)) in
-    let marked = at-mark-at .ensures ∙ ap (λ (g : GroupNumber). by (g .0) (at-loop .i)) (at-group-of .ensures) in (
+loop-again c = let at-loop = c .before .before .before .before in
+    let at-start = at-loop .before .before .before .before .before .before .before in
+    let by : ℕ → ℕ → Bool = λ g j. appliesBy (at-start .args .set) g (at-start .args .user .now) (at-start .args .mode)
+    (at-start .args .origin .now) (ruleIn (at-start .args .f .now) (getD (at-start .args .starts .now) j 0)) in
+    let marked = c .mark-at .ensures ∙ ap (λ (g : GroupNumber). by (g .0) (at-loop .loop .i)) (c .before .group-of .ensures) in (
       omega arith,
-      length-set (at-loop .on) (at-loop .i) _ ∙ at-loop .inv .1,
-      stored (λ (j v : ℕ). eqb v 1 ≡ by (getD (at-start .args .holders .now) j 0) j) (at-loop .on) (at-loop .i) (at-mark-at .result) (omega arith) (at-loop .inv .2) marked,
+      length-set (at-loop .loop .on) (at-loop .loop .i) _ ∙ at-loop .loop .inv .1,
+      stored (λ (j v : ℕ). eqb v 1 ≡ by (getD (at-start .args .holders .now) j 0) j) (at-loop .loop .on)
+          (at-loop .loop .i) (c .mark-at .result) (omega arith) (at-loop .loop .inv .2) marked,
     )
 
-same-length : tie.Need-same-length Inv-loop μ-loop
-same-length c = search needs
-
 returns : tie.Need-returns Inv-loop μ-loop
-returns c =
-    let at-loop = c .before .loop in
-    (at-loop .inv .1, λ i l. at-loop .inv .2 i (omega arith))
+returns c = (c .before .loop .inv .1, λ i l. c .before .loop .inv .2 i (omega arith))
 
 pub mark-spec : {M : Type 1} → statement M
-mark-spec =
-    tie.close
-    (tie.spec
-    Inv-loop
-    μ-loop
-    loop-holds
-    mul-s
-    shared-slice-read-s
-    cast-s
-    cast-t16
-    group-of-requires
-    mark-at-requires
-    slice-write-on
-    add-i
-    loop-less
-    loop-again
-    same-length
-    returns)
+mark-spec = tie.close (tie.spec Inv-loop μ-loop loop-holds mul-s shared-slice-read-s cast-s cast-t16 group-of-requires
+    mark-at-requires slice-write-on add-i loop-less loop-again (λ c. search needs) returns)

@@ -6,54 +6,35 @@ use Rattle.facts.proofs.copy_id.Statement.{statement}
 use Rattle.facts.proofs.copy_id.Tie as tie
 
 returns : tie.Need-returns
-returns c =
-    let at-if1 = c .if1 in
-    id-past _ _ _ _ _ (at-if1 .taken)
+returns c = id-past _ _ _ _ _ (c .if1 .taken)
 
 mul-s : tie.Need-mul-s
-mul-s c =
-    let at-start = c .before .before .before .before in
-    omega (arith, at-start .pre .room)
+mul-s c = let at-start = c .before .before .before .before in omega (arith, at-start .pre .room)
 
 shared-slice-read-s : tie.Need-shared-slice-read-s
-shared-slice-read-s c =
-    let at-start = c .before .before .before .before .before in
-    omega (arith, at-start .pre .room)
+shared-slice-read-s c = let at-start = c .before .before .before .before .before in omega (arith, at-start .pre .room)
 
 cast-s : tie.Need-cast-s
-cast-s c =
-    let at-shared-slice-known3 = c .shared-slice-known3 in
-    let at-start = c .before .before .before .before .before in
-    omega (arith, at-shared-slice-known3 .given (at-start .args .k))
+cast-s c = let at-start = c .before .before .before .before .before in
+    omega (arith, c .shared-slice-known3 .given (at-start .args .k))
 
 add-str-end : tie.Need-add-str-end
-add-str-end c =
-    let at-shared-slice-known3 = c .shared-slice-known3 in
-    let at-start = c .before .before .before .before .before in
-    omega (arith, at-shared-slice-known3 .given (at-start .args .k))
+add-str-end c = let at-start = c .before .before .before .before .before in
+    omega (arith, c .shared-slice-known3 .given (at-start .args .k))
 
 str-end-requires : tie.Need-str-end-requires
-str-end-requires c κs =
-    let at-if1 = c .before .if1 in
-    let at-start = c .before .before .before .before .before in
-    id-inside _ _ (at-start .pre .laid _ (at-if1 .left))
+str-end-requires c κs = let at-start = c .before .before .before .before .before in
+    id-inside _ _ (at-start .pre .laid _ (c .before .if1 .left))
 
 copy-at-requires : tie.Need-copy-at-requires
-copy-at-requires c κs =
-    let at-str-end = c .before .str-end in
-    let at-if1 = c .before .before .before .if1 in
-    let at-start = c .before .before .before .before .before .before .before in
-    rw (at-str-end .ensures) (at-start .pre .laid _ (at-if1 .left))
-
-same-length : tie.Need-same-length
-same-length c = search needs
+copy-at-requires c κs = let at-if1 = c .before .before .before in
+    let at-start = at-if1 .before .before .before .before in
+    rw (c .before .str-end .ensures) (at-start .pre .laid _ (at-if1 .if1 .left))
 
 returns-2 : tie.Need-returns-2
-returns-2 c =
-    let at-copy-at = c .before .before .copy-at in
-    let at-str-end = c .before .before .before .before .str-end in
-    let at-if1 = c .before .before .before .before .before .before .if1 in
-    id-at _ _ _ _ _ _ _ (at-if1 .left) (rw (at-str-end .ensures) at (at-copy-at .ensures))
+returns-2 c = let at-str-end = c .before .before .before .before in
+    id-at _ _ _ _ _ _ _ (at-str-end .before .before .if1 .left) (rw (at-str-end .str-end .ensures) at (c .before .before .copy-at .ensures))
 
 pub copy-id-spec : {M : Type 1} → statement M
-copy-id-spec = tie.close (tie.spec returns mul-s shared-slice-read-s cast-s add-str-end str-end-requires copy-at-requires same-length returns-2)
+copy-id-spec = tie.close (tie.spec returns mul-s shared-slice-read-s cast-s add-str-end str-end-requires
+    copy-at-requires (λ c. search needs) returns-2)

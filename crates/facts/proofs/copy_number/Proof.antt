@@ -6,42 +6,26 @@ use Rattle.facts.proofs.copy_number.Statement.{statement}
 use Rattle.facts.proofs.copy_number.Tie as tie
 
 returns : tie.Need-returns
-returns c =
-    let at-if1 = c .if1 in
-    number-past _ _ _ _ _ (at-if1 .taken)
+returns c = number-past _ _ _ _ _ (c .if1 .taken)
 
 mul-at : tie.Need-mul-at
-mul-at c =
-    let at-start = c .before .before .before .before in
-    omega (arith, at-start .pre .room)
+mul-at c = let at-start = c .before .before .before .before in omega (arith, at-start .pre .room)
 
 shared-slice-read-at : tie.Need-shared-slice-read-at
-shared-slice-read-at c =
-    let at-start = c .before .before .before .before .before in
-    omega (arith, at-start .pre .room)
+shared-slice-read-at c = let at-start = c .before .before .before .before .before in omega (arith, at-start .pre .room)
 
 cast-at : tie.Need-cast-at
-cast-at c =
-    let at-shared-slice-known3 = c .shared-slice-known3 in
-    let at-start = c .before .before .before .before .before in
-    omega (arith, at-shared-slice-known3 .given (at-start .args .k))
+cast-at c = let at-start = c .before .before .before .before .before in
+    omega (arith, c .shared-slice-known3 .given (at-start .args .k))
 
 copy-at-requires : tie.Need-copy-at-requires
-copy-at-requires c κs =
-    let at-if1 = c .before .before .if1 in
-    let at-start = c .before .before .before .before .before .before in
-    at-start .pre .laid _ (at-if1 .left)
-
-same-length : tie.Need-same-length
-same-length c = search needs
+copy-at-requires c κs = let at-start = c .before .before .before .before .before .before in
+    at-start .pre .laid _ (c .before .before .if1 .left)
 
 returns-2 : tie.Need-returns-2
-returns-2 c =
-    let at-copy-at = c .before .before .copy-at in
-    let at-if1 = c .before .before .before .before .before .if1 in
-    number-at _ _ _ _ _ _ _ (at-if1 .left) (at-copy-at .ensures)
+returns-2 c = let at-if1 = c .before .before .before .before .before in
+    number-at _ _ _ _ _ _ _ (at-if1 .if1 .left) (c .before .before .copy-at .ensures)
 
 pub copy-number-spec : {M : Type 1} → statement M
-copy-number-spec =
-    tie.close
-    (tie.spec returns mul-at shared-slice-read-at cast-at copy-at-requires same-length returns-2)
+copy-number-spec = tie.close (tie.spec returns mul-at shared-slice-read-at cast-at copy-at-requires (λ c. search needs)
+    returns-2)

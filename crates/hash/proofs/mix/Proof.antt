@@ -15,48 +15,33 @@ Inv-loop s h t x₀ y₀ k₀ left₀ x y k left = (k + left ≡ wordsIn (length
 abbrev μ-loop : tie.MeasureT-loop
 μ-loop s h t x₀ y₀ k₀ left₀ x y k left = left
 
-count-requires : tie.Need-count-requires Inv-loop μ-loop
-count-requires c κs = search needs
-
 loop-holds : tie.Need-loop-holds Inv-loop μ-loop
 unfolding mix
-loop-holds c =
-    let at-count = c .count in
-    let at-start = c .before .before in
-    (omega (arith, at-count .ensures), omega arith, at-start .pre .1, rw (at-count .ensures))
+loop-holds c = (omega (arith, c .count .ensures), omega arith, c .before .before .pre .1, rw (c .count .ensures))
 
 at-requires : tie.Need-at-requires Inv-loop μ-loop
 at-requires c κs = omega arith
 
 add-middle : tie.Need-add-middle Inv-loop μ-loop
-add-middle c =
-    let at-at = c .at in
-    omega (arith, at-at .ensures .1)
+add-middle c = omega (arith, c .at .ensures .1)
 
 mul-middle : tie.Need-mul-middle Inv-loop μ-loop
-mul-middle c =
-    let at-at = c .before .at in
-    let at-loop = c .before .before .before .loop in
-    let at-start = c .before .before .before .before .before .before in
-    omega (arith, product (at-loop .x + at-at .result) (at-start .args .s .first) (omega (arith, at-at .ensures .1)) (at-start .pre .0 .0))
-
-middle-requires : tie.Need-middle-requires Inv-loop μ-loop
-middle-requires c κs = search needs
+mul-middle c = let at-loop = c .before .before .before in let at-start = at-loop .before .before .before in
+    omega (
+      arith,
+      product (at-loop .loop .x + c .before .at .result) (at-start .args .s .first) (omega (arith, c .before .at .ensures .1)) (at-start .pre .0 .0),
+    )
 
 add-middle-2 : tie.Need-add-middle-2 Inv-loop μ-loop
-add-middle-2 c =
-    let at-middle = c .middle in
-    omega (arith, at-middle .ensures)
+add-middle-2 c = omega (arith, c .middle .ensures)
 
 mul-middle-2 : tie.Need-mul-middle-2 Inv-loop μ-loop
-mul-middle-2 c =
-    let at-middle = c .before .middle in
-    let at-loop = c .before .before .before .before .before .loop in
-    let at-start = c .before .before .before .before .before .before .before .before in
-    omega (arith, product (at-loop .y + at-middle .result) (at-start .args .s .second) (omega (arith, at-middle .ensures)) (at-start .pre .0 .1))
-
-middle-requires-2 : tie.Need-middle-requires-2 Inv-loop μ-loop
-middle-requires-2 c κs = search needs
+mul-middle-2 c = let at-loop = c .before .before .before .before .before in
+    let at-start = at-loop .before .before .before in
+    omega (
+      arith,
+      product (at-loop .loop .y + c .before .middle .result) (at-start .args .s .second) (omega (arith, c .before .middle .ensures)) (at-start .pre .0 .1),
+    )
 
 add-k : tie.Need-add-k Inv-loop μ-loop
 add-k c = omega arith
@@ -68,37 +53,17 @@ loop-less : tie.Need-loop-less Inv-loop μ-loop
 loop-less c = omega arith
 
 loop-again : tie.Need-loop-again Inv-loop μ-loop
-loop-again c =
-    let at-middle2 = c .middle2 in
-    let at-middle = c .before .before .middle in
-    let at-at = c .before .before .before .before .at in
-    let at-loop-test = c .before .before .before .before .before .loop-test in
-    let at-loop = c .before .before .before .before .before .before .loop in
-    (omega arith, omega (arith, at-middle .ensures), omega (arith, at-middle2 .ensures), mix-turn _ _ _ _ _ _ _ _ _ _ (at-loop-test .taken) (at-at .ensures .0) (at-middle .ensures) (at-middle2 .ensures) (at-loop .inv .3))
+loop-again c = let at-at = c .before .before .before .before in (
+  omega arith,
+  omega (arith, c .before .before .middle .ensures),
+  omega (arith, c .middle2 .ensures),
+  mix-turn _ _ _ _ _ _ _ _ _ _ (at-at .before .loop-test .taken) (at-at .at .ensures .0)
+      (c .before .before .middle .ensures) (c .middle2 .ensures) (at-at .before .before .loop .inv .3),
+)
 
 returns : tie.Need-returns Inv-loop μ-loop
-returns c =
-    let at-loop-test = c .loop-test in
-    let at-loop = c .before .loop in
-    mix-end _ _ _ _ _ _ _ (λ l. omega (arith, l, at-loop-test .left)) (at-loop .inv .3)
+returns c = mix-end _ _ _ _ _ _ _ (λ l. omega (arith, l, c .loop-test .left)) (c .before .loop .inv .3)
 
 pub mix-spec : {M : Type 1} → statement M
-mix-spec =
-    tie.close
-    (tie.spec
-    Inv-loop
-    μ-loop
-    count-requires
-    loop-holds
-    at-requires
-    add-middle
-    mul-middle
-    middle-requires
-    add-middle-2
-    mul-middle-2
-    middle-requires-2
-    add-k
-    sub-left
-    loop-less
-    loop-again
-    returns)
+mix-spec = tie.close (tie.spec Inv-loop μ-loop (λ c κs. search needs) loop-holds at-requires add-middle mul-middle
+    (λ c κs. search needs) add-middle-2 mul-middle-2 (λ c κs. search needs) add-k sub-left loop-less loop-again returns)

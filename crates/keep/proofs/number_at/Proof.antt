@@ -19,76 +19,38 @@ sub-mid : tie.Need-sub-mid Inv-loop μ-loop
 sub-mid c = omega arith
 
 add-mid : tie.Need-add-mid Inv-loop μ-loop
-add-mid c =
-    let at-loop = c .before .loop in
-    let at-start = c .before .before in
-    omega (arith, at-loop .inv, at-start .pre)
+add-mid c = omega (arith, c .before .loop .inv, c .before .before .pre)
 
 mul-if1 : tie.Need-mul-if1 Inv-loop μ-loop
-mul-if1 c =
-    let at-loop = c .before .loop in
-    let at-start = c .before .before in
-    omega (arith, at-loop .inv, at-start .pre)
+mul-if1 c = omega (arith, c .before .loop .inv, c .before .before .pre)
 
 shared-slice-read-if1 : tie.Need-shared-slice-read-if1 Inv-loop μ-loop
-shared-slice-read-if1 c =
-    let at-loop = c .before .before .loop in
-    let at-start = c .before .before .before in
-    omega (arith, at-loop .inv, at-start .pre)
+shared-slice-read-if1 c = let at-start = c .before .before .before in
+    omega (arith, c .before .before .loop .inv, at-start .pre)
 
 cast-if1 : tie.Need-cast-if1 Inv-loop μ-loop
 cast-if1 c =
-    let at-shared-slice-known = c .shared-slice-known in
-    let at-loop = c .before .before .loop in
-    omega (arith, at-shared-slice-known .given (at-loop .low + (at-loop .high - at-loop .low) / 2))
+    omega (arith, c .shared-slice-known .given (c .before .before .loop .low + (c .before .before .loop .high - c .before .before .loop .low) / 2))
 
 add-if1 : tie.Need-add-if1 Inv-loop μ-loop
 add-if1 c =
-    let at-shared-slice-known = c .shared-slice-known in
-    let at-loop = c .before .before .loop in
-    omega (arith, at-shared-slice-known .given (at-loop .low + (at-loop .high - at-loop .low) / 2))
+    omega (arith, c .shared-slice-known .given (c .before .before .loop .low + (c .before .before .loop .high - c .before .before .loop .low) / 2))
 
 add-low : tie.Need-add-low Inv-loop μ-loop
-add-low c =
-    let at-loop = c .before .before .before .loop in
-    let at-start = c .before .before .before .before in
-    omega (arith, at-loop .inv, at-start .pre)
+add-low c = let at-loop = c .before .before .before in omega (arith, at-loop .loop .inv, at-loop .before .pre)
 
 loop-less : tie.Need-loop-less Inv-loop μ-loop
 loop-less c = omega arith
 
 loop-again : tie.Need-loop-again Inv-loop μ-loop
-loop-again c =
-    let at-loop = c .before .before .before .loop in
-    omega (arith, at-loop .inv)
+loop-again c = let at-loop = c .before .before .before in omega (arith, at-loop .loop .inv)
 
 loop-less-2 : tie.Need-loop-less-2 Inv-loop μ-loop
 loop-less-2 c = omega arith
 
 loop-again-2 : tie.Need-loop-again-2 Inv-loop μ-loop
-loop-again-2 c =
-    let at-loop = c .before .before .before .loop in
-    omega (arith, at-loop .inv)
-
-returns : tie.Need-returns Inv-loop μ-loop
-returns c = search needs
+loop-again-2 c = let at-loop = c .before .before .before in omega (arith, at-loop .loop .inv)
 
 pub number-at-spec : {M : Type 1} → statement M
-number-at-spec =
-    tie.close
-    (tie.spec
-    Inv-loop
-    μ-loop
-    loop-holds
-    sub-mid
-    add-mid
-    mul-if1
-    shared-slice-read-if1
-    cast-if1
-    add-if1
-    add-low
-    loop-less
-    loop-again
-    loop-less-2
-    loop-again-2
-    returns)
+number-at-spec = tie.close (tie.spec Inv-loop μ-loop loop-holds sub-mid add-mid mul-if1 shared-slice-read-if1 cast-if1
+    add-if1 add-low loop-less loop-again loop-less-2 loop-again-2 (λ c. search needs))

@@ -8,50 +8,28 @@ use Rattle.rows.proofs.Grow.{number-is}
 use Rattle.keep.proofs.number_of.Statement.{statement}
 use Rattle.keep.proofs.number_of.Tie as tie
 
-hash-requires : tie.Need-hash-requires
-hash-requires c κs = search needs
-
 shared-slice-read-hint : tie.Need-shared-slice-read-hint
-shared-slice-read-hint c =
-    let at-start = c .before .before .before .before .before .before .before in
+shared-slice-read-hint c = let at-start = c .before .before .before .before .before .before .before in
     omega (arith, at-start .pre .1)
 
 cast-hint : tie.Need-cast-hint
-cast-hint c =
-    let at-shared-slice-known6 = c .shared-slice-known6 in
-    let at-hash = c .before .hash in
-    omega (arith, at-shared-slice-known6 .given (at-hash .result % hintPlaces))
+cast-hint c = omega (arith, c .shared-slice-known6 .given (c .before .hash .result % hintPlaces))
 
 is-number-requires : tie.Need-is-number-requires
-is-number-requires c κs =
-    let at-start = c .before .before .before .before .before .before .before in
+is-number-requires c κs = let at-start = c .before .before .before .before .before .before .before in
     at-start .pre .0 .distinct .listed
 
 returns : tie.Need-returns
-returns c =
-    let at-if1 = c .if1 in
-    let at-is-number = c .before .is-number in
-    let at-start = c .before .before .before .before .before .before .before .before .before in
-    number-is _ _ _ _ _ (at-start .pre .0 .distinct .distinct) (sym (at-is-number .ensures) ∙ at-if1 .taken)
+returns c = let at-start = c .before .before .before .before .before .before .before .before .before in
+    number-is _ _ _ _ _ (at-start .pre .0 .distinct .distinct) (sym (c .before .is-number .ensures) ∙ c .if1 .taken)
 
 number-by-name-requires : tie.Need-number-by-name-requires
 number-by-name-requires c κs =
-    let at-start = c .before .before .before .before .before .before .before .before .before in
-    at-start .pre .0
+    let at-start = c .before .before .before .before .before .before .before .before .before in at-start .pre .0
 
 returns-2 : tie.Need-returns-2
-returns-2 c =
-    let at-number-by-name = c .number-by-name in
-    at-number-by-name .ensures
+returns-2 c = c .number-by-name .ensures
 
 pub number-of-spec : {M : Type 1} → statement M
-number-of-spec =
-    tie.close
-    (tie.spec
-    hash-requires
-    shared-slice-read-hint
-    cast-hint
-    is-number-requires
-    returns
-    number-by-name-requires
-    returns-2)
+number-of-spec = tie.close (tie.spec (λ c κs. search needs) shared-slice-read-hint cast-hint is-number-requires returns
+    number-by-name-requires returns-2)

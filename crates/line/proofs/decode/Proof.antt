@@ -17,78 +17,46 @@ abbrev μ-loop : tie.MeasureT-loop
 μ-loop text from out₀ at i₀ k₀ out i k = length text - i
 
 loop-holds : tie.Need-loop-holds Inv-loop μ-loop
-loop-holds c =
-    let at-start = c .before .before in
+loop-holds c = let at-start = c .before .before in
     (omega arith, at-start .pre .0, omega arith, decode-start (at-start .args .text .now) _ (at-start .args .from) _ (at-start .pre .1))
 
 add-loop : tie.Need-add-loop Inv-loop μ-loop
 add-loop c = omega arith
 
-shared-slice-read-hex-value : tie.Need-shared-slice-read-hex-value Inv-loop μ-loop
-shared-slice-read-hex-value c = search needs
-
-hex-value-requires : tie.Need-hex-value-requires Inv-loop μ-loop
-hex-value-requires c κs = search needs
-
 add-hex-value : tie.Need-add-hex-value Inv-loop μ-loop
 add-hex-value c = omega arith
 
-shared-slice-read-hex-value-2 : tie.Need-shared-slice-read-hex-value-2 Inv-loop μ-loop
-shared-slice-read-hex-value-2 c = search needs
-
-hex-value-requires-2 : tie.Need-hex-value-requires-2 Inv-loop μ-loop
-hex-value-requires-2 c κs = search needs
-
 sub-result : tie.Need-sub-result Inv-loop μ-loop
-sub-result c =
-    let at-loop = c .before .before .before .before .before .before .loop in
-    at-loop .inv .2
+sub-result c = let at-loop = c .before .before .before .before .before .before in at-loop .loop .inv .2
 
 same-length : tie.Need-same-length Inv-loop μ-loop
-same-length c =
-    let at-loop = c .before .before .before .before .before .before .loop in
-    at-loop .inv .3 .long
+same-length c = let at-loop = c .before .before .before .before .before .before in at-loop .loop .inv .3 .long
 
 returns : tie.Need-returns Inv-loop μ-loop
-returns c =
-    let at-if1 = c .if1 in
-    let at-hex-value2 = c .before .hex-value2 in
-    let at-hex-value = c .before .before .before .hex-value in
-    let at-loop-test = c .before .before .before .before .before .loop-test in
-    let at-loop = c .before .before .before .before .before .before .loop in
-    decode-done _ _ _ _ _ _ (at-loop .inv .2) (at-loop .inv .3) (digits-stop _ _ _ _ (at-loop-test .taken) (at-hex-value .ensures) (at-hex-value2 .ensures) (at-if1 .taken))
+returns c = let at-hex-value = c .before .before .before in let at-loop = at-hex-value .before .before .before in
+    decode-done _ _ _ _ _ _ (at-loop .loop .inv .2) (at-loop .loop .inv .3)
+    (digits-stop _ _ _ _ (at-hex-value .before .before .loop-test .taken) (at-hex-value .hex-value .ensures)
+    (c .before .hex-value2 .ensures) (c .if1 .taken))
 
 mul-out : tie.Need-mul-out Inv-loop μ-loop
-mul-out c =
-    let at-if1 = c .if1 in
-    let at-hex-value2 = c .before .hex-value2 in
-    let at-hex-value = c .before .before .before .hex-value in
-    let v = value-fits _ _ _ _ (at-hex-value .ensures) (at-hex-value2 .ensures) (at-if1 .left) in omega arith
+mul-out c = let at-hex-value = c .before .before .before in
+    let v = value-fits _ _ _ _ (at-hex-value .hex-value .ensures) (c .before .hex-value2 .ensures) (c .if1 .left) in omega arith
 
 add-out : tie.Need-add-out Inv-loop μ-loop
-add-out c =
-    let at-if1 = c .if1 in
-    let at-hex-value2 = c .before .hex-value2 in
-    let at-hex-value = c .before .before .before .hex-value in
-    let v = value-fits _ _ _ _ (at-hex-value .ensures) (at-hex-value2 .ensures) (at-if1 .left) in omega arith
+add-out c = let at-hex-value = c .before .before .before in
+    let v = value-fits _ _ _ _ (at-hex-value .hex-value .ensures) (c .before .hex-value2 .ensures) (c .if1 .left) in omega arith
 
 slice-write-out : tie.Need-slice-write-out Inv-loop μ-loop
-slice-write-out c =
-    let at-if1 = c .if1 in
-    let at-hex-value2 = c .before .hex-value2 in
-    let at-hex-value = c .before .before .before .hex-value in
-    let at-loop-test = c .before .before .before .before .before .loop-test in
-    let at-loop = c .before .before .before .before .before .before .loop in
-    decode-room _ _ _ _ _ _ _ _ (at-loop .inv .3) (digits-turn _ _ _ _ (at-loop-test .taken) (at-hex-value .ensures) (at-hex-value2 .ensures) (at-if1 .left))
+slice-write-out c = let at-hex-value = c .before .before .before in
+    let at-loop = at-hex-value .before .before .before in
+    decode-room _ _ _ _ _ _ _ _ (at-loop .loop .inv .3) (digits-turn _ _ _ _
+    (at-hex-value .before .before .loop-test .taken) (at-hex-value .hex-value .ensures) (c .before .hex-value2 .ensures) (c .if1 .left))
 
 add-k : tie.Need-add-k Inv-loop μ-loop
-add-k c =
-    let at-if1 = c .if1 in
-    let at-hex-value2 = c .before .hex-value2 in
-    let at-hex-value = c .before .before .before .hex-value in
-    let at-loop-test = c .before .before .before .before .before .loop-test in
-    let at-loop = c .before .before .before .before .before .before .loop in
-    let v = decode-room _ _ _ _ _ _ _ _ (at-loop .inv .3) (digits-turn _ _ _ _ (at-loop-test .taken) (at-hex-value .ensures) (at-hex-value2 .ensures) (at-if1 .left)) in omega arith
+add-k c = let at-hex-value = c .before .before .before in let at-loop = at-hex-value .before .before .before in
+    let v = decode-room _ _ _ _ _ _ _ _ (at-loop .loop .inv .3)
+    (digits-turn _ _ _ _ (at-hex-value .before .before .loop-test .taken) (at-hex-value .hex-value .ensures)
+    (c .before .hex-value2 .ensures) (c .if1 .left)) in omega arith
 
 add-i : tie.Need-add-i Inv-loop μ-loop
 add-i c = omega arith
@@ -97,53 +65,25 @@ loop-less : tie.Need-loop-less Inv-loop μ-loop
 loop-less c = omega arith
 
 loop-again : tie.Need-loop-again Inv-loop μ-loop
-loop-again c =
-    let at-if1 = c .if1 in
-    let at-hex-value2 = c .before .hex-value2 in
-    let at-hex-value = c .before .before .before .hex-value in
-    let at-loop-test = c .before .before .before .before .before .loop-test in
-    let at-loop = c .before .before .before .before .before .before .loop in
-    (omega arith, omega arith, omega arith, decode-turn _ _ _ _ _ _ _ _ (at-loop .inv .3) (digits-turn _ _ _ _ (at-loop-test .taken) (at-hex-value .ensures) (at-hex-value2 .ensures) (at-if1 .left)))
+loop-again c = let at-hex-value = c .before .before .before in let at-loop = at-hex-value .before .before .before in (
+  omega arith,
+  omega arith,
+  omega arith,
+  decode-turn _ _ _ _ _ _ _ _ (at-loop .loop .inv .3) (digits-turn _ _ _ _
+      (at-hex-value .before .before .loop-test .taken) (at-hex-value .hex-value .ensures) (c .before .hex-value2 .ensures) (c .if1 .left)),
+)
 
 sub-result-2 : tie.Need-sub-result-2 Inv-loop μ-loop
-sub-result-2 c =
-    let at-loop = c .before .loop in
-    at-loop .inv .2
+sub-result-2 c = c .before .loop .inv .2
 
 same-length-2 : tie.Need-same-length-2 Inv-loop μ-loop
-same-length-2 c =
-    let at-loop = c .before .loop in
-    at-loop .inv .3 .long
+same-length-2 c = c .before .loop .inv .3 .long
 
 returns-2 : tie.Need-returns-2 Inv-loop μ-loop
 returns-2 c =
-    let at-loop-test = c .loop-test in
-    let at-loop = c .before .loop in
-    decode-done _ _ _ _ _ _ (at-loop .inv .2) (at-loop .inv .3) (digits-end _ _ (at-loop-test .left))
+    decode-done _ _ _ _ _ _ (c .before .loop .inv .2) (c .before .loop .inv .3) (digits-end _ _ (c .loop-test .left))
 
 pub decode-spec : {M : Type 1} → statement M
-decode-spec =
-    tie.close
-    (tie.spec
-    Inv-loop
-    μ-loop
-    loop-holds
-    add-loop
-    shared-slice-read-hex-value
-    hex-value-requires
-    add-hex-value
-    shared-slice-read-hex-value-2
-    hex-value-requires-2
-    sub-result
-    same-length
-    returns
-    mul-out
-    add-out
-    slice-write-out
-    add-k
-    add-i
-    loop-less
-    loop-again
-    sub-result-2
-    same-length-2
-    returns-2)
+decode-spec = tie.close (tie.spec Inv-loop μ-loop loop-holds add-loop (λ c. search needs) (λ c κs. search needs)
+    add-hex-value (λ c. search needs) (λ c κs. search needs) sub-result same-length returns mul-out add-out
+    slice-write-out add-k add-i loop-less loop-again sub-result-2 same-length-2 returns-2)

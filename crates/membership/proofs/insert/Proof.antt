@@ -6,16 +6,8 @@ use Rattle.membership.proofs.Bits.{shifted-one}
 use Rattle.membership.proofs.insert.Statement.{statement}
 use Rattle.membership.proofs.insert.Tie as tie
 
-cast-result : tie.Need-cast-result
-cast-result c = search needs
-
-shl-result : tie.Need-shl-result
-shl-result c = search needs
-
 returns : tie.Need-returns
-returns c =
-    let at-start = c in
-    ap (bitOr (at-start .args .set)) (shifted-one _ (at-start .pre))
+returns c = ap (bitOr (c .args .set)) (shifted-one _ (c .pre))
 
 pub insert-spec : {M : Type 1} → statement M
-insert-spec = tie.close (tie.spec cast-result shl-result returns)
+insert-spec = tie.close (tie.spec (λ c. search needs) (λ c. search needs) returns)

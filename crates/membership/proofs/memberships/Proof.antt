@@ -19,65 +19,34 @@ loop-holds : tie.Need-loop-holds Inv-loop μ-loop
 loop-holds c = (search needs, set-start _ _ _ _ _)
 
 mul-at : tie.Need-mul-at Inv-loop μ-loop
-mul-at c =
-    let at-start = c .before .before .before .before .before .before in
+mul-at c = let at-start = c .before .before .before .before .before .before in
     omega (arith, at-start .pre .listed .room)
 
 shared-slice-read-at : tie.Need-shared-slice-read-at Inv-loop μ-loop
-shared-slice-read-at c =
-    let at-start = c .before .before .before .before .before .before .before in
+shared-slice-read-at c = let at-start = c .before .before .before .before .before .before .before in
     omega (arith, at-start .pre .listed .room)
 
 cast-at : tie.Need-cast-at Inv-loop μ-loop
-cast-at c =
-    let at-shared-slice-known5 = c .shared-slice-known5 in
-    let at-loop = c .before .before .loop in
-    omega (arith, at-shared-slice-known5 .given (at-loop .i))
+cast-at c = omega (arith, c .shared-slice-known5 .given (c .before .before .loop .i))
 
 shared-slice-read-t14 : tie.Need-shared-slice-read-t14 Inv-loop μ-loop
-shared-slice-read-t14 c =
-    let at-start = c .before .before .before .before .before .before .before .before in
+shared-slice-read-t14 c = let at-start = c .before .before .before .before .before .before .before .before in
     omega (arith, at-start .pre .room)
 
 join-requires : tie.Need-join-requires Inv-loop μ-loop
-join-requires c κs =
-    let at-loop-test = c .before .before .loop-test in
-    let at-loop = c .before .before .before .loop in
-    let at-start = c .before .before .before .before .before .before .before .before in
-    (at-start .pre .owned (at-loop .i) (at-loop-test .taken), at-start .pre .listed .laid (at-loop .i) (at-loop-test .taken))
-
-add-i : tie.Need-add-i Inv-loop μ-loop
-add-i c = search needs
-
-loop-less : tie.Need-loop-less Inv-loop μ-loop
-loop-less c = search needs
+join-requires c κs = let at-loop = c .before .before .before in
+    let at-start = at-loop .before .before .before .before .before in (
+      at-start .pre .owned (at-loop .loop .i) (c .before .before .loop-test .taken),
+      at-start .pre .listed .laid (at-loop .loop .i) (c .before .before .loop-test .taken),
+    )
 
 loop-again : tie.Need-loop-again Inv-loop μ-loop
-loop-again c =
-    let at-join = c .join in
-    let at-loop-test = c .before .before .before .loop-test in
-    let at-loop = c .before .before .before .before .loop in
-    (omega arith, set-turn _ _ _ _ _ _ _ _ _ (at-loop-test .taken) (at-join .ensures) (at-loop .inv .1))
+loop-again c = let at-loop-test = c .before .before .before in
+    (omega arith, set-turn _ _ _ _ _ _ _ _ _ (at-loop-test .loop-test .taken) (c .join .ensures) (at-loop-test .before .loop .inv .1))
 
 returns : tie.Need-returns Inv-loop μ-loop
-returns c =
-    let at-loop-test = c .loop-test in
-    let at-loop = c .before .loop in
-    set-end _ _ _ _ _ _ _ _ (at-loop-test .left) (at-loop .inv .1)
+returns c = set-end _ _ _ _ _ _ _ _ (c .loop-test .left) (c .before .loop .inv .1)
 
 pub memberships-spec : {M : Type 1} → statement M
-memberships-spec =
-    tie.close
-    (tie.spec
-    Inv-loop
-    μ-loop
-    loop-holds
-    mul-at
-    shared-slice-read-at
-    cast-at
-    shared-slice-read-t14
-    join-requires
-    add-i
-    loop-less
-    loop-again
-    returns)
+memberships-spec = tie.close (tie.spec Inv-loop μ-loop loop-holds mul-at shared-slice-read-at cast-at
+    shared-slice-read-t14 join-requires (λ c. search needs) (λ c. search needs) loop-again returns)

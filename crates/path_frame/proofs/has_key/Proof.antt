@@ -21,117 +21,52 @@ abbrev μ-loop : tie.MeasureT-loop
 loop-holds : tie.Need-loop-holds Inv-loop μ-loop
 loop-holds c = refl
 
-string-end-requires : tie.Need-string-end-requires Inv-loop μ-loop
-string-end-requires c κs = search needs
-
-enum-known-n : tie.Need-enum-known-n Inv-loop μ-loop
-enum-known-n c = search needs
-
-enum-told : tie.Need-enum-told Inv-loop μ-loop
-enum-told c = search needs
-
 returns : tie.Need-returns Inv-loop μ-loop
-returns c =
-    let at-enum-told = c .enum-told in
-    let at-string-end = c .before .before .string-end in
-    let at-loop-test = c .before .before .before .loop-test in
-    let at-loop = c .before .before .before .before .loop in
-    let at-start = c .before .before .before .before .before .before .before in
-    sym (at-loop .inv ∙ has-nameless (at-start .args .f .now) (at-loop .p) _ (at-string-end .ensures) (at-loop .found) (at-start .args .name .now) (at-loop .left) (at-loop-test .taken) (at-enum-told .given .1))
-
-string-end-requires-2 : tie.Need-string-end-requires-2 Inv-loop μ-loop
-string-end-requires-2 c κs = search needs
-
-enum-known-v : tie.Need-enum-known-v Inv-loop μ-loop
-enum-known-v c = search needs
-
-enum-told-2 : tie.Need-enum-told-2 Inv-loop μ-loop
-enum-told-2 c = search needs
+returns c = let at-loop-test = c .before .before .before in let at-loop = at-loop-test .before in
+    let at-start = at-loop .before .before .before in
+    sym (at-loop .loop .inv ∙ has-nameless (at-start .args .f .now) (at-loop .loop .p) _
+    (c .before .before .string-end .ensures) (at-loop .loop .found) (at-start .args .name .now)
+    (at-loop .loop .left) (at-loop-test .loop-test .taken) (c .enum-told .given .1))
 
 returns-2 : tie.Need-returns-2 Inv-loop μ-loop
-returns-2 c =
-    let at-enum-told2 = c .enum-told2 in
-    let at-string-end2 = c .before .before .string-end2 in
-    let at-n = c .before .before .before .before .n in
-    let at-string-end = c .before .before .before .before .before .before .string-end in
-    let at-loop-test = c .before .before .before .before .before .before .before .loop-test in
-    let at-loop = c .before .before .before .before .before .before .before .before .loop in
-    let at-start = c .before .before .before .before .before .before .before .before .before .before .before in
-    sym (at-loop .inv ∙ has-valueless (at-start .args .f .now) (at-loop .p) _ (at-string-end .ensures) (at-loop .found) (at-start .args .name .now) (at-loop .left) _ _ (at-loop-test .taken) (at-n .given .1) (at-string-end2 .ensures) (at-enum-told2 .given .1))
+returns-2 c = let at-n = c .before .before .before .before in let at-loop-test = at-n .before .before .before in
+    let at-loop = at-loop-test .before in let at-start = at-loop .before .before .before in
+    sym (at-loop .loop .inv ∙ has-valueless (at-start .args .f .now) (at-loop .loop .p) _
+    (at-n .before .before .string-end .ensures) (at-loop .loop .found) (at-start .args .name .now)
+    (at-loop .loop .left) _ _ (at-loop-test .loop-test .taken) (at-n .n .given .1) (c .before .before .string-end2 .ensures) (c .enum-told2 .given .1))
 
 add-start : tie.Need-add-start Inv-loop μ-loop
-add-start c =
-    let at-n = c .before .before .before .before .before .n in
-    let at-string-end = c .before .before .before .before .before .before .before .string-end in
-    let t = string-ends _ _ _ (at-string-end .ensures) _ (at-n .given .1) in omega (arith, t .1, t .2)
+add-start c = let at-n = c .before .before .before .before .before in
+    let t = string-ends _ _ _ (at-n .before .before .string-end .ensures) _ (at-n .n .given .1) in omega (arith, t .1, t .2)
 
 sub-is-same : tie.Need-sub-is-same Inv-loop μ-loop
-sub-is-same c =
-    let at-n = c .before .before .before .before .before .n in
-    let at-string-end = c .before .before .before .before .before .before .before .string-end in
-    string-ends _ _ _ (at-string-end .ensures) _ (at-n .given .1) .1
+sub-is-same c = let at-n = c .before .before .before .before .before in
+    string-ends _ _ _ (at-n .before .before .string-end .ensures) _ (at-n .n .given .1) .1
 
 part-is-same-start : tie.Need-part-is-same-start Inv-loop μ-loop
-part-is-same-start c =
-    let at-n = c .before .before .before .before .before .n in
-    let at-string-end = c .before .before .before .before .before .before .before .string-end in
-    string-ends _ _ _ (at-string-end .ensures) _ (at-n .given .1) .1
+part-is-same-start c = let at-n = c .before .before .before .before .before in
+    string-ends _ _ _ (at-n .before .before .string-end .ensures) _ (at-n .n .given .1) .1
 
 part-is-same-end : tie.Need-part-is-same-end Inv-loop μ-loop
-part-is-same-end c =
-    let at-n = c .before .before .before .before .before .n in
-    let at-string-end = c .before .before .before .before .before .before .before .string-end in
-    string-ends _ _ _ (at-string-end .ensures) _ (at-n .given .1) .2
-
-is-same-requires : tie.Need-is-same-requires Inv-loop μ-loop
-is-same-requires c κs = search needs
-
-sub-left : tie.Need-sub-left Inv-loop μ-loop
-sub-left c = search needs
-
-loop-less : tie.Need-loop-less Inv-loop μ-loop
-loop-less c = search needs
+part-is-same-end c = let at-n = c .before .before .before .before .before in
+    string-ends _ _ _ (at-n .before .before .string-end .ensures) _ (at-n .n .given .1) .2
 
 loop-again : tie.Need-loop-again Inv-loop μ-loop
-loop-again c =
-    let at-is-same = c .is-same in
-    let at-v = c .before .before .before .v in
-    let at-string-end2 = c .before .before .before .before .before .string-end2 in
-    let at-n = c .before .before .before .before .before .before .before .n in
-    let at-string-end = c .before .before .before .before .before .before .before .before .before .string-end in
-    let at-loop-test = c .before .before .before .before .before .before .before .before .before .before .loop-test in
-    let at-loop = c .before .before .before .before .before .before .before .before .before .before .before .loop in
-    let at-start = c .before .before .before .before .before .before .before .before .before .before .before .before .before .before in
-    at-loop .inv ∙ has-turn (at-start .args .f .now) (at-loop .p) _ (at-string-end .ensures) (at-loop .found) (at-start .args .name .now) (at-loop .left) _ _ _ _ (at-loop-test .taken) (at-n .given .1) (at-string-end2 .ensures) (at-v .given .1) (at-is-same .ensures)
+loop-again c = let at-v = c .before .before .before in let at-n = at-v .before .before .before .before in
+    let at-loop-test = at-n .before .before .before in let at-loop = at-loop-test .before in
+    let at-start = at-loop .before .before .before in
+    at-loop .loop .inv ∙ has-turn (at-start .args .f .now) (at-loop .loop .p) _
+    (at-n .before .before .string-end .ensures) (at-loop .loop .found) (at-start .args .name .now)
+    (at-loop .loop .left) _ _ _ _ (at-loop-test .loop-test .taken) (at-n .n .given .1)
+    (at-v .before .before .string-end2 .ensures) (at-v .v .given .1) (c .is-same .ensures)
 
 returns-3 : tie.Need-returns-3 Inv-loop μ-loop
-returns-3 c =
-    let at-loop-test = c .loop-test in
-    let at-loop = c .before .loop in
-    let at-start = c .before .before .before .before in
-    sym (at-loop .inv ∙ has-done (at-start .args .f .now) (at-loop .p) (at-loop .found) (at-start .args .name .now) (at-loop .left) (at-loop-test .left))
+returns-3 c = let at-start = c .before .before .before .before in
+    sym (c .before .loop .inv ∙ has-done (at-start .args .f .now) (c .before .loop .p) (c .before .loop .found)
+    (at-start .args .name .now) (c .before .loop .left) (c .loop-test .left))
 
 pub has-key-spec : {M : Type 1} → statement M
-has-key-spec =
-    tie.close
-    (tie.spec
-    Inv-loop
-    μ-loop
-    loop-holds
-    string-end-requires
-    enum-known-n
-    enum-told
-    returns
-    string-end-requires-2
-    enum-known-v
-    enum-told-2
-    returns-2
-    add-start
-    sub-is-same
-    part-is-same-start
-    part-is-same-end
-    is-same-requires
-    sub-left
-    loop-less
-    loop-again
-    returns-3)
+has-key-spec = tie.close (tie.spec Inv-loop μ-loop loop-holds (λ c κs. search needs) (λ c. search needs)
+    (λ c. search needs) returns (λ c κs. search needs) (λ c. search needs) (λ c. search needs) returns-2 add-start
+    sub-is-same part-is-same-start part-is-same-end (λ c κs. search needs) (λ c. search needs) (λ c. search needs)
+    loop-again returns-3)

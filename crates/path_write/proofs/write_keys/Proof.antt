@@ -15,180 +15,95 @@ use Rattle.path_write.proofs.write_keys.Tie as tie
 
 -- The keys passed are written, up to q in `out`; the `left` keys from p on are still to be, and there is room for them.
 abbrev Inv-loop : tie.InvT-loop
-Inv-loop f from count out₀ to p₀ q₀ left₀ out p q left = Writing keyText out₀ to (written (joined keyText) (times count key f from)) (endAt (times count key f from)) (times left key f p) out q
+Inv-loop f from count out₀ to p₀ q₀ left₀ out p q left =
+    Writing keyText out₀ to (written (joined keyText) (times count key f from)) (endAt (times count key f from)) (times left key f p) out q
 
 abbrev μ-loop : tie.MeasureT-loop
 μ-loop f from count out₀ to p₀ q₀ left₀ out p q left = left
 
 loop-holds : tie.Need-loop-holds Inv-loop μ-loop
-loop-holds c =
-    let at-start = c .before .before in
-    writing-start keyText _ _ _ (at-start .pre)
-
-string-end-requires : tie.Need-string-end-requires Inv-loop μ-loop
-string-end-requires c κs = search needs
-
-enum-known-n : tie.Need-enum-known-n Inv-loop μ-loop
-enum-known-n c = search needs
-
-enum-told : tie.Need-enum-told Inv-loop μ-loop
-enum-told c = search needs
+loop-holds c = writing-start keyText _ _ _ (c .before .before .pre)
 
 same-length : tie.Need-same-length Inv-loop μ-loop
-same-length c =
-    let at-loop = c .before .before .before .before .loop in
-    at-loop .inv .pending .long
+same-length c = let at-loop = c .before .before .before .before in at-loop .loop .inv .pending .long
 
 returns : tie.Need-returns Inv-loop μ-loop
-returns c =
-    let at-enum-told = c .enum-told in
-    let at-string-end = c .before .before .string-end in
-    let at-loop-test = c .before .before .before .loop-test in
-    let at-loop = c .before .before .before .before .loop in
-    writing-never _ _ _ _ _ _ _ _ (at-loop .inv) (times-unread key _ _ _ (at-loop-test .taken) (key-nameless _ _ _ (at-string-end .ensures) (at-enum-told .given .1)))
-
-string-end-requires-2 : tie.Need-string-end-requires-2 Inv-loop μ-loop
-string-end-requires-2 c κs = search needs
-
-enum-known-v : tie.Need-enum-known-v Inv-loop μ-loop
-enum-known-v c = search needs
-
-enum-told-2 : tie.Need-enum-told-2 Inv-loop μ-loop
-enum-told-2 c = search needs
+returns c = let at-loop-test = c .before .before .before in
+    writing-never _ _ _ _ _ _ _ _ (at-loop-test .before .loop .inv)
+    (times-unread key _ _ _ (at-loop-test .loop-test .taken) (key-nameless _ _ _ (c .before .before .string-end .ensures) (c .enum-told .given .1)))
 
 same-length-2 : tie.Need-same-length-2 Inv-loop μ-loop
-same-length-2 c =
-    let at-loop = c .before .before .before .before .before .before .before .before .loop in
-    at-loop .inv .pending .long
+same-length-2 c = let at-loop = c .before .before .before .before .before .before .before .before in
+    at-loop .loop .inv .pending .long
 
 returns-2 : tie.Need-returns-2 Inv-loop μ-loop
-returns-2 c =
-    let at-enum-told2 = c .enum-told2 in
-    let at-string-end2 = c .before .before .string-end2 in
-    let at-n = c .before .before .before .before .n in
-    let at-string-end = c .before .before .before .before .before .before .string-end in
-    let at-loop-test = c .before .before .before .before .before .before .before .loop-test in
-    let at-loop = c .before .before .before .before .before .before .before .before .loop in
-    writing-never _ _ _ _ _ _ _ _ (at-loop .inv) (times-unread key _ _ _ (at-loop-test .taken) (key-valueless _ _ _ (at-string-end .ensures) _ _ (at-n .given .1) (at-string-end2 .ensures) (at-enum-told2 .given .1)))
+returns-2 c = let at-n = c .before .before .before .before in let at-loop-test = at-n .before .before .before in
+    writing-never _ _ _ _ _ _ _ _ (at-loop-test .before .loop .inv)
+    (times-unread key _ _ _ (at-loop-test .loop-test .taken)
+    (key-valueless _ _ _ (at-n .before .before .string-end .ensures) _ _ (at-n .n .given .1)
+    (c .before .before .string-end2 .ensures) (c .enum-told2 .given .1)))
 
 add-start : tie.Need-add-start Inv-loop μ-loop
-add-start c =
-    let at-n = c .before .before .before .before .before .n in
-    let at-string-end = c .before .before .before .before .before .before .before .string-end in
-    let t = string-ends _ _ _ (at-string-end .ensures) _ (at-n .given .1) in omega (arith, t .1, t .2)
+add-start c = let at-n = c .before .before .before .before .before in
+    let t = string-ends _ _ _ (at-n .before .before .string-end .ensures) _ (at-n .n .given .1) in omega (arith, t .1, t .2)
 
 add-second : tie.Need-add-second Inv-loop μ-loop
-add-second c =
-    let at-v = c .before .v in
-    let at-string-end2 = c .before .before .before .string-end2 in
-    let t = string-ends _ _ _ (at-string-end2 .ensures) _ (at-v .given .1) in omega (arith, t .1, t .2)
+add-second c = let at-string-end2 = c .before .before .before in
+    let t = string-ends _ _ _ (at-string-end2 .string-end2 .ensures) _ (c .before .v .given .1) in omega (arith, t .1, t .2)
 
 sub-write-key : tie.Need-sub-write-key Inv-loop μ-loop
-sub-write-key c =
-    let at-n = c .before .before .before .before .before .n in
-    let at-string-end = c .before .before .before .before .before .before .before .string-end in
-    string-ends _ _ _ (at-string-end .ensures) _ (at-n .given .1) .1
+sub-write-key c = let at-n = c .before .before .before .before .before in
+    string-ends _ _ _ (at-n .before .before .string-end .ensures) _ (at-n .n .given .1) .1
 
 part-write-key-start : tie.Need-part-write-key-start Inv-loop μ-loop
-part-write-key-start c =
-    let at-n = c .before .before .before .before .before .n in
-    let at-string-end = c .before .before .before .before .before .before .before .string-end in
-    string-ends _ _ _ (at-string-end .ensures) _ (at-n .given .1) .1
+part-write-key-start c = let at-n = c .before .before .before .before .before in
+    string-ends _ _ _ (at-n .before .before .string-end .ensures) _ (at-n .n .given .1) .1
 
 part-write-key-end : tie.Need-part-write-key-end Inv-loop μ-loop
-part-write-key-end c =
-    let at-n = c .before .before .before .before .before .n in
-    let at-string-end = c .before .before .before .before .before .before .before .string-end in
-    string-ends _ _ _ (at-string-end .ensures) _ (at-n .given .1) .2
+part-write-key-end c = let at-n = c .before .before .before .before .before in
+    string-ends _ _ _ (at-n .before .before .string-end .ensures) _ (at-n .n .given .1) .2
 
 sub-write-key-2 : tie.Need-sub-write-key-2 Inv-loop μ-loop
-sub-write-key-2 c =
-    let at-v = c .before .before .v in
-    let at-string-end2 = c .before .before .before .before .string-end2 in
-    string-ends _ _ _ (at-string-end2 .ensures) _ (at-v .given .1) .1
+sub-write-key-2 c = let at-string-end2 = c .before .before .before .before in
+    string-ends _ _ _ (at-string-end2 .string-end2 .ensures) _ (c .before .before .v .given .1) .1
 
 part-write-key-start-2 : tie.Need-part-write-key-start-2 Inv-loop μ-loop
-part-write-key-start-2 c =
-    let at-v = c .before .before .v in
-    let at-string-end2 = c .before .before .before .before .string-end2 in
-    string-ends _ _ _ (at-string-end2 .ensures) _ (at-v .given .1) .1
+part-write-key-start-2 c = let at-string-end2 = c .before .before .before .before in
+    string-ends _ _ _ (at-string-end2 .string-end2 .ensures) _ (c .before .before .v .given .1) .1
 
 part-write-key-end-2 : tie.Need-part-write-key-end-2 Inv-loop μ-loop
-part-write-key-end-2 c =
-    let at-v = c .before .before .v in
-    let at-string-end2 = c .before .before .before .before .string-end2 in
-    string-ends _ _ _ (at-string-end2 .ensures) _ (at-v .given .1) .2
+part-write-key-end-2 c = let at-string-end2 = c .before .before .before .before in
+    string-ends _ _ _ (at-string-end2 .string-end2 .ensures) _ (c .before .before .v .given .1) .2
 
 write-key-requires : tie.Need-write-key-requires Inv-loop μ-loop
-write-key-requires c κs =
-    let at-v = c .before .before .before .before .v in
-    let at-string-end2 = c .before .before .before .before .before .before .string-end2 in
-    let at-n = c .before .before .before .before .before .before .before .before .n in
-    let at-string-end = c .before .before .before .before .before .before .before .before .before .before .string-end in
-    let at-loop-test = c .before .before .before .before .before .before .before .before .before .before .before .loop-test in
-    let at-loop = c .before .before .before .before .before .before .before .before .before .before .before .before .loop in
-    let at-start = c .before .before .before .before .before .before .before .before .before .before .before .before .before .before .before in
-    writing-room _ _ _ _ _ _ _ _ (at-loop .inv) _ (times (at-loop .left - 1) key (at-start .args .f .now) (at-v .given .0 .0))
-    (times-turn key (at-start .args .f .now) (at-loop .p) (at-loop .left) _ _ (at-loop-test .taken) (key-got _ _ _ (at-string-end .ensures) _ _ _ (at-n .given .1) (at-string-end2 .ensures) (at-v .given .1)))
-
-sub-left : tie.Need-sub-left Inv-loop μ-loop
-sub-left c = search needs
-
-loop-less : tie.Need-loop-less Inv-loop μ-loop
-loop-less c = search needs
+write-key-requires c κs = let at-v = c .before .before .before .before in
+    let at-n = at-v .before .before .before .before in let at-loop-test = at-n .before .before .before in
+    let at-loop = at-loop-test .before in let at-start = at-loop .before .before .before in
+    writing-room _ _ _ _ _ _ _ _ (at-loop .loop .inv) _ (times (at-loop .loop .left - 1) key (at-start .args .f .now) (at-v .v .given .0 .0))
+    (times-turn key (at-start .args .f .now) (at-loop .loop .p) (at-loop .loop .left) _ _
+    (at-loop-test .loop-test .taken) (key-got _ _ _ (at-n .before .before .string-end .ensures) _ _ _
+    (at-n .n .given .1) (at-v .before .before .string-end2 .ensures) (at-v .v .given .1)))
 
 loop-again : tie.Need-loop-again Inv-loop μ-loop
-loop-again c =
-    let at-write-key = c .before .before .write-key in
-    let at-v = c .before .before .before .before .before .before .before .v in
-    let at-string-end2 = c .before .before .before .before .before .before .before .before .before .string-end2 in
-    let at-n = c .before .before .before .before .before .before .before .before .before .before .before .n in
-    let at-string-end = c .before .before .before .before .before .before .before .before .before .before .before .before .before .string-end in
-    let at-loop-test = c .before .before .before .before .before .before .before .before .before .before .before .before .before .before .loop-test in
-    let at-loop = c .before .before .before .before .before .before .before .before .before .before .before .before .before .before .before .loop in
-    let at-start = c .before .before .before .before .before .before .before .before .before .before .before .before .before .before .before .before .before .before in
-    writing-turn _ _ _ _ _ _ _ _ (at-loop .inv) _ _ (times-turn key (at-start .args .f .now) (at-loop .p) (at-loop .left) _ _ (at-loop-test .taken) (key-got _ _ _ (at-string-end .ensures) _ _ _ (at-n .given .1) (at-string-end2 .ensures) (at-v .given .1))) _ _ (at-write-key .ensures)
+loop-again c = let at-v = c .before .before .before .before .before .before .before in
+    let at-n = at-v .before .before .before .before in let at-loop-test = at-n .before .before .before in
+    let at-loop = at-loop-test .before in let at-start = at-loop .before .before .before in
+    writing-turn _ _ _ _ _ _ _ _ (at-loop .loop .inv) _ _ (times-turn key (at-start .args .f .now) (at-loop .loop .p)
+    (at-loop .loop .left) _ _ (at-loop-test .loop-test .taken)
+    (key-got _ _ _ (at-n .before .before .string-end .ensures) _ _ _ (at-n .n .given .1)
+    (at-v .before .before .string-end2 .ensures) (at-v .v .given .1))) _ _ (c .before .before .write-key .ensures)
 
 same-length-3 : tie.Need-same-length-3 Inv-loop μ-loop
-same-length-3 c =
-    let at-loop = c .before .loop in
-    at-loop .inv .pending .long
+same-length-3 c = c .before .loop .inv .pending .long
 
 returns-3 : tie.Need-returns-3 Inv-loop μ-loop
 returns-3 c =
-    let at-loop-test = c .loop-test in
-    let at-loop = c .before .loop in
-    let d = writing-done _ _ _ _ _ _ _ _ (at-loop .inv) _ (times-done key _ _ _ (at-loop-test .left)) in
+    let d = writing-done _ _ _ _ _ _ _ _ (c .before .loop .inv) _ (times-done key _ _ _ (c .loop-test .left)) in
     record { next = d .0; wrote = d .1 }
 
 pub write-keys-spec : {M : Type 1} → statement M
-write-keys-spec =
-    tie.close
-    (tie.spec
-    Inv-loop
-    μ-loop
-    loop-holds
-    string-end-requires
-    enum-known-n
-    enum-told
-    same-length
-    returns
-    string-end-requires-2
-    enum-known-v
-    enum-told-2
-    same-length-2
-    returns-2
-    add-start
-    add-second
-    sub-write-key
-    part-write-key-start
-    part-write-key-end
-    sub-write-key-2
-    part-write-key-start-2
-    part-write-key-end-2
-    write-key-requires
-    sub-left
-    loop-less
-    loop-again
-    same-length-3
-    returns-3)
+write-keys-spec = tie.close (tie.spec Inv-loop μ-loop loop-holds (λ c κs. search needs) (λ c. search needs)
+    (λ c. search needs) same-length returns (λ c κs. search needs) (λ c. search needs) (λ c. search needs) same-length-2
+    returns-2 add-start add-second sub-write-key part-write-key-start part-write-key-end sub-write-key-2
+    part-write-key-start-2 part-write-key-end-2 write-key-requires (λ c. search needs) (λ c. search needs) loop-again
+    same-length-3 returns-3)

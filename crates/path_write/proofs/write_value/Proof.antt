@@ -18,54 +18,22 @@ abbrev μ-loop : tie.MeasureT-loop
 μ-loop v out₀ at p₀ i₀ out p i = length v - i
 
 loop-holds : tie.Need-loop-holds Inv-loop μ-loop
-loop-holds c =
-    let at-start = c .before .before in
-    (search needs, fill-start _ _ _ (at-start .pre))
-
-shared-slice-read-write-byte : tie.Need-shared-slice-read-write-byte Inv-loop μ-loop
-shared-slice-read-write-byte c = search needs
+loop-holds c = (search needs, fill-start _ _ _ (c .before .before .pre))
 
 write-byte-requires : tie.Need-write-byte-requires Inv-loop μ-loop
-write-byte-requires c κs =
-    let at-loop-test = c .before .before .loop-test in
-    let at-loop = c .before .before .before .loop in
-    value-room _ _ _ _ _ _ _ (at-loop .inv .1) (at-loop-test .taken)
-
-add-i : tie.Need-add-i Inv-loop μ-loop
-add-i c = search needs
-
-loop-less : tie.Need-loop-less Inv-loop μ-loop
-loop-less c = search needs
+write-byte-requires c κs = let at-loop = c .before .before .before in
+    value-room _ _ _ _ _ _ _ (at-loop .loop .inv .1) (c .before .before .loop-test .taken)
 
 loop-again : tie.Need-loop-again Inv-loop μ-loop
-loop-again c =
-    let at-write-byte = c .before .before .write-byte in
-    let at-loop-test = c .before .before .before .before .before .loop-test in
-    let at-loop = c .before .before .before .before .before .before .loop in
-    (omega arith, value-turn _ _ _ _ _ _ _ (at-loop .inv .1) _ _ (at-loop-test .taken) (at-write-byte .ensures))
+loop-again c = let at-loop-test = c .before .before .before .before .before in
+    (omega arith, value-turn _ _ _ _ _ _ _ (at-loop-test .before .loop .inv .1) _ _ (at-loop-test .loop-test .taken) (c .before .before .write-byte .ensures))
 
 same-length : tie.Need-same-length Inv-loop μ-loop
-same-length c =
-    let at-loop = c .before .loop in
-    at-loop .inv .1 .long
+same-length c = c .before .loop .inv .1 .long
 
 returns : tie.Need-returns Inv-loop μ-loop
-returns c =
-    let at-loop-test = c .loop-test in
-    let at-loop = c .before .loop in
-    value-done _ _ _ _ _ _ _ (at-loop .inv .1) (at-loop-test .left)
+returns c = value-done _ _ _ _ _ _ _ (c .before .loop .inv .1) (c .loop-test .left)
 
 pub write-value-spec : {M : Type 1} → statement M
-write-value-spec =
-    tie.close
-    (tie.spec
-    Inv-loop
-    μ-loop
-    loop-holds
-    shared-slice-read-write-byte
-    write-byte-requires
-    add-i
-    loop-less
-    loop-again
-    same-length
-    returns)
+write-value-spec = tie.close (tie.spec Inv-loop μ-loop loop-holds (λ c. search needs) write-byte-requires
+    (λ c. search needs) (λ c. search needs) loop-again same-length returns)

@@ -7,39 +7,26 @@ use Rattle.place.proofs.elem_end.Tie as tie
 
 str-end-requires : tie.Need-str-end-requires
 str-end-requires c κs =
-    let at-start = c .before in
-    let e = elem-room (at-start .args .f .now) (at-start .args .at) (at-start .pre) in omega arith
+    let e = elem-room (c .before .args .f .now) (c .before .args .at) (c .before .pre) in omega arith
 
 shared-slice-read-k : tie.Need-shared-slice-read-k
-shared-slice-read-k c =
-    let at-start = c .before .before .before in
+shared-slice-read-k c = let at-start = c .before .before .before in
     let e = elem-room (at-start .args .f .now) (at-start .args .at) (at-start .pre) in omega arith
 
 cast-k : tie.Need-cast-k
-cast-k c =
-    let at-shared-slice-known2 = c .shared-slice-known2 in
-    let at-str-end = c .before .str-end in
-    omega (arith, at-shared-slice-known2 .given (at-str-end .result))
+cast-k c = omega (arith, c .shared-slice-known2 .given (c .before .str-end .result))
 
 add-keys-end : tie.Need-add-keys-end
-add-keys-end c =
-    let at-start = c .before .before .before in
+add-keys-end c = let at-start = c .before .before .before in
     let e = elem-room (at-start .args .f .now) (at-start .args .at) (at-start .pre) in omega arith
 
 keys-end-requires : tie.Need-keys-end-requires
-keys-end-requires c κs =
-    let at-str-end = c .before .str-end in
-    let at-start = c .before .before .before in
-    rw (at-str-end .ensures) (elem-room (at-start .args .f .now) (at-start .args .at) (at-start .pre) .1)
+keys-end-requires c κs = let at-start = c .before .before .before in
+    rw (c .before .str-end .ensures) (elem-room (at-start .args .f .now) (at-start .args .at) (at-start .pre) .1)
 
 returns : tie.Need-returns
 unfolding elemEnd
-returns c =
-    let at-keys-end = c .keys-end in
-    let at-str-end = c .before .before .str-end in
-    rw (sym (at-str-end .ensures)) (at-keys-end .ensures)
+returns c = rw (sym (c .before .before .str-end .ensures)) (c .keys-end .ensures)
 
 pub elem-end-spec : {M : Type 1} → statement M
-elem-end-spec =
-    tie.close
-    (tie.spec str-end-requires shared-slice-read-k cast-k add-keys-end keys-end-requires returns)
+elem-end-spec = tie.close (tie.spec str-end-requires shared-slice-read-k cast-k add-keys-end keys-end-requires returns)

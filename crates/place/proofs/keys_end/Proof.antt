@@ -15,36 +15,20 @@ abbrev μ-loop : tie.MeasureT-loop
 μ-loop f at k q₀ left₀ q left = left
 
 loop-holds : tie.Need-loop-holds Inv-loop μ-loop
-loop-holds c =
-    let at-start = c .before in
-    (at-start .pre, refl)
+loop-holds c = (c .before .pre, refl)
 
 key-end-requires : tie.Need-key-end-requires Inv-loop μ-loop
-key-end-requires c κs =
-    let at-loop-test = c .loop-test in
-    let at-loop = c .before .loop in
-    keys-room _ _ _ (at-loop-test .taken) (at-loop .inv .0) .1
-
-sub-left : tie.Need-sub-left Inv-loop μ-loop
-sub-left c = search needs
-
-loop-less : tie.Need-loop-less Inv-loop μ-loop
-loop-less c = search needs
+key-end-requires c κs = keys-room _ _ _ (c .loop-test .taken) (c .before .loop .inv .0) .1
 
 loop-again : tie.Need-loop-again Inv-loop μ-loop
-loop-again c =
-    let at-key-end = c .key-end in
-    let at-loop-test = c .before .loop-test in
-    let at-loop = c .before .before .loop in
-    (keys-again _ _ _ _ (at-loop-test .taken) (at-loop .inv .0) (at-key-end .ensures), at-loop .inv .1 ∙ rw (at-key-end .ensures) (keys-step _ _ _ (at-loop-test .taken)))
+loop-again c = (
+  keys-again _ _ _ _ (c .before .loop-test .taken) (c .before .before .loop .inv .0) (c .key-end .ensures),
+  c .before .before .loop .inv .1 ∙ rw (c .key-end .ensures) (keys-step _ _ _ (c .before .loop-test .taken)),
+)
 
 returns : tie.Need-returns Inv-loop μ-loop
-returns c =
-    let at-loop-test = c .loop-test in
-    let at-loop = c .before .loop in
-    sym (at-loop .inv .1 ∙ keys-stop _ _ _ (at-loop-test .left))
+returns c = sym (c .before .loop .inv .1 ∙ keys-stop _ _ _ (c .loop-test .left))
 
 pub keys-end-spec : {M : Type 1} → statement M
-keys-end-spec =
-    tie.close
-    (tie.spec Inv-loop μ-loop loop-holds key-end-requires sub-left loop-less loop-again returns)
+keys-end-spec = tie.close (tie.spec Inv-loop μ-loop loop-holds key-end-requires (λ c. search needs) (λ c. search needs)
+    loop-again returns)

@@ -14,10 +14,7 @@ shared-slice-read-result c = omega arith
 
 cast-result : tie.Need-cast-result
 unfolding strEnd
-cast-result c =
-    let at-shared-slice-known = c .shared-slice-known in
-    let at-start = c .before in
-    omega (arith, at-shared-slice-known .given (at-start .args .at))
+cast-result c = omega (arith, c .shared-slice-known .given (c .before .args .at))
 
 add-result-2 : tie.Need-add-result-2
 unfolding strEnd
@@ -28,5 +25,4 @@ unfolding strEnd
 returns c = refl
 
 pub str-end-spec : {M : Type 1} → statement M
-str-end-spec =
-    tie.close (tie.spec add-result shared-slice-read-result cast-result add-result-2 returns)
+str-end-spec = tie.close (tie.spec add-result shared-slice-read-result cast-result add-result-2 returns)

@@ -5,18 +5,9 @@ use Rattle.verdict_text.specs.Either.{oneOf, pathOf}
 use Rattle.probe.proofs.probe_path.Statement.{statement}
 use Rattle.probe.proofs.probe_path.Tie as tie
 
-probe-requires : tie.Need-probe-requires
-probe-requires c κs = search needs
-
-path-of-requires : tie.Need-path-of-requires
-path-of-requires c κs = search needs
-
 returns : tie.Need-returns
 unfolding oneOf pathOf if_then_else_
-returns c =
-    let at-path-of = c .path-of in
-    let at-probe = c .before .probe in
-    at-path-of .ensures ∙ ap pathOf (at-probe .ensures)
+returns c = c .path-of .ensures ∙ ap pathOf (c .before .probe .ensures)
 
 pub probe-path-spec : {M : Type 1} → statement M
-probe-path-spec = tie.close (tie.spec probe-requires path-of-requires returns)
+probe-path-spec = tie.close (tie.spec (λ c κs. search needs) (λ c κs. search needs) returns)

@@ -8,144 +8,93 @@ use Rattle.readable_lines.proofs.pack_line.Statement.{statement}
 use Rattle.readable_lines.proofs.pack_line.Tie as tie
 
 find-requires : tie.Need-find-requires
-find-requires c κs =
-    let at-start = c .before .before in
-    omega (arith, at-start .pre .0)
+find-requires c κs = omega (arith, c .before .before .pre .0)
 
 returns : tie.Need-returns
-returns c =
-    let at-if1 = c .if1 in
-    let at-find = c .before .find in
-    let at-start = c .before .before .before .before in
-    pack-open (at-start .args .text .now) (at-start .args .from) (at-start .pre .0) _ (at-find .ensures) (at-if1 .taken)
+returns c = let at-start = c .before .before .before .before in
+    pack-open (at-start .args .text .now) (at-start .args .from) (at-start .pre .0) _ (c .before .find .ensures) (c .if1 .taken)
 
 sub-pack-frame : tie.Need-sub-pack-frame
-sub-pack-frame c =
-    let at-find = c .before .find in
-    omega (arith, at-find .ensures)
+sub-pack-frame c = omega (arith, c .before .find .ensures)
 
 part-pack-frame-start : tie.Need-part-pack-frame-start
-part-pack-frame-start c =
-    let at-find = c .before .find in
-    omega (arith, at-find .ensures)
+part-pack-frame-start c = omega (arith, c .before .find .ensures)
 
 part-pack-frame-end : tie.Need-part-pack-frame-end
-part-pack-frame-end c =
-    let at-if1 = c .if1 in
-    omega (arith, at-if1 .left)
-
-slice-aggregate-pack-frame : tie.Need-slice-aggregate-pack-frame
-slice-aggregate-pack-frame c = search needs
-
-pack-frame-requires : tie.Need-pack-frame-requires
-pack-frame-requires c κs = search needs
-
-enum-known-s : tie.Need-enum-known-s
-enum-known-s c = search needs
-
-enum-told : tie.Need-enum-told
-enum-told c = search needs
+part-pack-frame-end c = omega (arith, c .if1 .left)
 
 returns-2 : tie.Need-returns-2
-returns-2 c =
-    let at-enum-told = c .enum-told in
-    let at-pack-frame = c .before .before .before .pack-frame in
-    let at-if1 = c .before .before .before .before .before .before .if1 in
-    let at-find = c .before .before .before .before .before .before .before .find in
-    let at-start = c .before .before .before .before .before .before .before .before .before .before in
-    pack-unread (at-start .args .text .now) (at-start .args .from) (at-start .pre .0) _ (at-find .ensures) (at-if1 .left) _ _ _ (at-pack-frame .ensures) (at-enum-told .given .1)
+returns-2 c = let at-pack-frame = c .before .before .before in let at-if1 = at-pack-frame .before .before .before in
+    let at-start = at-if1 .before .before .before .before in
+    pack-unread (at-start .args .text .now) (at-start .args .from) (at-start .pre .0) _ (at-if1 .before .find .ensures)
+    (at-if1 .if1 .left) _ _ _ (at-pack-frame .pack-frame .ensures) (c .enum-told .given .1)
 
 array-share-prefix-frame : tie.Need-array-share-prefix-frame
-array-share-prefix-frame c =
-    let at-s = c .before .s in
-    let at-pack-frame = c .before .before .before .before .pack-frame in
-    let at-if1 = c .before .before .before .before .before .before .before .if1 in
-    let at-find = c .before .before .before .before .before .before .before .before .find in
-    let at-start = c .before .before .before .before .before .before .before .before .before .before .before in
-    omega (arith, pack-end (at-start .args .text .now) (at-start .args .from) (at-start .pre .0) _ (at-find .ensures) (at-if1 .left) _ _ _ (at-pack-frame .ensures) _ _ (at-s .given .1) (at-start .args .out .now) (at-start .pre .1))
+array-share-prefix-frame c = let at-pack-frame = c .before .before .before .before in
+    let at-if1 = at-pack-frame .before .before .before in let at-start = at-if1 .before .before .before .before in
+    omega (
+      arith,
+      pack-end (at-start .args .text .now) (at-start .args .from) (at-start .pre .0) _ (at-if1 .before .find .ensures)
+          (at-if1 .if1 .left) _ _ _ (at-pack-frame .pack-frame .ensures) _ _ (c .before .s .given .1) (at-start .args .out .now) (at-start .pre .1),
+    )
 
 slice-aggregate-write-hex : tie.Need-slice-aggregate-write-hex
-slice-aggregate-write-hex c =
-    let at-s = c .before .before .s in
-    let at-pack-frame = c .before .before .before .before .before .pack-frame in
-    let at-if1 = c .before .before .before .before .before .before .before .before .if1 in
-    let at-find = c .before .before .before .before .before .before .before .before .before .find in
-    let at-start = c .before .before .before .before .before .before .before .before .before .before .before .before in
-    sym (length-take-le _ _ (omega (arith, pack-end (at-start .args .text .now) (at-start .args .from) (at-start .pre .0) _ (at-find .ensures) (at-if1 .left) _ _ _ (at-pack-frame .ensures) _ _ (at-s .given .1) (at-start .args .out .now) (at-start .pre .1))))
+slice-aggregate-write-hex c = let at-pack-frame = c .before .before .before .before .before in
+    let at-if1 = at-pack-frame .before .before .before in let at-start = at-if1 .before .before .before .before in
+    sym (length-take-le _ _ (omega (
+      arith,
+      pack-end (at-start .args .text .now) (at-start .args .from) (at-start .pre .0) _ (at-if1 .before .find .ensures)
+          (at-if1 .if1 .left) _ _ _ (at-pack-frame .pack-frame .ensures) _ _ (c .before .before .s .given .1) (at-start .args .out .now) (at-start .pre .1),
+    )))
 
 write-hex-requires : tie.Need-write-hex-requires
-write-hex-requires c κs =
-    let at-s = c .before .before .before .s in
-    let at-pack-frame = c .before .before .before .before .before .before .pack-frame in
-    let at-if1 = c .before .before .before .before .before .before .before .before .before .if1 in
-    let at-find = c .before .before .before .before .before .before .before .before .before .before .find in
-    let at-start = c .before .before .before .before .before .before .before .before .before .before .before .before .before in
-    pack-fits (at-start .args .text .now) (at-start .args .from) (at-start .pre .0) _ (at-find .ensures) (at-if1 .left) _ _ _ (at-pack-frame .ensures) _ _ (at-s .given .1) (at-start .args .out .now) (at-start .pre .1)
+write-hex-requires c κs = let at-s = c .before .before .before in let at-pack-frame = at-s .before .before .before in
+    let at-if1 = at-pack-frame .before .before .before in let at-start = at-if1 .before .before .before .before in
+    pack-fits (at-start .args .text .now) (at-start .args .from) (at-start .pre .0) _ (at-if1 .before .find .ensures)
+    (at-if1 .if1 .left) _ _ _ (at-pack-frame .pack-frame .ensures) _ _ (at-s .s .given .1) (at-start .args .out .now) (at-start .pre .1)
 
 slice-write-out : tie.Need-slice-write-out
-slice-write-out c =
-    let at-write-hex = c .before .before .write-hex in
-    let at-s = c .before .before .before .before .before .before .s in
-    let at-pack-frame = c .before .before .before .before .before .before .before .before .before .pack-frame in
-    let at-if1 = c .before .before .before .before .before .before .before .before .before .before .before .before .if1 in
-    let at-find = c .before .before .before .before .before .before .before .before .before .before .before .before .before .find in
-    let at-start = c .before .before .before .before .before .before .before .before .before .before .before .before .before .before .before .before in
-    pack-room (at-start .args .text .now) (at-start .args .from) (at-start .pre .0) _ (at-find .ensures) (at-if1 .left) _ _ _ (at-pack-frame .ensures) _ _ (at-s .given .1) (at-start .args .out .now) (at-start .pre .1) _ _ (at-write-hex .ensures) .0
+slice-write-out c = let at-s = c .before .before .before .before .before .before in
+    let at-pack-frame = at-s .before .before .before in let at-if1 = at-pack-frame .before .before .before in
+    let at-start = at-if1 .before .before .before .before in
+    pack-room (at-start .args .text .now) (at-start .args .from) (at-start .pre .0) _ (at-if1 .before .find .ensures)
+    (at-if1 .if1 .left) _ _ _ (at-pack-frame .pack-frame .ensures) _ _ (at-s .s .given .1)
+    (at-start .args .out .now) (at-start .pre .1) _ _ (c .before .before .write-hex .ensures) .0
 
 add-t9 : tie.Need-add-t9
 add-t9 c =
-    let at-if1 = c .before .before .before .before .before .before .before .before .before .before .before .before .if1 in
-    omega (arith, at-if1 .left)
+    let at-if1 = c .before .before .before .before .before .before .before .before .before .before .before .before in
+    omega (arith, at-if1 .if1 .left)
 
 add-t21 : tie.Need-add-t21
-add-t21 c =
-    let at-write-hex = c .before .before .write-hex in
-    let at-s = c .before .before .before .before .before .before .s in
-    let at-pack-frame = c .before .before .before .before .before .before .before .before .before .pack-frame in
-    let at-if1 = c .before .before .before .before .before .before .before .before .before .before .before .before .if1 in
-    let at-find = c .before .before .before .before .before .before .before .before .before .before .before .before .before .find in
-    let at-start = c .before .before .before .before .before .before .before .before .before .before .before .before .before .before .before .before in
-    omega (arith, pack-room (at-start .args .text .now) (at-start .args .from) (at-start .pre .0) _ (at-find .ensures) (at-if1 .left) _ _ _ (at-pack-frame .ensures) _ _ (at-s .given .1) (at-start .args .out .now) (at-start .pre .1) _ _ (at-write-hex .ensures) .1)
+add-t21 c = let at-s = c .before .before .before .before .before .before in
+    let at-pack-frame = at-s .before .before .before in let at-if1 = at-pack-frame .before .before .before in
+    let at-start = at-if1 .before .before .before .before in
+    omega (
+      arith,
+      pack-room (at-start .args .text .now) (at-start .args .from) (at-start .pre .0) _
+          (at-if1 .before .find .ensures) (at-if1 .if1 .left) _ _ _ (at-pack-frame .pack-frame .ensures) _ _
+          (at-s .s .given .1) (at-start .args .out .now) (at-start .pre .1) _ _ (c .before .before .write-hex .ensures) .1,
+    )
 
 same-length : tie.Need-same-length
-same-length c =
-    let at-write-hex = c .before .before .write-hex in
-    let at-s = c .before .before .before .before .before .before .s in
-    let at-pack-frame = c .before .before .before .before .before .before .before .before .before .pack-frame in
-    let at-if1 = c .before .before .before .before .before .before .before .before .before .before .before .before .if1 in
-    let at-find = c .before .before .before .before .before .before .before .before .before .before .before .before .before .find in
-    let at-start = c .before .before .before .before .before .before .before .before .before .before .before .before .before .before .before .before in
-    pack-long (at-start .args .text .now) (at-start .args .from) (at-start .pre .0) _ (at-find .ensures) (at-if1 .left) _ _ _ (at-pack-frame .ensures) _ _ (at-s .given .1) (at-start .args .out .now) (at-start .pre .1) _ _ (at-write-hex .ensures)
+same-length c = let at-s = c .before .before .before .before .before .before in
+    let at-pack-frame = at-s .before .before .before in let at-if1 = at-pack-frame .before .before .before in
+    let at-start = at-if1 .before .before .before .before in
+    pack-long (at-start .args .text .now) (at-start .args .from) (at-start .pre .0) _ (at-if1 .before .find .ensures)
+    (at-if1 .if1 .left) _ _ _ (at-pack-frame .pack-frame .ensures) _ _ (at-s .s .given .1)
+    (at-start .args .out .now) (at-start .pre .1) _ _ (c .before .before .write-hex .ensures)
 
 returns-3 : tie.Need-returns-3
-returns-3 c =
-    let at-write-hex = c .before .before .write-hex in
-    let at-s = c .before .before .before .before .before .before .s in
-    let at-pack-frame = c .before .before .before .before .before .before .before .before .before .pack-frame in
-    let at-if1 = c .before .before .before .before .before .before .before .before .before .before .before .before .if1 in
-    let at-find = c .before .before .before .before .before .before .before .before .before .before .before .before .before .find in
-    let at-start = c .before .before .before .before .before .before .before .before .before .before .before .before .before .before .before .before in
-    pack-lays (at-start .args .text .now) (at-start .args .from) (at-start .pre .0) _ (at-find .ensures) (at-if1 .left) _ _ _ (at-pack-frame .ensures) _ _ (at-s .given .1) (at-start .args .out .now) (at-start .pre .1) _ _ (at-write-hex .ensures)
+returns-3 c = let at-s = c .before .before .before .before .before .before in
+    let at-pack-frame = at-s .before .before .before in let at-if1 = at-pack-frame .before .before .before in
+    let at-start = at-if1 .before .before .before .before in
+    pack-lays (at-start .args .text .now) (at-start .args .from) (at-start .pre .0) _ (at-if1 .before .find .ensures)
+    (at-if1 .if1 .left) _ _ _ (at-pack-frame .pack-frame .ensures) _ _ (at-s .s .given .1)
+    (at-start .args .out .now) (at-start .pre .1) _ _ (c .before .before .write-hex .ensures)
 
 pub pack-line-spec : {M : Type 1} → statement M
-pack-line-spec =
-    tie.close
-    (tie.spec
-    find-requires
-    returns
-    sub-pack-frame
-    part-pack-frame-start
-    part-pack-frame-end
-    slice-aggregate-pack-frame
-    pack-frame-requires
-    enum-known-s
-    enum-told
-    returns-2
-    array-share-prefix-frame
-    slice-aggregate-write-hex
-    write-hex-requires
-    slice-write-out
-    add-t9
-    add-t21
-    same-length
+pack-line-spec = tie.close (tie.spec find-requires returns sub-pack-frame part-pack-frame-start part-pack-frame-end
+    (λ c. search needs) (λ c κs. search needs) (λ c. search needs) (λ c. search needs) returns-2
+    array-share-prefix-frame slice-aggregate-write-hex write-hex-requires slice-write-out add-t9 add-t21 same-length
     returns-3)

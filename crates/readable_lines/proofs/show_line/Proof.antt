@@ -8,117 +8,79 @@ use Rattle.readable_lines.proofs.Lining.{show-bad, show-unread, show-ro
 use Rattle.readable_lines.proofs.show_line.Statement.{statement}
 use Rattle.readable_lines.proofs.show_line.Tie as tie
 
-slice-aggregate-read-line : tie.Need-slice-aggregate-read-line
-slice-aggregate-read-line c = search needs
-
 read-line-requires : tie.Need-read-line-requires
-read-line-requires c κs =
-    let at-start = c .before .before .before in
+read-line-requires c κs = let at-start = c .before .before .before in
     (omega (arith, at-start .pre .0), omega (arith, at-start .pre .1))
 
-enum-known-l : tie.Need-enum-known-l
-enum-known-l c = search needs
-
-enum-told : tie.Need-enum-told
-enum-told c = search needs
-
 returns : tie.Need-returns
-returns c =
-    let at-enum-told = c .enum-told in
-    let at-read-line = c .before .before .before .read-line in
-    let at-start = c .before .before .before .before .before .before .before in
-    show-bad _ _ (at-start .pre .0) _ (at-read-line .ensures .0) (at-enum-told .given .1)
+returns c = let at-read-line = c .before .before .before in
+    let at-start = at-read-line .before .before .before .before in
+    show-bad _ _ (at-start .pre .0) _ (at-read-line .read-line .ensures .0) (c .enum-told .given .1)
 
 array-share-prefix-frame : tie.Need-array-share-prefix-frame
-array-share-prefix-frame c =
-    let at-l = c .before .l in
-    let at-read-line = c .before .before .before .before .read-line in
-    let at-start = c .before .before .before .before .before .before .before .before in
-    omega (arith, frame-room _ _ (at-start .pre .0) _ (at-read-line .ensures .0) _ _ (at-l .given .1) _ _ (at-read-line .ensures .1), at-start .pre .1)
+array-share-prefix-frame c = let at-read-line = c .before .before .before .before in
+    let at-start = at-read-line .before .before .before .before in
+    omega (
+      arith,
+      frame-room _ _ (at-start .pre .0) _ (at-read-line .read-line .ensures .0) _ _ (c .before .l .given .1) _ _
+          (at-read-line .read-line .ensures .1),
+      at-start .pre .1,
+    )
 
 slice-aggregate-show-frame : tie.Need-slice-aggregate-show-frame
-slice-aggregate-show-frame c =
-    let at-l = c .before .before .l in
-    let at-read-line = c .before .before .before .before .before .read-line in
-    let at-start = c .before .before .before .before .before .before .before .before .before in
-    sym (length-take-le _ _ (omega (arith, frame-room _ _ (at-start .pre .0) _ (at-read-line .ensures .0) _ _ (at-l .given .1) _ _ (at-read-line .ensures .1), at-start .pre .1)))
+slice-aggregate-show-frame c = let at-read-line = c .before .before .before .before .before in
+    let at-start = at-read-line .before .before .before .before in
+    sym (length-take-le _ _ (omega (
+      arith,
+      frame-room _ _ (at-start .pre .0) _ (at-read-line .read-line .ensures .0) _ _ (c .before .before .l .given .1) _
+          _ (at-read-line .read-line .ensures .1),
+      at-start .pre .1,
+    )))
 
 show-frame-requires : tie.Need-show-frame-requires
 show-frame-requires c κs =
     let at-start = c .before .before .before .before .before .before .before .before .before .before in
     omega (arith, at-start .pre .2)
 
-enum-known-s : tie.Need-enum-known-s
-enum-known-s c = search needs
-
-enum-told-2 : tie.Need-enum-told-2
-enum-told-2 c = search needs
-
-same-length : tie.Need-same-length
-same-length c = search needs
-
 returns-2 : tie.Need-returns-2
-returns-2 c =
-    let at-enum-told2 = c .enum-told2 in
-    let at-show-frame = c .before .before .before .before .show-frame in
-    let at-l = c .before .before .before .before .before .before .before .before .l in
-    let at-read-line = c .before .before .before .before .before .before .before .before .before .before .before .read-line in
-    let at-start = c .before .before .before .before .before .before .before .before .before .before .before .before .before .before .before in
-    show-unread _ _ (at-start .pre .0) _ (at-read-line .ensures .0) _ _ (at-l .given .1) _ _ (at-read-line .ensures .1) _ _ _ (at-show-frame .ensures) (at-enum-told2 .given .1)
+returns-2 c = let at-show-frame = c .before .before .before .before in
+    let at-l = at-show-frame .before .before .before .before in let at-read-line = at-l .before .before .before in
+    let at-start = at-read-line .before .before .before .before in
+    show-unread _ _ (at-start .pre .0) _ (at-read-line .read-line .ensures .0) _ _ (at-l .l .given .1) _ _
+    (at-read-line .read-line .ensures .1) _ _ _ (at-show-frame .show-frame .ensures) (c .enum-told2 .given .1)
 
 slice-write-out : tie.Need-slice-write-out
-slice-write-out c =
-    let at-s = c .before .s in
-    let at-show-frame = c .before .before .before .before .before .show-frame in
-    let at-l = c .before .before .before .before .before .before .before .before .before .l in
-    let at-read-line = c .before .before .before .before .before .before .before .before .before .before .before .before .read-line in
-    let at-start = c .before .before .before .before .before .before .before .before .before .before .before .before .before .before .before .before in
-    show-room _ _ (at-start .pre .0) _ (at-read-line .ensures .0) _ _ (at-l .given .1) _ _ (at-read-line .ensures .1) _ _ _ (at-show-frame .ensures) _ _ (at-s .given .1) (at-start .pre .2) .0
+slice-write-out c = let at-show-frame = c .before .before .before .before .before in
+    let at-l = at-show-frame .before .before .before .before in let at-read-line = at-l .before .before .before in
+    let at-start = at-read-line .before .before .before .before in
+    show-room _ _ (at-start .pre .0) _ (at-read-line .read-line .ensures .0) _ _ (at-l .l .given .1) _ _
+    (at-read-line .read-line .ensures .1) _ _ _ (at-show-frame .show-frame .ensures) _ _ (c .before .s .given .1) (at-start .pre .2) .0
 
 add-t17 : tie.Need-add-t17
-add-t17 c =
-    let at-s = c .before .s in
-    let at-show-frame = c .before .before .before .before .before .show-frame in
-    let at-l = c .before .before .before .before .before .before .before .before .before .l in
-    let at-read-line = c .before .before .before .before .before .before .before .before .before .before .before .before .read-line in
-    let at-start = c .before .before .before .before .before .before .before .before .before .before .before .before .before .before .before .before in
-    omega (arith, show-room _ _ (at-start .pre .0) _ (at-read-line .ensures .0) _ _ (at-l .given .1) _ _ (at-read-line .ensures .1) _ _ _ (at-show-frame .ensures) _ _ (at-s .given .1) (at-start .pre .2) .1)
+add-t17 c = let at-show-frame = c .before .before .before .before .before in
+    let at-l = at-show-frame .before .before .before .before in let at-read-line = at-l .before .before .before in
+    let at-start = at-read-line .before .before .before .before in
+    omega (
+      arith,
+      show-room _ _ (at-start .pre .0) _ (at-read-line .read-line .ensures .0) _ _ (at-l .l .given .1) _ _
+          (at-read-line .read-line .ensures .1) _ _ _ (at-show-frame .show-frame .ensures) _ _ (c .before .s .given .1) (at-start .pre .2) .1,
+    )
 
 same-length-2 : tie.Need-same-length-2
-same-length-2 c =
-    let at-s = c .before .s in
-    let at-show-frame = c .before .before .before .before .before .show-frame in
-    let at-l = c .before .before .before .before .before .before .before .before .before .l in
-    let at-read-line = c .before .before .before .before .before .before .before .before .before .before .before .before .read-line in
-    let at-start = c .before .before .before .before .before .before .before .before .before .before .before .before .before .before .before .before in
-    show-long _ _ (at-start .pre .0) _ (at-read-line .ensures .0) _ _ (at-l .given .1) _ _ (at-read-line .ensures .1) _ _ _ (at-show-frame .ensures) _ _ (at-s .given .1) (at-start .pre .2)
+same-length-2 c = let at-show-frame = c .before .before .before .before .before in
+    let at-l = at-show-frame .before .before .before .before in let at-read-line = at-l .before .before .before in
+    let at-start = at-read-line .before .before .before .before in
+    show-long _ _ (at-start .pre .0) _ (at-read-line .read-line .ensures .0) _ _ (at-l .l .given .1) _ _
+    (at-read-line .read-line .ensures .1) _ _ _ (at-show-frame .show-frame .ensures) _ _ (c .before .s .given .1) (at-start .pre .2)
 
 returns-3 : tie.Need-returns-3
-returns-3 c =
-    let at-s = c .before .s in
-    let at-show-frame = c .before .before .before .before .before .show-frame in
-    let at-l = c .before .before .before .before .before .before .before .before .before .l in
-    let at-read-line = c .before .before .before .before .before .before .before .before .before .before .before .before .read-line in
-    let at-start = c .before .before .before .before .before .before .before .before .before .before .before .before .before .before .before .before in
-    show-lays _ _ (at-start .pre .0) _ (at-read-line .ensures .0) _ _ (at-l .given .1) _ _ (at-read-line .ensures .1) _ _ _ (at-show-frame .ensures) _ _ (at-s .given .1) (at-start .pre .2)
+returns-3 c = let at-show-frame = c .before .before .before .before .before in
+    let at-l = at-show-frame .before .before .before .before in let at-read-line = at-l .before .before .before in
+    let at-start = at-read-line .before .before .before .before in
+    show-lays _ _ (at-start .pre .0) _ (at-read-line .read-line .ensures .0) _ _ (at-l .l .given .1) _ _
+    (at-read-line .read-line .ensures .1) _ _ _ (at-show-frame .show-frame .ensures) _ _ (c .before .s .given .1) (at-start .pre .2)
 
 pub show-line-spec : {M : Type 1} → statement M
-show-line-spec =
-    tie.close
-    (tie.spec
-    slice-aggregate-read-line
-    read-line-requires
-    enum-known-l
-    enum-told
-    returns
-    array-share-prefix-frame
-    slice-aggregate-show-frame
-    show-frame-requires
-    enum-known-s
-    enum-told-2
-    same-length
-    returns-2
-    slice-write-out
-    add-t17
-    same-length-2
-    returns-3)
+show-line-spec = tie.close (tie.spec (λ c. search needs) read-line-requires (λ c. search needs) (λ c. search needs)
+    returns array-share-prefix-frame slice-aggregate-show-frame show-frame-requires (λ c. search needs)
+    (λ c. search needs) (λ c. search needs) returns-2 slice-write-out add-t17 same-length-2 returns-3)

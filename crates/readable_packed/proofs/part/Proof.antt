@@ -9,193 +9,85 @@ use Rattle.readable_packed.proofs.part.Statement.{statement}
 use Rattle.readable_packed.proofs.part.Tie as tie
 
 string-requires : tie.Need-string-requires
-string-requires c κs =
-    let at-if1 = c .before .if1 in
-    let at-start = c .before .before .before .before in
-    (omega (arith, at-start .pre .0, is-string packed _ (at-if1 .taken) .1), at-start .pre .1)
-
-same-length : tie.Need-same-length
-same-length c = search needs
+string-requires c κs = let at-start = c .before .before .before .before in
+    (omega (arith, at-start .pre .0, is-string packed _ (c .before .if1 .taken) .1), at-start .pre .1)
 
 returns : tie.Need-returns
 unfolding packed
-returns c =
-    let at-string = c .before .before .string in
-    let at-if1 = c .before .before .before .before .if1 in
-    put-as packed _ (is-string packed _ (at-if1 .taken)) (at-string .ensures)
+returns c = let at-if1 = c .before .before .before .before in
+    put-as packed _ (is-string packed _ (at-if1 .if1 .taken)) (c .before .before .string .ensures)
 
 time-requires : tie.Need-time-requires
-time-requires c κs =
-    let at-if2 = c .before .if2 in
-    let at-start = c .before .before .before .before .before in
-    (omega (arith, at-start .pre .0, is-time packed _ (at-if2 .taken) .1), at-start .pre .1)
-
-same-length-2 : tie.Need-same-length-2
-same-length-2 c = search needs
+time-requires c κs = let at-start = c .before .before .before .before .before in
+    (omega (arith, at-start .pre .0, is-time packed _ (c .before .if2 .taken) .1), at-start .pre .1)
 
 returns-2 : tie.Need-returns-2
 unfolding packed
-returns-2 c =
-    let at-time = c .before .before .time in
-    let at-if2 = c .before .before .before .before .if2 in
-    put-as packed _ (is-time packed _ (at-if2 .taken)) (at-time .ensures)
+returns-2 c = let at-if2 = c .before .before .before .before in
+    put-as packed _ (is-time packed _ (at-if2 .if2 .taken)) (c .before .before .time .ensures)
 
 path-requires : tie.Need-path-requires
-path-requires c κs =
-    let at-if3 = c .before .if3 in
-    let at-start = c .before .before .before .before .before .before in
-    omega (arith, at-start .pre .0, is-path packed _ (at-if3 .taken) .1)
-
-same-length-3 : tie.Need-same-length-3
-same-length-3 c = search needs
+path-requires c κs = let at-start = c .before .before .before .before .before .before in
+    omega (arith, at-start .pre .0, is-path packed _ (c .before .if3 .taken) .1)
 
 returns-3 : tie.Need-returns-3
 unfolding packed packedPath
-returns-3 c =
-    let at-path = c .before .before .path in
-    let at-if3 = c .before .before .before .before .if3 in
-    put-as packed _ (is-path packed _ (at-if3 .taken)) (at-path .ensures)
-
-slice-aggregate-code : tie.Need-slice-aggregate-code
-slice-aggregate-code c = search needs
-
-slice-aggregate-code-2 : tie.Need-slice-aggregate-code-2
-slice-aggregate-code-2 c = search needs
+returns-3 c = let at-if3 = c .before .before .before .before in
+    put-as packed _ (is-path packed _ (at-if3 .if3 .taken)) (c .before .before .path .ensures)
 
 code-requires : tie.Need-code-requires
-code-requires c κs =
-    let at-if4 = c .before .before .before .if4 in
-    let at-start = c .before .before .before .before .before .before .before .before .before in
-    (omega (arith, at-start .pre .0, is-action packed _ (at-if4 .taken) .1), at-start .pre .1, omega arith)
-
-same-length-4 : tie.Need-same-length-4
-same-length-4 c = search needs
+code-requires c κs = let at-if4 = c .before .before .before in
+    let at-start = at-if4 .before .before .before .before .before .before in
+    (omega (arith, at-start .pre .0, is-action packed _ (at-if4 .if4 .taken) .1), at-start .pre .1, omega arith)
 
 returns-4 : tie.Need-returns-4
 unfolding packed
-returns-4 c =
-    let at-code = c .before .before .code in
-    let at-if4 = c .before .before .before .before .before .before .if4 in
-    put-as packed _ (is-action packed _ (at-if4 .taken)) (at-code .ensures)
-
-slice-aggregate-code-3 : tie.Need-slice-aggregate-code-3
-slice-aggregate-code-3 c = search needs
-
-slice-aggregate-code-4 : tie.Need-slice-aggregate-code-4
-slice-aggregate-code-4 c = search needs
+returns-4 c = let at-if4 = c .before .before .before .before .before .before in
+    put-as packed _ (is-action packed _ (at-if4 .if4 .taken)) (c .before .before .code .ensures)
 
 code-requires-2 : tie.Need-code-requires-2
-code-requires-2 c κs =
-    let at-if5 = c .before .before .before .if5 in
-    let at-start = c .before .before .before .before .before .before .before .before .before .before in
-    (omega (arith, at-start .pre .0, is-mode packed _ (at-if5 .taken) .1), at-start .pre .1, omega arith)
-
-same-length-5 : tie.Need-same-length-5
-same-length-5 c = search needs
+code-requires-2 c κs = let at-if5 = c .before .before .before in
+    let at-start = at-if5 .before .before .before .before .before .before .before in
+    (omega (arith, at-start .pre .0, is-mode packed _ (at-if5 .if5 .taken) .1), at-start .pre .1, omega arith)
 
 returns-5 : tie.Need-returns-5
 unfolding packed
-returns-5 c =
-    let at-code2 = c .before .before .code2 in
-    let at-if5 = c .before .before .before .before .before .before .if5 in
-    put-as packed _ (is-mode packed _ (at-if5 .taken)) (at-code2 .ensures)
-
-slice-aggregate-code-5 : tie.Need-slice-aggregate-code-5
-slice-aggregate-code-5 c = search needs
-
-slice-aggregate-code-6 : tie.Need-slice-aggregate-code-6
-slice-aggregate-code-6 c = search needs
+returns-5 c = let at-if5 = c .before .before .before .before .before .before in
+    put-as packed _ (is-mode packed _ (at-if5 .if5 .taken)) (c .before .before .code2 .ensures)
 
 code-requires-3 : tie.Need-code-requires-3
-code-requires-3 c κs =
-    let at-if6 = c .before .before .before .if6 in
-    let at-start = c .before .before .before .before .before .before .before .before .before .before .before in
-    (omega (arith, at-start .pre .0, is-subject packed _ (at-if6 .taken) .1), at-start .pre .1, omega arith)
-
-same-length-6 : tie.Need-same-length-6
-same-length-6 c = search needs
+code-requires-3 c κs = let at-if6 = c .before .before .before in
+    let at-start = at-if6 .before .before .before .before .before .before .before .before in
+    (omega (arith, at-start .pre .0, is-subject packed _ (at-if6 .if6 .taken) .1), at-start .pre .1, omega arith)
 
 returns-6 : tie.Need-returns-6
 unfolding packed
-returns-6 c =
-    let at-code3 = c .before .before .code3 in
-    let at-if6 = c .before .before .before .before .before .before .if6 in
-    put-as packed _ (is-subject packed _ (at-if6 .taken)) (at-code3 .ensures)
+returns-6 c = let at-if6 = c .before .before .before .before .before .before in
+    put-as packed _ (is-subject packed _ (at-if6 .if6 .taken)) (c .before .before .code3 .ensures)
 
 returns-7 : tie.Need-returns-7
 unfolding packed
-returns-7 c =
-    let at-if7 = c .if7 in
-    let at-if6 = c .before .if6 in
-    let at-if5 = c .before .before .if5 in
-    let at-if4 = c .before .before .before .if4 in
-    let at-if3 = c .before .before .before .before .if3 in
-    let at-if2 = c .before .before .before .before .before .if2 in
-    let at-if1 = c .before .before .before .before .before .before .if1 in
-    put-as packed _ (is-plain packed _ (at-if1 .left) (at-if2 .left) (at-if3 .left) (at-if4 .left) (at-if5 .left) (at-if6 .left)) (stops (plain-past _ _ _ (at-if7 .taken)))
-
-shared-slice-read-if8 : tie.Need-shared-slice-read-if8
-shared-slice-read-if8 c = search needs
+returns-7 c = let at-if4 = c .before .before .before in let at-if1 = at-if4 .before .before .before in
+    put-as packed _ (is-plain packed _ (at-if1 .if1 .left) (at-if4 .before .before .if2 .left)
+    (at-if4 .before .if3 .left) (at-if4 .if4 .left) (c .before .before .if5 .left) (c .before .if6 .left)) (stops (plain-past _ _ _ (c .if7 .taken)))
 
 returns-8 : tie.Need-returns-8
 unfolding packed
-returns-8 c =
-    let at-if8 = c .if8 in
-    let at-if7 = c .before .before .if7 in
-    let at-if6 = c .before .before .before .if6 in
-    let at-if5 = c .before .before .before .before .if5 in
-    let at-if4 = c .before .before .before .before .before .if4 in
-    let at-if3 = c .before .before .before .before .before .before .if3 in
-    let at-if2 = c .before .before .before .before .before .before .before .if2 in
-    let at-if1 = c .before .before .before .before .before .before .before .before .if1 in
-    put-as packed _ (is-plain packed _ (at-if1 .left) (at-if2 .left) (at-if3 .left) (at-if4 .left) (at-if5 .left) (at-if6 .left)) (stops (plain-other _ _ _ (at-if7 .left) (at-if8 .taken)))
-
-add-t37 : tie.Need-add-t37
-add-t37 c = search needs
+returns-8 c = let at-if6 = c .before .before .before in let at-if3 = at-if6 .before .before .before in
+    put-as packed _ (is-plain packed _ (at-if3 .before .before .if1 .left) (at-if3 .before .if2 .left)
+    (at-if3 .if3 .left) (at-if6 .before .before .if4 .left) (at-if6 .before .if5 .left) (at-if6 .if6 .left))
+    (stops (plain-other _ _ _ (c .before .before .if7 .left) (c .if8 .taken)))
 
 returns-9 : tie.Need-returns-9
 unfolding packed
-returns-9 c =
-    let at-if8 = c .if8 in
-    let at-if7 = c .before .before .if7 in
-    let at-if6 = c .before .before .before .if6 in
-    let at-if5 = c .before .before .before .before .if5 in
-    let at-if4 = c .before .before .before .before .before .if4 in
-    let at-if3 = c .before .before .before .before .before .before .if3 in
-    let at-if2 = c .before .before .before .before .before .before .before .if2 in
-    let at-if1 = c .before .before .before .before .before .before .before .before .if1 in
-    put-as packed _ (is-plain packed _ (at-if1 .left) (at-if2 .left) (at-if3 .left) (at-if4 .left) (at-if5 .left) (at-if6 .left)) (plain-puts _ _ _ (at-if7 .left) (at-if8 .left) _ _)
+returns-9 c = let at-if6 = c .before .before .before in let at-if3 = at-if6 .before .before .before in
+    put-as packed _ (is-plain packed _ (at-if3 .before .before .if1 .left) (at-if3 .before .if2 .left)
+    (at-if3 .if3 .left) (at-if6 .before .before .if4 .left) (at-if6 .before .if5 .left) (at-if6 .if6 .left))
+    (plain-puts _ _ _ (c .before .before .if7 .left) (c .if8 .left) _ _)
 
 pub part-spec : {M : Type 1} → statement M
-part-spec =
-    tie.close
-    (tie.spec
-    string-requires
-    same-length
-    returns
-    time-requires
-    same-length-2
-    returns-2
-    path-requires
-    same-length-3
-    returns-3
-    slice-aggregate-code
-    slice-aggregate-code-2
-    code-requires
-    same-length-4
-    returns-4
-    slice-aggregate-code-3
-    slice-aggregate-code-4
-    code-requires-2
-    same-length-5
-    returns-5
-    slice-aggregate-code-5
-    slice-aggregate-code-6
-    code-requires-3
-    same-length-6
-    returns-6
-    returns-7
-    shared-slice-read-if8
-    returns-8
-    add-t37
-    returns-9)
+part-spec = tie.close (tie.spec string-requires (λ c. search needs) returns time-requires (λ c. search needs) returns-2
+    path-requires (λ c. search needs) returns-3 (λ c. search needs) (λ c. search needs) code-requires
+    (λ c. search needs) returns-4 (λ c. search needs) (λ c. search needs) code-requires-2 (λ c. search needs) returns-5
+    (λ c. search needs) (λ c. search needs) code-requires-3 (λ c. search needs) returns-6 returns-7 (λ c. search needs)
+    returns-8 (λ c. search needs) returns-9)

@@ -3,23 +3,11 @@ use Rattle.rotation_step.proofs.Steps.{off-off, off-on}
 use Rattle.rotation_step.proofs.off_refusal.Statement.{statement}
 use Rattle.rotation_step.proofs.off_refusal.Tie as tie
 
-refusal-requires : tie.Need-refusal-requires
-refusal-requires c κs = search needs
-
 returns : tie.Need-returns
-returns c =
-    let at-refusal = c .refusal in
-    let at-if1 = c .before .if1 in
-    off-off _ _ _ (at-if1 .taken) (at-refusal .ensures)
-
-refusal-requires-2 : tie.Need-refusal-requires-2
-refusal-requires-2 c κs = search needs
+returns c = off-off _ _ _ (c .before .if1 .taken) (c .refusal .ensures)
 
 returns-2 : tie.Need-returns-2
-returns-2 c =
-    let at-refusal2 = c .refusal2 in
-    let at-if1 = c .before .if1 in
-    off-on _ _ _ (at-if1 .left) (at-refusal2 .ensures)
+returns-2 c = off-on _ _ _ (c .before .if1 .left) (c .refusal2 .ensures)
 
 pub off-refusal-spec : {M : Type 1} → statement M
-off-refusal-spec = tie.close (tie.spec refusal-requires returns refusal-requires-2 returns-2)
+off-refusal-spec = tie.close (tie.spec (λ c κs. search needs) returns (λ c κs. search needs) returns-2)

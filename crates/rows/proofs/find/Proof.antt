@@ -19,69 +19,30 @@ loop-holds : tie.Need-loop-holds Inv-loop μ-loop
 loop-holds c = (search needs, find-start _ _ _ _)
 
 mul-at : tie.Need-mul-at Inv-loop μ-loop
-mul-at c =
-    let at-start = c .before .before .before .before .before in
-    omega (arith, at-start .pre .room)
+mul-at c = let at-start = c .before .before .before .before .before in omega (arith, at-start .pre .room)
 
 shared-slice-read-at : tie.Need-shared-slice-read-at Inv-loop μ-loop
-shared-slice-read-at c =
-    let at-start = c .before .before .before .before .before .before in
+shared-slice-read-at c = let at-start = c .before .before .before .before .before .before in
     omega (arith, at-start .pre .room)
 
 cast-at : tie.Need-cast-at Inv-loop μ-loop
-cast-at c =
-    let at-shared-slice-known4 = c .shared-slice-known4 in
-    let at-loop = c .before .before .loop in
-    omega (arith, at-shared-slice-known4 .given (at-loop .i))
+cast-at c = omega (arith, c .shared-slice-known4 .given (c .before .before .loop .i))
 
 is-at-requires : tie.Need-is-at-requires Inv-loop μ-loop
-is-at-requires c κs =
-    let at-loop-test = c .before .loop-test in
-    let at-loop = c .before .before .loop in
-    let at-start = c .before .before .before .before .before .before in
-    at-start .pre .laid (at-loop .i) (at-loop-test .taken)
+is-at-requires c κs = let at-start = c .before .before .before .before .before .before in
+    at-start .pre .laid (c .before .before .loop .i) (c .before .loop-test .taken)
 
 returns : tie.Need-returns Inv-loop μ-loop
-returns c =
-    let at-if1 = c .if1 in
-    let at-is-at = c .before .is-at in
-    let at-loop-test = c .before .before .before .loop-test in
-    let at-loop = c .before .before .before .before .loop in
-    find-hit _ _ _ _ _ _ (at-loop-test .taken) (sym (at-is-at .ensures) ∙ at-if1 .taken) (at-loop .inv .1)
-
-add-i : tie.Need-add-i Inv-loop μ-loop
-add-i c = search needs
-
-loop-less : tie.Need-loop-less Inv-loop μ-loop
-loop-less c = search needs
+returns c = let at-loop-test = c .before .before .before in
+    find-hit _ _ _ _ _ _ (at-loop-test .loop-test .taken) (sym (c .before .is-at .ensures) ∙ c .if1 .taken) (at-loop-test .before .loop .inv .1)
 
 loop-again : tie.Need-loop-again Inv-loop μ-loop
-loop-again c =
-    let at-if1 = c .if1 in
-    let at-is-at = c .before .is-at in
-    let at-loop-test = c .before .before .before .loop-test in
-    let at-loop = c .before .before .before .before .loop in
-    (omega arith, find-pass _ _ _ _ _ _ (at-loop-test .taken) (sym (at-is-at .ensures) ∙ at-if1 .left) (at-loop .inv .1))
+loop-again c = let at-loop-test = c .before .before .before in
+    (omega arith, find-pass _ _ _ _ _ _ (at-loop-test .loop-test .taken) (sym (c .before .is-at .ensures) ∙ c .if1 .left) (at-loop-test .before .loop .inv .1))
 
 returns-2 : tie.Need-returns-2 Inv-loop μ-loop
-returns-2 c =
-    let at-loop-test = c .loop-test in
-    let at-loop = c .before .loop in
-    find-end _ _ _ _ _ _ (at-loop .inv .0) (at-loop-test .left) (at-loop .inv .1)
+returns-2 c = find-end _ _ _ _ _ _ (c .before .loop .inv .0) (c .loop-test .left) (c .before .loop .inv .1)
 
 pub find-spec : {M : Type 1} → statement M
-find-spec =
-    tie.close
-    (tie.spec
-    Inv-loop
-    μ-loop
-    loop-holds
-    mul-at
-    shared-slice-read-at
-    cast-at
-    is-at-requires
-    returns
-    add-i
-    loop-less
-    loop-again
-    returns-2)
+find-spec = tie.close (tie.spec Inv-loop μ-loop loop-holds mul-at shared-slice-read-at cast-at is-at-requires returns
+    (λ c. search needs) (λ c. search needs) loop-again returns-2)

@@ -6,24 +6,14 @@ use Rattle.rows.proofs.find_from.Statement.{statement}
 use Rattle.rows.proofs.find_from.Tie as tie
 
 is-number-requires : tie.Need-is-number-requires
-is-number-requires c κs =
-    let at-start = c .before .before .before in
-    at-start .pre .listed
+is-number-requires c κs = let at-start = c .before .before .before in at-start .pre .listed
 
 returns : tie.Need-returns
-returns c =
-    let at-if1 = c .if1 in
-    let at-is-number = c .before .is-number in
-    let at-start = c .before .before .before .before .before in
-    number-is _ _ _ _ _ (at-start .pre .distinct) (sym (at-is-number .ensures) ∙ at-if1 .taken)
+returns c = let at-start = c .before .before .before .before .before in
+    number-is _ _ _ _ _ (at-start .pre .distinct) (sym (c .before .is-number .ensures) ∙ c .if1 .taken)
 
 find-requires : tie.Need-find-requires
-find-requires c κs =
-    let at-start = c .before .before .before .before .before in
-    at-start .pre .listed
-
-returns-2 : tie.Need-returns-2
-returns-2 c = search needs
+find-requires c κs = let at-start = c .before .before .before .before .before in at-start .pre .listed
 
 pub find-from-spec : {M : Type 1} → statement M
-find-from-spec = tie.close (tie.spec is-number-requires returns find-requires returns-2)
+find-from-spec = tie.close (tie.spec is-number-requires returns find-requires (λ c. search needs))

@@ -7,56 +7,24 @@ use Rattle.rows.proofs.is_at.Statement.{statement}
 use Rattle.rows.proofs.is_at.Tie as tie
 
 shared-slice-read-n : tie.Need-shared-slice-read-n
-shared-slice-read-n c =
-    let at-start = c .before .before .before in
-    room _ _ (at-start .pre) .0
+shared-slice-read-n c = let at-start = c .before .before .before in room _ _ (at-start .pre) .0
 
 cast-n : tie.Need-cast-n
-cast-n c =
-    let at-shared-slice-known3 = c .shared-slice-known3 in
-    let at-start = c .before .before .before in
-    omega (arith, at-shared-slice-known3 .given (at-start .args .at))
+cast-n c = let at-start = c .before .before .before in omega (arith, c .shared-slice-known3 .given (at-start .args .at))
 
 add-start : tie.Need-add-start
-add-start c =
-    let at-start = c .before .before .before in
-    omega (arith, room _ _ (at-start .pre))
+add-start c = let at-start = c .before .before .before in omega (arith, room _ _ (at-start .pre))
 
 add-end : tie.Need-add-end
-add-end c =
-    let at-start = c .before .before .before in
-    omega (arith, room _ _ (at-start .pre))
-
-sub-is-same : tie.Need-sub-is-same
-sub-is-same c = search needs
-
-part-is-same-start : tie.Need-part-is-same-start
-part-is-same-start c = search needs
+add-end c = let at-start = c .before .before .before in omega (arith, room _ _ (at-start .pre))
 
 part-is-same-end : tie.Need-part-is-same-end
-part-is-same-end c =
-    let at-start = c .before .before .before in
-    omega (arith, room _ _ (at-start .pre))
-
-is-same-requires : tie.Need-is-same-requires
-is-same-requires c κs = search needs
+part-is-same-end c = let at-start = c .before .before .before in omega (arith, room _ _ (at-start .pre))
 
 returns : tie.Need-returns
 unfolding strIn strEnd
-returns c =
-    let at-is-same = c .is-same in
-    at-is-same .ensures
+returns c = c .is-same .ensures
 
 pub is-at-spec : {M : Type 1} → statement M
-is-at-spec =
-    tie.close
-    (tie.spec
-    shared-slice-read-n
-    cast-n
-    add-start
-    add-end
-    sub-is-same
-    part-is-same-start
-    part-is-same-end
-    is-same-requires
-    returns)
+is-at-spec = tie.close (tie.spec shared-slice-read-n cast-n add-start add-end (λ c. search needs) (λ c. search needs)
+    part-is-same-end (λ c κs. search needs) returns)

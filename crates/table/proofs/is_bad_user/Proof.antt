@@ -4,24 +4,11 @@ use Rattle.table.proofs.Users.{user-unsized, user-sized}
 use Rattle.table.proofs.is_bad_user.Statement.{statement}
 use Rattle.table.proofs.is_bad_user.Tie as tie
 
-is-unsized-requires : tie.Need-is-unsized-requires
-is-unsized-requires c κs = search needs
-
 returns : tie.Need-returns
-returns c =
-    let at-if1 = c .if1 in
-    let at-is-unsized = c .before .is-unsized in
-    user-unsized _ _ (at-is-unsized .ensures) (at-if1 .taken)
-
-all-print-requires : tie.Need-all-print-requires
-all-print-requires c κs = search needs
+returns c = user-unsized _ _ (c .before .is-unsized .ensures) (c .if1 .taken)
 
 returns-2 : tie.Need-returns-2
-returns-2 c =
-    let at-all-print = c .all-print in
-    let at-if1 = c .before .if1 in
-    let at-is-unsized = c .before .before .is-unsized in
-    user-sized _ _ (at-is-unsized .ensures) (at-if1 .left) _ (at-all-print .ensures)
+returns-2 c = user-sized _ _ (c .before .before .is-unsized .ensures) (c .before .if1 .left) _ (c .all-print .ensures)
 
 pub is-bad-user-spec : {M : Type 1} → statement M
-is-bad-user-spec = tie.close (tie.spec is-unsized-requires returns all-print-requires returns-2)
+is-bad-user-spec = tie.close (tie.spec (λ c κs. search needs) returns (λ c κs. search needs) returns-2)

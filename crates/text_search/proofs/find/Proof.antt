@@ -18,43 +18,37 @@ abbrev μ-loop : tie.MeasureT-loop
 μ-loop text at b i₀ i = length text - i
 
 loop-holds : tie.Need-loop-holds Inv-loop μ-loop
-loop-holds c =
-    let at-start = c in
-    (search needs, at-start .pre, refl)
+loop-holds c = (search needs, c .pre, refl)
 
 returns : tie.Need-returns Inv-loop μ-loop
-returns c =
-    let at-if1 = c .if1 in
-    let at-loop-test = c .before .before .loop-test in
-    let at-loop = c .before .before .before .loop in
-    let at-start = c .before .before .before .before in
-    omega (arith, found (is (at-start .args .b)) (at-start .args .text .now) (at-loop .i) (at-loop-test .taken) (eq-eqb _ _ (at-if1 .taken)), at-loop .inv .2)
+returns c = let at-loop = c .before .before .before in
+    omega (
+      arith,
+      found (is (at-loop .before .args .b)) (at-loop .before .args .text .now) (at-loop .loop .i)
+          (c .before .before .loop-test .taken) (eq-eqb _ _ (c .if1 .taken)),
+      at-loop .loop .inv .2,
+    )
 
 loop-again : tie.Need-loop-again Inv-loop μ-loop
-loop-again c =
-    let at-if1 = c .if1 in
-    let at-loop-test = c .before .before .loop-test in
-    let at-loop = c .before .before .before .loop in
-    let at-start = c .before .before .before .before in
-    (omega arith, omega arith, omega (arith, passed (is (at-start .args .b)) (at-start .args .text .now) (at-loop .i) (at-loop-test .taken) (ne-eqb _ _ (at-if1 .left)), at-loop .inv .2))
+loop-again c = let at-loop = c .before .before .before in (
+  omega arith,
+  omega arith,
+  omega (
+    arith,
+    passed (is (at-loop .before .args .b)) (at-loop .before .args .text .now) (at-loop .loop .i)
+        (c .before .before .loop-test .taken) (ne-eqb _ _ (c .if1 .left)),
+    at-loop .loop .inv .2,
+  ),
+)
 
 returns-2 : tie.Need-returns-2 Inv-loop μ-loop
 returns-2 c =
-    let at-loop-test = c .loop-test in
-    let at-loop = c .before .loop in
-    let at-start = c .before .before in
-    omega (arith, ran-out (is (at-start .args .b)) (at-start .args .text .now) (at-loop .i) (at-loop-test .left), at-loop .inv .2)
+    omega (
+      arith,
+      ran-out (is (c .before .before .args .b)) (c .before .before .args .text .now) (c .before .loop .i) (c .loop-test .left),
+      c .before .loop .inv .2,
+    )
 
 pub find-spec : {M : Type 1} → statement M
-find-spec =
-    tie.close
-    (tie.spec
-    Inv-loop
-    μ-loop
-    loop-holds
-    (λ c. search needs)
-    returns
-    (λ c. search needs)
-    (λ c. search needs)
-    loop-again
-    returns-2)
+find-spec = tie.close (tie.spec Inv-loop μ-loop loop-holds (λ c. search needs) returns (λ c. search needs)
+    (λ c. search needs) loop-again returns-2)

@@ -5,18 +5,9 @@ use Rattle.verdict_text.specs.Either.{oneOf, treeOf}
 use Rattle.verdicts.proofs.tree_verdict.Statement.{statement}
 use Rattle.verdicts.proofs.tree_verdict.Tie as tie
 
-verdict-requires : tie.Need-verdict-requires
-verdict-requires c κs = search needs
-
-tree-of-requires : tie.Need-tree-of-requires
-tree-of-requires c κs = search needs
-
 returns : tie.Need-returns
 unfolding oneOf treeOf if_then_else_
-returns c =
-    let at-tree-of = c .tree-of in
-    let at-verdict = c .before .verdict in
-    at-tree-of .ensures ∙ ap treeOf (at-verdict .ensures)
+returns c = c .tree-of .ensures ∙ ap treeOf (c .before .verdict .ensures)
 
 pub tree-verdict-spec : {M : Type 1} → statement M
-tree-verdict-spec = tie.close (tie.spec verdict-requires tree-of-requires returns)
+tree-verdict-spec = tie.close (tie.spec (λ c κs. search needs) (λ c κs. search needs) returns)

@@ -5,17 +5,8 @@ use Rattle.burgee.specs.Record.{answered}
 use Rattle.burgee.proofs.records.finalize_step.Statement.{statement}
 use Rattle.burgee.proofs.records.finalize_step.Tie as tie
 
-finalize-requires : tie.Need-finalize-requires
-finalize-requires c κs = search needs
-
-of-stepped-requires : tie.Need-of-stepped-requires
-of-stepped-requires c κs = search needs
-
 returns : tie.Need-returns
-returns c =
-    let at-of-stepped = c .of-stepped in
-    let at-finalize = c .before .finalize in
-    at-of-stepped .ensures ∙ ap (λ (s : Stepped). answered s) (at-finalize .ensures)
+returns c = c .of-stepped .ensures ∙ ap (λ (s : Stepped). answered s) (c .before .finalize .ensures)
 
 pub finalize-step-spec : {M : Type 1} → statement M
-finalize-step-spec = tie.close (tie.spec finalize-requires of-stepped-requires returns)
+finalize-step-spec = tie.close (tie.spec (λ c κs. search needs) (λ c κs. search needs) returns)

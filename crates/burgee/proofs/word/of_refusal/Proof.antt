@@ -5,15 +5,9 @@ use Rattle.burgee.specs.Word.{refusalWord}
 use Rattle.burgee.proofs.word.of_refusal.Statement.{statement}
 use Rattle.burgee.proofs.word.of_refusal.Tie as tie
 
-mul-result : tie.Need-mul-result
-mul-result c = search needs
-
-add-result : tie.Need-add-result
-add-result c = search needs
-
 returns : tie.Need-returns
 unfolding refusalWord
 returns c = refl
 
 pub of-refusal-spec : {M : Type 1} → statement M
-of-refusal-spec = tie.close (tie.spec mul-result add-result returns)
+of-refusal-spec = tie.close (tie.spec (λ c. search needs) (λ c. search needs) returns)

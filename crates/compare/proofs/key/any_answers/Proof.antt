@@ -13,69 +13,38 @@ use Rattle.compare.proofs.key.any_answers.Tie as tie
 
 -- none of the keys passed answers: whether one of all does is whether one of those from q on does
 abbrev Inv-loop : tie.InvT-loop
-Inv-loop cover g at n f p q₀ left₀ q left = (keysEnd left g q ≤ length g) × (any (λ (j : Key). answers cover j (keyIn f p)) (keysIn n g at) ≡ any (λ (j : Key). answers cover j (keyIn f p)) (keysIn left g q))
+Inv-loop cover g at n f p q₀ left₀ q left =
+    (keysEnd left g q ≤ length g) × (any (λ (j : Key). answers cover j (keyIn f p)) (keysIn n g at) ≡ any
+    (λ (j : Key). answers cover j (keyIn f p)) (keysIn left g q))
 
 abbrev μ-loop : tie.MeasureT-loop
 μ-loop cover g at n f p q₀ left₀ q left = left
 
 loop-holds : tie.Need-loop-holds Inv-loop μ-loop
-loop-holds c =
-    let at-start = c .before .before in
-    (at-start .pre .0, refl)
+loop-holds c = (c .before .before .pre .0, refl)
 
 answers-requires : tie.Need-answers-requires Inv-loop μ-loop
-answers-requires c κs =
-    let at-loop-test = c .loop-test in
-    let at-loop = c .before .loop in
-    let at-start = c .before .before .before .before in
-    (keys-room _ _ _ (at-loop-test .taken) (at-loop .inv .0) .1, at-start .pre .1)
+answers-requires c κs = let at-start = c .before .before .before .before in
+    (keys-room _ _ _ (c .loop-test .taken) (c .before .loop .inv .0) .1, at-start .pre .1)
 
 returns : tie.Need-returns Inv-loop μ-loop
-returns c =
-    let at-if1 = c .if1 in
-    let at-answers = c .before .answers in
-    let at-loop-test = c .before .before .loop-test in
-    let at-loop = c .before .before .before .loop in
-    sym (at-loop .inv .1 ∙ any-hit _ _ _ _ (at-loop-test .taken) (sym (at-answers .ensures) ∙ at-if1 .taken))
+returns c = let at-loop = c .before .before .before in
+    sym (at-loop .loop .inv .1 ∙ any-hit _ _ _ _ (c .before .before .loop-test .taken) (sym (c .before .answers .ensures) ∙ c .if1 .taken))
 
 key-end-requires : tie.Need-key-end-requires Inv-loop μ-loop
-key-end-requires c κs =
-    let at-loop-test = c .before .before .loop-test in
-    let at-loop = c .before .before .before .loop in
-    keys-room _ _ _ (at-loop-test .taken) (at-loop .inv .0) .1
-
-sub-left : tie.Need-sub-left Inv-loop μ-loop
-sub-left c = search needs
-
-loop-less : tie.Need-loop-less Inv-loop μ-loop
-loop-less c = search needs
+key-end-requires c κs = let at-loop = c .before .before .before in
+    keys-room _ _ _ (c .before .before .loop-test .taken) (at-loop .loop .inv .0) .1
 
 loop-again : tie.Need-loop-again Inv-loop μ-loop
-loop-again c =
-    let at-key-end = c .key-end in
-    let at-if1 = c .before .if1 in
-    let at-answers = c .before .before .answers in
-    let at-loop-test = c .before .before .before .loop-test in
-    let at-loop = c .before .before .before .before .loop in
-    (keys-again _ _ _ _ (at-loop-test .taken) (at-loop .inv .0) (at-key-end .ensures), at-loop .inv .1 ∙ any-miss _ _ _ _ (at-loop-test .taken) (sym (at-answers .ensures) ∙ at-if1 .left) _ (at-key-end .ensures))
+loop-again c = let at-loop-test = c .before .before .before in (
+  keys-again _ _ _ _ (at-loop-test .loop-test .taken) (at-loop-test .before .loop .inv .0) (c .key-end .ensures),
+  at-loop-test .before .loop .inv .1 ∙ any-miss _ _ _ _ (at-loop-test .loop-test .taken)
+      (sym (c .before .before .answers .ensures) ∙ c .before .if1 .left) _ (c .key-end .ensures),
+)
 
 returns-2 : tie.Need-returns-2 Inv-loop μ-loop
-returns-2 c =
-    let at-loop-test = c .loop-test in
-    let at-loop = c .before .loop in
-    sym (at-loop .inv .1 ∙ any-end _ _ _ (at-loop .q) (at-loop-test .left))
+returns-2 c = sym (c .before .loop .inv .1 ∙ any-end _ _ _ (c .before .loop .q) (c .loop-test .left))
 
 pub any-answers-spec : {M : Type 1} → statement M
-any-answers-spec =
-    tie.close
-    (tie.spec
-    Inv-loop
-    μ-loop
-    loop-holds
-    answers-requires
-    returns
-    key-end-requires
-    sub-left
-    loop-less
-    loop-again
-    returns-2)
+any-answers-spec = tie.close (tie.spec Inv-loop μ-loop loop-holds answers-requires returns key-end-requires
+    (λ c. search needs) (λ c. search needs) loop-again returns-2)

@@ -13,41 +13,12 @@ Inv-loop s at₀ t3 at = at ≤ length s
 abbrev μ-loop : tie.MeasureT-loop
 μ-loop s at₀ t3 at = length s - at
 
-loop-holds : tie.Need-loop-holds Inv-loop μ-loop
-loop-holds c = search needs
-
-quote-from-requires : tie.Need-quote-from-requires Inv-loop μ-loop
-quote-from-requires c κs = search needs
-
 loop-less : tie.Need-loop-less Inv-loop μ-loop
-loop-less c =
-    let at-quote-from = c .quote-from in
-    omega (arith, at-quote-from .ensures)
+loop-less c = omega (arith, c .quote-from .ensures)
 
 loop-again : tie.Need-loop-again Inv-loop μ-loop
-loop-again c =
-    let at-quote-from = c .quote-from in
-    at-quote-from .ensures .1
-
-slice-aggregate-word : tie.Need-slice-aggregate-word Inv-loop μ-loop
-slice-aggregate-word c = search needs
-
-word-requires : tie.Need-word-requires Inv-loop μ-loop
-word-requires c κs = search needs
-
-returns : tie.Need-returns Inv-loop μ-loop
-returns c = search needs
+loop-again c = c .quote-from .ensures .1
 
 pub quote-spec : {M : Type 1} → statement M
-quote-spec =
-    tie.close
-    (tie.spec
-    Inv-loop
-    μ-loop
-    loop-holds
-    quote-from-requires
-    loop-less
-    loop-again
-    slice-aggregate-word
-    word-requires
-    returns)
+quote-spec = tie.close (tie.spec Inv-loop μ-loop (λ c. search needs) (λ c κs. search needs) loop-less loop-again
+    (λ c. search needs) (λ c κs. search needs) (λ c. search needs))

@@ -20,18 +20,14 @@ at-requires : tie.Need-at-requires Inv-loop μ-loop
 at-requires c κs = omega arith
 
 add-factor : tie.Need-add-factor Inv-loop μ-loop
-add-factor c =
-    let at-at = c .at in
-    omega (arith, at-at .ensures .1)
+add-factor c = omega (arith, c .at .ensures .1)
 
 mul-factor : tie.Need-mul-factor Inv-loop μ-loop
 mul-factor c =
-    let at-at = c .at in
-    let at-loop = c .before .before .loop in
-    omega (arith, product (at-loop .x + at-at .result) (at-loop .y) (omega (arith, at-at .ensures .1)) (at-loop .inv .2))
-
-factor-requires : tie.Need-factor-requires Inv-loop μ-loop
-factor-requires c κs = search needs
+    omega (
+      arith,
+      product (c .before .before .loop .x + c .at .result) (c .before .before .loop .y) (omega (arith, c .at .ensures .1)) (c .before .before .loop .inv .2),
+    )
 
 add-at : tie.Need-add-at Inv-loop μ-loop
 add-at c = omega arith
@@ -40,18 +36,11 @@ at-requires-2 : tie.Need-at-requires-2 Inv-loop μ-loop
 at-requires-2 c κs = omega arith
 
 add-factor-2 : tie.Need-add-factor-2 Inv-loop μ-loop
-add-factor-2 c =
-    let at-at2 = c .at2 in
-    omega (arith, at-at2 .ensures .1)
+add-factor-2 c = omega (arith, c .at2 .ensures .1)
 
 mul-factor-2 : tie.Need-mul-factor-2 Inv-loop μ-loop
-mul-factor-2 c =
-    let at-at2 = c .at2 in
-    let at-loop = c .before .before .before .before .loop in
-    omega (arith, product (at-loop .y + at-at2 .result) (at-loop .x) (omega (arith, at-at2 .ensures .1)) (at-loop .inv .1))
-
-factor-requires-2 : tie.Need-factor-requires-2 Inv-loop μ-loop
-factor-requires-2 c κs = search needs
+mul-factor-2 c = let at-loop = c .before .before .before .before in
+    omega (arith, product (at-loop .loop .y + c .at2 .result) (at-loop .loop .x) (omega (arith, c .at2 .ensures .1)) (at-loop .loop .inv .1))
 
 add-k : tie.Need-add-k Inv-loop μ-loop
 add-k c = omega arith
@@ -63,34 +52,11 @@ loop-less : tie.Need-loop-less Inv-loop μ-loop
 loop-less c = omega arith
 
 loop-again : tie.Need-loop-again Inv-loop μ-loop
-loop-again c =
-    let at-factor2 = c .factor2 in
-    let at-factor = c .before .before .factor in
-    (omega arith, at-factor .ensures, at-factor2 .ensures)
+loop-again c = (omega arith, c .before .before .factor .ensures, c .factor2 .ensures)
 
 returns : tie.Need-returns Inv-loop μ-loop
-returns c =
-    let at-loop = c .before .loop in
-    (at-loop .inv .1, at-loop .inv .2)
+returns c = (c .before .loop .inv .1, c .before .loop .inv .2)
 
 pub absorb-spec : {M : Type 1} → statement M
-absorb-spec =
-    tie.close
-    (tie.spec
-    Inv-loop
-    μ-loop
-    loop-holds
-    at-requires
-    add-factor
-    mul-factor
-    factor-requires
-    add-at
-    at-requires-2
-    add-factor-2
-    mul-factor-2
-    factor-requires-2
-    add-k
-    sub-left
-    loop-less
-    loop-again
-    returns)
+absorb-spec = tie.close (tie.spec Inv-loop μ-loop loop-holds at-requires add-factor mul-factor (λ c κs. search needs)
+    add-at at-requires-2 add-factor-2 mul-factor-2 (λ c κs. search needs) add-k sub-left loop-less loop-again returns)

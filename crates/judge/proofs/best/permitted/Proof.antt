@@ -10,23 +10,16 @@ use Rattle.judge.proofs.best.permitted.Tie as tie
 
 returns : tie.Need-returns
 unfolding held action if_then_else_
-returns c =
-    let at-if1 = c .if1 in
-    let at-start = c .before .before in
-    rw (eq-eqb (at-start .args .b .weight) 0 (at-if1 .taken))
+returns c = rw (eq-eqb (c .before .before .args .b .weight) 0 (c .if1 .taken))
 
 shared-slice-read-result : tie.Need-shared-slice-read-result
-shared-slice-read-result c =
-    let at-if1 = c .before .if1 in
-    let at-start = c .before .before .before in
-    let e = rule-room _ _ (at-start .pre (ne-eqb (at-start .args .b .weight) 0 (at-if1 .left))) in omega arith
+shared-slice-read-result c = let at-start = c .before .before .before in
+    let e = rule-room _ _ (at-start .pre (ne-eqb (at-start .args .b .weight) 0 (c .before .if1 .left))) in omega arith
 
 returns-2 : tie.Need-returns-2
 unfolding held action if_then_else_ ruleIn
-returns-2 c =
-    let at-if1 = c .before .if1 in
-    let at-start = c .before .before .before in
-    rw (ne-eqb (at-start .args .b .weight) 0 (at-if1 .left))
+returns-2 c = let at-start = c .before .before .before in
+    rw (ne-eqb (at-start .args .b .weight) 0 (c .before .if1 .left))
 
 pub permitted-spec : {M : Type 1} → statement M
 permitted-spec = tie.close (tie.spec returns shared-slice-read-result returns-2)

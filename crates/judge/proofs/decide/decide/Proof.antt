@@ -32,8 +32,7 @@ abbrev μ-loop : tie.MeasureT-loop
 μ-loop f starts on n g p k b₀ i₀ b i = n - i
 
 loop-holds : tie.Need-loop-holds Inv-loop μ-loop
-loop-holds c =
-    let at-start = c .before .before .before .before in
+loop-holds c = let at-start = c .before .before .before .before in
     let p = elemsIn (at-start .args .k) (at-start .args .g .now) (at-start .args .p) in
     record {
       inside = zero-le;
@@ -49,20 +48,15 @@ shared-slice-read-s : tie.Need-shared-slice-read-s Inv-loop μ-loop
 shared-slice-read-s c = omega arith
 
 cast-s : tie.Need-cast-s Inv-loop μ-loop
-cast-s c =
-    let at-shared-slice-known5 = c .shared-slice-known5 in
-    let at-loop = c .before .before .loop in
-    omega (arith, at-shared-slice-known5 .given (at-loop .i))
+cast-s c = omega (arith, c .shared-slice-known5 .given (c .before .before .loop .i))
 
 shared-slice-read-take-match : tie.Need-shared-slice-read-take-match Inv-loop μ-loop
 shared-slice-read-take-match c = omega arith
 
 take-match-requires : tie.Need-take-match-requires Inv-loop μ-loop
-take-match-requires c κs =
-    let at-loop-test = c .before .before .loop-test in
-    let at-loop = c .before .before .before .loop in
-    let at-start = c .before .before .before .before .before .before .before .before in
-    (at-start .pre .rules .laid _ (at-loop-test .taken), at-loop .inv .ranked, at-start .pre .path, at-start .pre .rules .short)
+take-match-requires c κs = let at-loop = c .before .before .before in
+    let at-start = at-loop .before .before .before .before .before in
+    (at-start .pre .rules .laid _ (c .before .before .loop-test .taken), at-loop .loop .inv .ranked, at-start .pre .path, at-start .pre .rules .short)
 
 add-i : tie.Need-add-i Inv-loop μ-loop
 add-i c = omega arith
@@ -71,44 +65,28 @@ loop-less : tie.Need-loop-less Inv-loop μ-loop
 loop-less c = omega arith
 
 loop-again : tie.Need-loop-again Inv-loop μ-loop
-loop-again c =
-    let at-take-match = c .take-match in
-    let at-loop-test = c .before .before .before .loop-test in
-    let at-loop = c .before .before .before .before .loop in
-    let at-start = c .before .before .before .before .before .before .before .before .before in
+loop-again c = let at-loop-test = c .before .before .before in let at-loop = at-loop-test .before in
+    let at-start = at-loop .before .before .before .before .before in
     let p = elemsIn (at-start .args .k) (at-start .args .g .now) (at-start .args .p) in
     record {
       inside = omega arith;
-      ranked = at-take-match .ensures .ranked;
-      numbered = at-take-match .ensures .numbered _ (at-loop-test .taken) (at-loop .inv .numbered);
-      best = λ app h. best-turn better better-order (matching app p) (at-start .args .f .now) (at-start .args .starts .now) (at-start .args .n) _ (at-loop .b) _ (at-loop .i) (at-loop-test .taken) (at-take-match .ensures .best app (h _ (at-loop-test .taken))) (at-loop .inv .best app h);
+      ranked = c .take-match .ensures .ranked;
+      numbered = c .take-match .ensures .numbered _ (at-loop-test .loop-test .taken) (at-loop .loop .inv .numbered);
+      best = λ app h. best-turn better better-order (matching app p) (at-start .args .f .now)
+          (at-start .args .starts .now) (at-start .args .n) _ (at-loop .loop .b) _ (at-loop .loop .i)
+          (at-loop-test .loop-test .taken) (c .take-match .ensures .best app (h _ (at-loop-test .loop-test .taken))) (at-loop .loop .inv .best app h);
     }
 
 returns : tie.Need-returns Inv-loop μ-loop
-returns c =
-    let at-loop-test = c .loop-test in
-    let at-loop = c .before .loop in
-    let at-start = c .before .before .before .before .before .before in
+returns c = let at-start = c .before .before .before .before .before .before in
     let p = elemsIn (at-start .args .k) (at-start .args .g .now) (at-start .args .p) in
     record {
-      ranked = at-loop .inv .ranked;
-      numbered = at-loop .inv .numbered;
-      best = λ app h. best-end better better-order (matching app p) (at-start .args .f .now) (at-start .args .starts .now) (at-start .args .n) _ (at-loop .b) (at-loop .i) (at-loop-test .left) (at-loop .inv .best app h);
+      ranked = c .before .loop .inv .ranked;
+      numbered = c .before .loop .inv .numbered;
+      best = λ app h. best-end better better-order (matching app p) (at-start .args .f .now)
+          (at-start .args .starts .now) (at-start .args .n) _ (c .before .loop .b) (c .before .loop .i) (c .loop-test .left) (c .before .loop .inv .best app h);
     }
 
 pub decide-spec : {M : Type 1} → statement M
-decide-spec =
-    tie.close
-    (tie.spec
-    Inv-loop
-    μ-loop
-    loop-holds
-    mul-s
-    shared-slice-read-s
-    cast-s
-    shared-slice-read-take-match
-    take-match-requires
-    add-i
-    loop-less
-    loop-again
-    returns)
+decide-spec = tie.close (tie.spec Inv-loop μ-loop loop-holds mul-s shared-slice-read-s cast-s
+    shared-slice-read-take-match take-match-requires add-i loop-less loop-again returns)

@@ -9,30 +9,18 @@ use Rattle.judge.proofs.rule.count_key.Tie as tie
 
 str-end-requires : tie.Need-str-end-requires
 str-end-requires c κs =
-    let at-start = c .before in
-    omega (arith, str-grows (at-start .args .f .now) (strEnd (at-start .args .f .now) (at-start .args .at)))
+    omega (arith, str-grows (c .before .args .f .now) (strEnd (c .before .args .f .now) (c .before .args .at)))
 
 is-star-requires : tie.Need-is-star-requires
-is-star-requires c κs =
-    let at-str-end = c .str-end in
-    let at-start = c .before .before in
-    rw (at-str-end .ensures) (at-start .pre)
+is-star-requires c κs = rw (c .str-end .ensures) (c .before .before .pre)
 
 returns : tie.Need-returns
 unfolding if_then_else_
-returns c =
-    let at-if1 = c .if1 in
-    let at-is-star = c .before .is-star in
-    let at-str-end = c .before .before .str-end in
-    rw (wild-in _ _ _ _ (at-str-end .ensures) (at-is-star .ensures) ∙ at-if1 .taken)
+returns c = rw (wild-in _ _ _ _ (c .before .before .str-end .ensures) (c .before .is-star .ensures) ∙ c .if1 .taken)
 
 returns-2 : tie.Need-returns-2
 unfolding if_then_else_
-returns-2 c =
-    let at-if1 = c .if1 in
-    let at-is-star = c .before .is-star in
-    let at-str-end = c .before .before .str-end in
-    rw (wild-in _ _ _ _ (at-str-end .ensures) (at-is-star .ensures) ∙ at-if1 .left)
+returns-2 c = rw (wild-in _ _ _ _ (c .before .before .str-end .ensures) (c .before .is-star .ensures) ∙ c .if1 .left)
 
 pub count-key-spec : {M : Type 1} → statement M
 count-key-spec = tie.close (tie.spec str-end-requires is-star-requires returns returns-2)

@@ -17,53 +17,35 @@ abbrev μ-loop : tie.MeasureT-loop
 μ-loop f at k n₀ q₀ left₀ n q left = left
 
 loop-holds : tie.Need-loop-holds Inv-loop μ-loop
-loop-holds c =
-    let at-start = c .before in
-    (at-start .pre, zero-le, omega arith)
+loop-holds c = (c .before .pre, zero-le, omega arith)
 
 str-end-requires : tie.Need-str-end-requires Inv-loop μ-loop
 str-end-requires c κs =
-    let at-loop-test = c .loop-test in
-    let at-loop = c .before .loop in
-    let e = elem-room _ _ (elems-room _ _ _ (at-loop-test .taken) (at-loop .inv .0) .0) in omega arith
+    let e = elem-room _ _ (elems-room _ _ _ (c .loop-test .taken) (c .before .loop .inv .0) .0) in omega arith
 
 shared-slice-read-c : tie.Need-shared-slice-read-c Inv-loop μ-loop
-shared-slice-read-c c =
-    let at-loop-test = c .before .before .loop-test in
-    let at-loop = c .before .before .before .loop in
-    let e = elem-room _ _ (elems-room _ _ _ (at-loop-test .taken) (at-loop .inv .0) .0) in omega arith
+shared-slice-read-c c = let at-loop = c .before .before .before in
+    let e = elem-room _ _ (elems-room _ _ _ (c .before .before .loop-test .taken) (at-loop .loop .inv .0) .0) in omega arith
 
 cast-c : tie.Need-cast-c Inv-loop μ-loop
-cast-c c =
-    let at-shared-slice-known2 = c .shared-slice-known2 in
-    let at-str-end = c .before .str-end in
-    omega (arith, at-shared-slice-known2 .given (at-str-end .result))
+cast-c c = omega (arith, c .shared-slice-known2 .given (c .before .str-end .result))
 
 add-count-given : tie.Need-add-count-given Inv-loop μ-loop
-add-count-given c =
-    let at-loop-test = c .before .before .loop-test in
-    let at-loop = c .before .before .before .loop in
-    let e = elem-room _ _ (elems-room _ _ _ (at-loop-test .taken) (at-loop .inv .0) .0) in omega arith
+add-count-given c = let at-loop = c .before .before .before in
+    let e = elem-room _ _ (elems-room _ _ _ (c .before .before .loop-test .taken) (at-loop .loop .inv .0) .0) in omega arith
 
 count-given-requires : tie.Need-count-given-requires Inv-loop μ-loop
-count-given-requires c κs =
-    let at-str-end = c .before .str-end in
-    let at-loop-test = c .before .before .loop-test in
-    let at-loop = c .before .before .before .loop in
-    rw (at-str-end .ensures) (elem-room _ _ (elems-room _ _ _ (at-loop-test .taken) (at-loop .inv .0) .0) .1)
+count-given-requires c κs = let at-loop = c .before .before .before in
+    rw (c .before .str-end .ensures) (elem-room _ _ (elems-room _ _ _ (c .before .before .loop-test .taken) (at-loop .loop .inv .0) .0) .1)
 
 add-n : tie.Need-add-n Inv-loop μ-loop
-add-n c =
-    let at-str-end = c .before .before .str-end in
-    let at-loop-test = c .before .before .before .loop-test in
-    let at-loop = c .before .before .before .before .loop in
-    let x = few-in _ _ _ (at-str-end .ensures) in let e = elems-room _ _ _ (at-loop-test .taken) (at-loop .inv .0) .0 in omega arith
+add-n c = let at-loop-test = c .before .before .before in
+    let x = few-in _ _ _ (c .before .before .str-end .ensures) in
+    let e = elems-room _ _ _ (at-loop-test .loop-test .taken) (at-loop-test .before .loop .inv .0) .0 in omega arith
 
 elem-end-requires : tie.Need-elem-end-requires Inv-loop μ-loop
-elem-end-requires c κs =
-    let at-loop-test = c .before .before .before .loop-test in
-    let at-loop = c .before .before .before .before .loop in
-    elems-room _ _ _ (at-loop-test .taken) (at-loop .inv .0) .0
+elem-end-requires c κs = let at-loop-test = c .before .before .before in
+    elems-room _ _ _ (at-loop-test .loop-test .taken) (at-loop-test .before .loop .inv .0) .0
 
 sub-left : tie.Need-sub-left Inv-loop μ-loop
 sub-left c = omega arith
@@ -72,36 +54,19 @@ loop-less : tie.Need-loop-less Inv-loop μ-loop
 loop-less c = omega arith
 
 loop-again : tie.Need-loop-again Inv-loop μ-loop
-loop-again c =
-    let at-elem-end = c .elem-end in
-    let at-count-given = c .before .count-given in
-    let at-str-end = c .before .before .before .str-end in
-    let at-loop-test = c .before .before .before .before .loop-test in
-    let at-loop = c .before .before .before .before .before .loop in
-    let x = few-in _ _ _ (at-str-end .ensures) in (elems-again _ _ _ _ (at-loop-test .taken) (at-loop .inv .0) (at-elem-end .ensures), omega arith, keys-turn _ _ _ (at-loop-test .taken) _ _ _ _ _ (at-str-end .ensures) (at-elem-end .ensures) (at-count-given .ensures) (at-loop .inv .2))
+loop-again c = let at-str-end = c .before .before .before in
+    let x = few-in _ _ _ (at-str-end .str-end .ensures) in (
+      elems-again _ _ _ _ (at-str-end .before .loop-test .taken) (at-str-end .before .before .loop .inv .0)
+          (c .elem-end .ensures),
+      omega arith,
+      keys-turn _ _ _ (at-str-end .before .loop-test .taken) _ _ _ _ _ (at-str-end .str-end .ensures)
+          (c .elem-end .ensures) (c .before .count-given .ensures) (at-str-end .before .before .loop .inv .2),
+    )
 
 returns : tie.Need-returns Inv-loop μ-loop
-returns c =
-    let at-loop-test = c .loop-test in
-    let at-loop = c .before .loop in
-    let at-start = c .before .before .before in
-    sym (keys-end (at-start .args .f .now) _ (at-loop .q) _ _ (at-loop-test .left) (at-loop .inv .2))
+returns c = let at-start = c .before .before .before in
+    sym (keys-end (at-start .args .f .now) _ (c .before .loop .q) _ _ (c .loop-test .left) (c .before .loop .inv .2))
 
 pub count-keys-spec : {M : Type 1} → statement M
-count-keys-spec =
-    tie.close
-    (tie.spec
-    Inv-loop
-    μ-loop
-    loop-holds
-    str-end-requires
-    shared-slice-read-c
-    cast-c
-    add-count-given
-    count-given-requires
-    add-n
-    elem-end-requires
-    sub-left
-    loop-less
-    loop-again
-    returns)
+count-keys-spec = tie.close (tie.spec Inv-loop μ-loop loop-holds str-end-requires shared-slice-read-c cast-c
+    add-count-given count-given-requires add-n elem-end-requires sub-left loop-less loop-again returns)

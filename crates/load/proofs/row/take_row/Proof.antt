@@ -7,96 +7,55 @@ use Rattle.load.proofs.row.take_row.Statement.{statement}
 use Rattle.load.proofs.row.take_row.Tie as tie
 
 slice-aggregate-old : tie.Need-slice-aggregate-old
-slice-aggregate-old c =
-    let at-start = c .before .before in
-    sym (front-long _ _ _ (at-start .pre .0))
-
-sub-f : tie.Need-sub-f
-sub-f c = search needs
-
-part-f-start : tie.Need-part-f-start
-part-f-start c = search needs
-
-part-f-end : tie.Need-part-f-end
-part-f-end c = search needs
+slice-aggregate-old c = sym (front-long _ _ _ (c .before .before .pre .0))
 
 shared-slice-read-k : tie.Need-shared-slice-read-k
-shared-slice-read-k c =
-    let at-start = c .before .before .before .before in
-    part-some _ _ _ (at-start .pre .0)
+shared-slice-read-k c = let at-start = c .before .before .before .before in part-some _ _ _ (at-start .pre .0)
 
 version-number-requires : tie.Need-version-number-requires
-version-number-requires c κs =
-    let at-if1 = c .if1 in
-    let at-start = c .before .before .before .before .before in
-    (part-some _ _ _ (at-start .pre .0), at-if1 .taken)
+version-number-requires c κs = let at-start = c .before .before .before .before .before in
+    (part-some _ _ _ (at-start .pre .0), c .if1 .taken)
 
 returns : tie.Need-returns
 returns c =
-    let at-version-number = c .version-number in
-    let at-if1 = c .before .if1 in
-    λ b H. row-version H _ _ (at-if1 .taken) (at-version-number .ensures .0) (at-version-number .ensures .1)
+    λ b H. row-version H _ _ (c .before .if1 .taken) (c .version-number .ensures .0) (c .version-number .ensures .1)
 
 take-group-requires : tie.Need-take-group-requires
-take-group-requires c κs =
-    let at-if2 = c .before .before .before .if2 in
-    let at-start = c .before .before .before .before .before .before .before .before .before in
-    group-ready (at-start .pre .1 .1) _ (part-some _ _ _ (at-start .pre .0)) (both-room _ _ _ (at-start .pre .0)) (at-if2 .taken)
+take-group-requires c κs = let at-if2 = c .before .before .before in
+    let at-start = at-if2 .before .before .before .before .before .before in
+    group-ready (at-start .pre .1 .1) _ (part-some _ _ _ (at-start .pre .0)) (both-room _ _ _ (at-start .pre .0)) (at-if2 .if2 .taken)
 
 returns-2 : tie.Need-returns-2
-returns-2 c =
-    let at-take-group = c .take-group in
-    let at-if2 = c .before .before .before .before .if2 in
-    λ b H. row-group H _ _ (at-if2 .taken) (at-take-group .ensures .0) (at-take-group .ensures .1)
+returns-2 c = let at-if2 = c .before .before .before .before in
+    λ b H. row-group H _ _ (at-if2 .if2 .taken) (c .take-group .ensures .0) (c .take-group .ensures .1)
 
 take-member-requires : tie.Need-take-member-requires
-take-member-requires c κs =
-    let at-if3 = c .before .before .before .before .before .before .if3 in
-    let at-start = c .before .before .before .before .before .before .before .before .before .before .before .before .before in
-    member-ready (at-start .pre .1 .1) _ (part-some _ _ _ (at-start .pre .0)) (both-room _ _ _ (at-start .pre .0)) (at-if3 .taken)
+take-member-requires c κs = let at-if3 = c .before .before .before .before .before .before in
+    let at-start = at-if3 .before .before .before .before .before .before .before in
+    member-ready (at-start .pre .1 .1) _ (part-some _ _ _ (at-start .pre .0)) (both-room _ _ _ (at-start .pre .0)) (at-if3 .if3 .taken)
 
 returns-3 : tie.Need-returns-3
-returns-3 c =
-    let at-take-member = c .take-member in
-    let at-if3 = c .before .before .before .before .before .before .before .if3 in
-    λ b H. row-member H _ _ (at-if3 .taken) (at-take-member .ensures .0) (at-take-member .ensures .1)
+returns-3 c = let at-if3 = c .before .before .before .before .before .before .before in
+    λ b H. row-member H _ _ (at-if3 .if3 .taken) (c .take-member .ensures .0) (c .take-member .ensures .1)
 
 take-rule-requires : tie.Need-take-rule-requires
-take-rule-requires c κs =
-    let at-if4 = c .before .before .before .before .before .before .if4 in
-    let at-start = c .before .before .before .before .before .before .before .before .before .before .before .before .before .before in
-    rule-ready (at-start .pre .1 .1) _ (part-some _ _ _ (at-start .pre .0)) (both-room _ _ _ (at-start .pre .0)) (at-if4 .taken)
+take-rule-requires c κs = let at-if4 = c .before .before .before .before .before .before in
+    let at-start = at-if4 .before .before .before .before .before .before .before .before in
+    rule-ready (at-start .pre .1 .1) _ (part-some _ _ _ (at-start .pre .0)) (both-room _ _ _ (at-start .pre .0)) (at-if4 .if4 .taken)
 
 returns-4 : tie.Need-returns-4
-returns-4 c =
-    let at-take-rule = c .take-rule in
-    let at-if4 = c .before .before .before .before .before .before .before .if4 in
-    λ b H. row-rule H _ _ (at-if4 .taken) (at-take-rule .ensures .0) (at-take-rule .ensures .1)
+returns-4 c = let at-if4 = c .before .before .before .before .before .before .before in
+    λ b H. row-rule H _ _ (at-if4 .if4 .taken) (c .take-rule .ensures .0) (c .take-rule .ensures .1)
 
 returns-5 : tie.Need-returns-5
-returns-5 c =
-    let at-if4 = c .if4 in
-    let at-if3 = c .before .if3 in
-    let at-if2 = c .before .before .if2 in
-    let at-if1 = c .before .before .before .if1 in
-    let at-start = c .before .before .before .before .before .before .before .before in
-    λ b H. (row-unknown b _ _ (part-some _ _ _ (at-start .pre .0)) refl (at-if1 .left) (at-if2 .left) (at-if3 .left) (at-if4 .left), λ x. absurd (omega arith))
+returns-5 c = let at-if1 = c .before .before .before in let at-start = at-if1 .before .before .before .before .before in
+    λ b H. (
+      row-unknown b _ _ (part-some _ _ _ (at-start .pre .0)) refl (at-if1 .if1 .left)
+          (c .before .before .if2 .left) (c .before .if3 .left) (c .if4 .left),
+      λ x. absurd (omega arith),
+    )
 
 pub take-row-spec : {M : Type 1} → statement M
-take-row-spec =
-    tie.close
-    (tie.spec
-    slice-aggregate-old
-    sub-f
-    part-f-start
-    part-f-end
-    shared-slice-read-k
-    version-number-requires
-    returns
-    take-group-requires
-    returns-2
-    take-member-requires
-    returns-3
-    take-rule-requires
-    returns-4
-    returns-5)
+take-row-spec = tie.close (tie.spec slice-aggregate-old (λ c. search needs) (λ c. search needs) (λ c. search needs)
+    shared-slice-read-k version-number-requires returns take-group-requires returns-2 take-member-requires returns-3
+    take-rule-requires returns-4 returns-5)

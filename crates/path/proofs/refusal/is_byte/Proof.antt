@@ -7,13 +7,8 @@ use Rattle.path.proofs.refusal.is_byte.Tie as tie
 returns : tie.Need-returns
 returns c = byte-not _ _ (c .if1 .taken)
 
-shared-slice-read-result : tie.Need-shared-slice-read-result
-shared-slice-read-result c = search needs
-
 returns-2 : tie.Need-returns-2
-returns-2 c =
-    let at-if1 = c .before .if1 in
-    byte-is _ _ (at-if1 .left)
+returns-2 c = byte-is _ _ (c .before .if1 .left)
 
 pub is-byte-spec : {M : Type 1} → statement M
-is-byte-spec = tie.close (tie.spec returns shared-slice-read-result returns-2)
+is-byte-spec = tie.close (tie.spec returns (λ c. search needs) returns-2)

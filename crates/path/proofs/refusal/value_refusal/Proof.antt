@@ -5,33 +5,12 @@ use Rattle.path.proofs.Classes.{value-judged}
 use Rattle.path.proofs.refusal.value_refusal.Statement.{statement}
 use Rattle.path.proofs.refusal.value_refusal.Tie as tie
 
-scan-requires : tie.Need-scan-requires
-scan-requires c κs = search needs
-
-is-byte-requires : tie.Need-is-byte-requires
-is-byte-requires c κs = search needs
-
-is-unsized-requires : tie.Need-is-unsized-requires
-is-unsized-requires c κs = search needs
-
-least-refusal-requires : tie.Need-least-refusal-requires
-least-refusal-requires c κs = search needs
-
 returns : tie.Need-returns
 unfolding if_then_else_
-returns c =
-    let at-least-refusal = c .least-refusal in
-    let at-is-unsized = c .before .before .is-unsized in
-    let at-is-byte = c .before .before .before .is-byte in
-    let at-scan = c .before .before .before .before .scan in
-    value-judged _ _ _ _ (at-scan .result .star) (at-is-unsized .ensures) _ (at-least-refusal .ensures) (at-scan .ensures .0) (at-scan .ensures .1) (at-is-byte .ensures)
+returns c = let at-is-byte = c .before .before .before in
+    value-judged _ _ _ _ (at-is-byte .before .scan .result .star) (c .before .before .is-unsized .ensures) _
+    (c .least-refusal .ensures) (at-is-byte .before .scan .ensures .0) (at-is-byte .before .scan .ensures .1) (at-is-byte .is-byte .ensures)
 
 pub value-refusal-spec : {M : Type 1} → statement M
-value-refusal-spec =
-    tie.close
-    (tie.spec
-    scan-requires
-    is-byte-requires
-    is-unsized-requires
-    least-refusal-requires
-    returns)
+value-refusal-spec = tie.close (tie.spec (λ c κs. search needs) (λ c κs. search needs) (λ c κs. search needs)
+    (λ c κs. search needs) returns)

@@ -19,58 +19,33 @@ abbrev μ-loop : tie.MeasureT-loop
 μ-loop text at i₀ i = length text - i
 
 loop-holds : tie.Need-loop-holds Inv-loop μ-loop
-loop-holds c =
-    let at-start = c .before in
-    (search needs, at-start .pre, refl)
-
-shared-slice-read-is-name : tie.Need-shared-slice-read-is-name Inv-loop μ-loop
-shared-slice-read-is-name c = search needs
-
-is-name-requires : tie.Need-is-name-requires Inv-loop μ-loop
-is-name-requires c κs = search needs
+loop-holds c = (search needs, c .before .pre, refl)
 
 returns : tie.Need-returns Inv-loop μ-loop
-returns c =
-    let at-if1 = c .if1 in
-    let at-is-name = c .before .is-name in
-    let at-loop-test = c .before .before .before .loop-test in
-    let at-loop = c .before .before .before .before .loop in
-    let at-start = c .before .before .before .before .before .before in
-    omega (arith, found noName (at-start .args .text .now) (at-loop .i) (at-loop-test .taken) (ap not (sym (at-is-name .ensures)) ∙ at-if1 .taken), at-loop .inv .2)
-
-add-i : tie.Need-add-i Inv-loop μ-loop
-add-i c = search needs
-
-loop-less : tie.Need-loop-less Inv-loop μ-loop
-loop-less c = search needs
+returns c = let at-loop-test = c .before .before .before in let at-start = at-loop-test .before .before .before in
+    omega (
+      arith,
+      found noName (at-start .args .text .now) (at-loop-test .before .loop .i) (at-loop-test .loop-test .taken)
+          (ap not (sym (c .before .is-name .ensures)) ∙ c .if1 .taken),
+      at-loop-test .before .loop .inv .2,
+    )
 
 loop-again : tie.Need-loop-again Inv-loop μ-loop
-loop-again c =
-    let at-if1 = c .if1 in
-    let at-is-name = c .before .is-name in
-    let at-loop-test = c .before .before .before .loop-test in
-    let at-loop = c .before .before .before .before .loop in
-    let at-start = c .before .before .before .before .before .before in
-    (omega arith, omega arith, omega (arith, passed noName (at-start .args .text .now) (at-loop .i) (at-loop-test .taken) (ap not (sym (at-is-name .ensures)) ∙ at-if1 .left), at-loop .inv .2))
+loop-again c = let at-loop-test = c .before .before .before in let at-start = at-loop-test .before .before .before in (
+  omega arith,
+  omega arith,
+  omega (
+    arith,
+    passed noName (at-start .args .text .now) (at-loop-test .before .loop .i) (at-loop-test .loop-test .taken)
+        (ap not (sym (c .before .is-name .ensures)) ∙ c .if1 .left),
+    at-loop-test .before .loop .inv .2,
+  ),
+)
 
 returns-2 : tie.Need-returns-2 Inv-loop μ-loop
-returns-2 c =
-    let at-loop-test = c .loop-test in
-    let at-loop = c .before .loop in
-    let at-start = c .before .before .before in
-    omega (arith, ran-out noName (at-start .args .text .now) (at-loop .i) (at-loop-test .left), at-loop .inv .2)
+returns-2 c = let at-start = c .before .before .before in
+    omega (arith, ran-out noName (at-start .args .text .now) (c .before .loop .i) (c .loop-test .left), c .before .loop .inv .2)
 
 pub name-end-spec : {M : Type 1} → statement M
-name-end-spec =
-    tie.close
-    (tie.spec
-    Inv-loop
-    μ-loop
-    loop-holds
-    shared-slice-read-is-name
-    is-name-requires
-    returns
-    add-i
-    loop-less
-    loop-again
-    returns-2)
+name-end-spec = tie.close (tie.spec Inv-loop μ-loop loop-holds (λ c. search needs) (λ c κs. search needs) returns
+    (λ c. search needs) (λ c. search needs) loop-again returns-2)

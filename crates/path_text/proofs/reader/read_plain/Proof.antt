@@ -14,139 +14,99 @@ use Rattle.path_text.proofs.reader.read_plain.Tie as tie
 
 -- The bytes read so far, one for each that is no longer `left`, stand in `out` from `to` up to q; what is read from p on completes the value.
 abbrev Inv-loop : tie.InvT-loop
-Inv-loop text at out₀ to p₀ q₀ left₀ out p q left = Storing single out₀ to (value maxString text at) (maxString - left) out q (value left text p) × (left ≤ maxString) × Within (maxString - left) 0 text at p to q
+Inv-loop text at out₀ to p₀ q₀ left₀ out p q left =
+    Storing single out₀ to (value maxString text at) (maxString - left) out q (value left text p) × (left ≤ maxString) ×
+    Within (maxString - left) 0 text at p to q
 
 abbrev μ-loop : tie.MeasureT-loop
 μ-loop text at out₀ to p₀ q₀ left₀ out p q left = left
 
 loop-holds : tie.Need-loop-holds Inv-loop μ-loop
-loop-holds c =
-    let at-start = c .before .before in
-    (storing-start single _ _ _ (room-start _ _ _ _ _ _ (at-start .pre)), omega arith, record { few = omega arith; near = omega arith; inside = at-start .pre .starts })
-
-read-item-requires : tie.Need-read-item-requires Inv-loop μ-loop
-read-item-requires c κs = search needs
-
-enum-known-i : tie.Need-enum-known-i Inv-loop μ-loop
-enum-known-i c = search needs
+loop-holds c = (
+  storing-start single _ _ _ (room-start _ _ _ _ _ _ (c .before .before .pre)),
+  omega arith,
+  record { few = omega arith; near = omega arith; inside = c .before .before .pre .starts },
+)
 
 same-length : tie.Need-same-length Inv-loop μ-loop
-same-length c =
-    let at-loop = c .before .before .before .before .before .loop in
-    storing-long _ _ _ _ _ _ _ _ (at-loop .inv .0)
+same-length c = let at-loop = c .before .before .before .before .before in
+    storing-long _ _ _ _ _ _ _ _ (at-loop .loop .inv .0)
 
 returns : tie.Need-returns Inv-loop μ-loop
-returns c =
-    let at-if1 = c .if1 in
-    let at-i = c .before .before .i in
-    let at-read-item = c .before .before .before .before .read-item in
-    let at-loop = c .before .before .before .before .before .loop in
-    nothing (storing-none _ _ _ _ _ _ _ _ (at-loop .inv .0) (value-full _ _ _ (at-read-item .ensures) (at-loop .left) _ _ (at-if1 .taken) (at-i .given .1)))
+returns c = let at-read-item = c .before .before .before .before in
+    nothing (storing-none _ _ _ _ _ _ _ _ (at-read-item .before .loop .inv .0)
+    (value-full _ _ _ (at-read-item .read-item .ensures) (at-read-item .before .loop .left) _ _ (c .if1 .taken) (c .before .before .i .given .1)))
 
 slice-write-out : tie.Need-slice-write-out Inv-loop μ-loop
-slice-write-out c =
-    let at-if1 = c .if1 in
-    let at-i = c .before .before .i in
-    let at-read-item = c .before .before .before .before .read-item in
-    let at-loop = c .before .before .before .before .before .loop in
-    let at-start = c .before .before .before .before .before .before .before .before in
-    omega (arith, plain-room _ _ (at-loop .left) _ _ _ (at-loop .inv .2) (at-loop .inv .1) _ (byte-inside _ _ _ (at-read-item .ensures) _ _ (at-i .given .1)) (at-if1 .left) _ (at-start .pre) (storing-from _ _ _ _ _ _ _ _ (at-loop .inv .0)), storing-long _ _ _ _ _ _ _ _ (at-loop .inv .0))
-
-add-q : tie.Need-add-q Inv-loop μ-loop
-add-q c =
-    let at-if1 = c .if1 in
-    let at-i = c .before .before .i in
-    let at-read-item = c .before .before .before .before .read-item in
-    let at-loop = c .before .before .before .before .before .loop in
-    let at-start = c .before .before .before .before .before .before .before .before in
-    omega (arith, plain-room _ _ (at-loop .left) _ _ _ (at-loop .inv .2) (at-loop .inv .1) _ (byte-inside _ _ _ (at-read-item .ensures) _ _ (at-i .given .1)) (at-if1 .left) _ (at-start .pre) (storing-from _ _ _ _ _ _ _ _ (at-loop .inv .0)))
-
-sub-left : tie.Need-sub-left Inv-loop μ-loop
-sub-left c =
-    let at-if1 = c .if1 in
-    omega (arith, at-if1 .left)
-
-loop-less : tie.Need-loop-less Inv-loop μ-loop
-loop-less c =
-    let at-if1 = c .if1 in
-    omega (arith, at-if1 .left)
-
-loop-again : tie.Need-loop-again Inv-loop μ-loop
-loop-again c =
-    let at-if1 = c .if1 in
-    let at-i = c .before .before .i in
-    let at-read-item = c .before .before .before .before .read-item in
-    let at-loop = c .before .before .before .before .before .loop in
-    let at-start = c .before .before .before .before .before .before .before .before in
-    let i = byte-inside _ _ _ (at-read-item .ensures) _ _ (at-i .given .1) in
-    let l = plain-room _ _ (at-loop .left) _ _ _ (at-loop .inv .2) (at-loop .inv .1) _ i (at-if1 .left) _ (at-start .pre) (storing-from _ _ _ _ _ _ _ _ (at-loop .inv .0)) in
-    let o = storing-long _ _ _ _ _ _ _ _ (at-loop .inv .0) in (
-      storing-turn _ _ _ _ _ _ _ _ (at-loop .inv .0) _ _ _ _ _ (value-turn _ _ _ (at-read-item .ensures) (at-loop .left) _ _ (at-if1 .left) (at-i .given .1))
-          (wrote-byte _ _ _ (omega arith)) (omega arith) (omega (arith, at-loop .inv .1, at-if1 .left)),
-      omega (arith, at-loop .inv .1),
-      plain-turn _ _ (at-loop .left) _ _ _ (at-loop .inv .2) (at-loop .inv .1) _ i (at-if1 .left),
+slice-write-out c = let at-read-item = c .before .before .before .before in let at-loop = at-read-item .before in
+    let at-start = at-loop .before .before .before in
+    omega (
+      arith,
+      plain-room _ _ (at-loop .loop .left) _ _ _ (at-loop .loop .inv .2) (at-loop .loop .inv .1) _
+          (byte-inside _ _ _ (at-read-item .read-item .ensures) _ _ (c .before .before .i .given .1)) (c .if1 .left) _
+          (at-start .pre) (storing-from _ _ _ _ _ _ _ _ (at-loop .loop .inv .0)),
+      storing-long _ _ _ _ _ _ _ _ (at-loop .loop .inv .0),
     )
 
-enum-told : tie.Need-enum-told Inv-loop μ-loop
-enum-told c = search needs
+add-q : tie.Need-add-q Inv-loop μ-loop
+add-q c = let at-read-item = c .before .before .before .before in let at-loop = at-read-item .before in
+    let at-start = at-loop .before .before .before in
+    omega (
+      arith,
+      plain-room _ _ (at-loop .loop .left) _ _ _ (at-loop .loop .inv .2) (at-loop .loop .inv .1) _
+          (byte-inside _ _ _ (at-read-item .read-item .ensures) _ _ (c .before .before .i .given .1)) (c .if1 .left) _
+          (at-start .pre) (storing-from _ _ _ _ _ _ _ _ (at-loop .loop .inv .0)),
+    )
+
+sub-left : tie.Need-sub-left Inv-loop μ-loop
+sub-left c = omega (arith, c .if1 .left)
+
+loop-less : tie.Need-loop-less Inv-loop μ-loop
+loop-less c = omega (arith, c .if1 .left)
+
+loop-again : tie.Need-loop-again Inv-loop μ-loop
+loop-again c = let at-read-item = c .before .before .before .before in let at-loop = at-read-item .before in
+    let at-start = at-loop .before .before .before in
+    let i = byte-inside _ _ _ (at-read-item .read-item .ensures) _ _ (c .before .before .i .given .1) in
+    let l = plain-room _ _ (at-loop .loop .left) _ _ _ (at-loop .loop .inv .2) (at-loop .loop .inv .1) _ i
+    (c .if1 .left) _ (at-start .pre) (storing-from _ _ _ _ _ _ _ _ (at-loop .loop .inv .0)) in
+    let o = storing-long _ _ _ _ _ _ _ _ (at-loop .loop .inv .0) in (
+      storing-turn _ _ _ _ _ _ _ _ (at-loop .loop .inv .0) _ _ _ _ _
+          (value-turn _ _ _ (at-read-item .read-item .ensures) (at-loop .loop .left) _ _ (c .if1 .left) (c .before .before .i .given .1))
+          (wrote-byte _ _ _ (omega arith)) (omega arith) (omega (arith, at-loop .loop .inv .1, c .if1 .left)),
+      omega (arith, at-loop .loop .inv .1),
+      plain-turn _ _ (at-loop .loop .left) _ _ _ (at-loop .loop .inv .2) (at-loop .loop .inv .1) _ i (c .if1 .left),
+    )
 
 add-t13 : tie.Need-add-t13 Inv-loop μ-loop
-add-t13 c =
-    let at-enum-told = c .enum-told in
-    let at-read-item = c .before .before .read-item in
-    let at-loop = c .before .before .before .loop in
-    let at-start = c .before .before .before .before .before .before in
-    omega (arith, inside (at-start .args .text .now) (at-loop .p) 93 (omega arith) (end-inside (at-start .args .text .now) (at-loop .p) _ (at-read-item .ensures) (at-enum-told .given .1)))
+add-t13 c = let at-loop = c .before .before .before in let at-start = at-loop .before .before .before in
+    omega (
+      arith,
+      inside (at-start .args .text .now) (at-loop .loop .p) 93 (omega arith)
+          (end-inside (at-start .args .text .now) (at-loop .loop .p) _ (c .before .before .read-item .ensures) (c .enum-told .given .1)),
+    )
 
 same-length-2 : tie.Need-same-length-2 Inv-loop μ-loop
-same-length-2 c =
-    let at-loop = c .before .before .before .loop in
-    storing-long _ _ _ _ _ _ _ _ (at-loop .inv .0)
+same-length-2 c = let at-loop = c .before .before .before in storing-long _ _ _ _ _ _ _ _ (at-loop .loop .inv .0)
 
 returns-2 : tie.Need-returns-2 Inv-loop μ-loop
-returns-2 c =
-    let at-enum-told = c .enum-told in
-    let at-read-item = c .before .before .read-item in
-    let at-loop = c .before .before .before .loop in
-    let at-start = c .before .before .before .before .before .before in
-    stores (storing-done _ _ _ _ _ _ _ _ (at-loop .inv .0) _ (value-end _ _ _ (at-read-item .ensures) (at-loop .left) (at-enum-told .given .1))) (wrote-plain _ _ _ _ _ (at-loop .inv .0 .wrote))
-    (plain-end _ _ (at-loop .left) _ _ _ (at-loop .inv .2) (at-loop .inv .1) (inside (at-start .args .text .now) (at-loop .p) 93 (omega arith) (end-inside (at-start .args .text .now) (at-loop .p) _ (at-read-item .ensures) (at-enum-told .given .1))))
-
-enum-told-2 : tie.Need-enum-told-2 Inv-loop μ-loop
-enum-told-2 c = search needs
+returns-2 c = let at-loop = c .before .before .before in let at-start = at-loop .before .before .before in
+    stores (storing-done _ _ _ _ _ _ _ _ (at-loop .loop .inv .0) _
+    (value-end _ _ _ (c .before .before .read-item .ensures) (at-loop .loop .left) (c .enum-told .given .1)))
+    (wrote-plain _ _ _ _ _ (at-loop .loop .inv .0 .wrote))
+    (plain-end _ _ (at-loop .loop .left) _ _ _ (at-loop .loop .inv .2) (at-loop .loop .inv .1)
+    (inside (at-start .args .text .now) (at-loop .loop .p) 93 (omega arith)
+    (end-inside (at-start .args .text .now) (at-loop .loop .p) _ (c .before .before .read-item .ensures) (c .enum-told .given .1))))
 
 same-length-3 : tie.Need-same-length-3 Inv-loop μ-loop
-same-length-3 c =
-    let at-loop = c .before .before .before .loop in
-    storing-long _ _ _ _ _ _ _ _ (at-loop .inv .0)
+same-length-3 c = let at-loop = c .before .before .before in storing-long _ _ _ _ _ _ _ _ (at-loop .loop .inv .0)
 
 returns-3 : tie.Need-returns-3 Inv-loop μ-loop
-returns-3 c =
-    let at-enum-told2 = c .enum-told2 in
-    let at-read-item = c .before .before .read-item in
-    let at-loop = c .before .before .before .loop in
-    nothing (storing-none _ _ _ _ _ _ _ _ (at-loop .inv .0) (value-stop _ _ _ (at-read-item .ensures) (at-loop .left) (at-enum-told2 .given .1)))
+returns-3 c = let at-loop = c .before .before .before in
+    nothing (storing-none _ _ _ _ _ _ _ _ (at-loop .loop .inv .0)
+    (value-stop _ _ _ (c .before .before .read-item .ensures) (at-loop .loop .left) (c .enum-told2 .given .1)))
 
 pub read-plain-spec : {M : Type 1} → statement M
-read-plain-spec =
-    tie.close
-    (tie.spec
-    Inv-loop
-    μ-loop
-    loop-holds
-    read-item-requires
-    enum-known-i
-    same-length
-    returns
-    slice-write-out
-    add-q
-    sub-left
-    loop-less
-    loop-again
-    enum-told
-    add-t13
-    same-length-2
-    returns-2
-    enum-told-2
-    same-length-3
-    returns-3)
+read-plain-spec = tie.close (tie.spec Inv-loop μ-loop loop-holds (λ c κs. search needs) (λ c. search needs) same-length
+    returns slice-write-out add-q sub-left loop-less loop-again (λ c. search needs) add-t13 same-length-2 returns-2
+    (λ c. search needs) same-length-3 returns-3)

@@ -6,35 +6,20 @@ use Rattle.readable_lines.proofs.form.convert_part.Statement.{statement
 use Rattle.readable_lines.proofs.form.convert_part.Tie as tie
 
 part-requires : tie.Need-part-requires
-part-requires c κs =
-    let at-start = c .before .before .before .before in
-    (at-start .pre .0, at-start .pre .1)
-
-same-length : tie.Need-same-length
-same-length c = search needs
+part-requires c κs = let at-start = c .before .before .before .before in (at-start .pre .0, at-start .pre .1)
 
 returns : tie.Need-returns
 unfolding partsBy if_then_else_
-returns c =
-    let at-part = c .before .before .part in
-    let at-if1 = c .before .before .before .before .if1 in
-    rw (at-if1 .taken) (at-part .ensures)
+returns c = let at-if1 = c .before .before .before .before in rw (at-if1 .if1 .taken) (c .before .before .part .ensures)
 
 part-requires-2 : tie.Need-part-requires-2
-part-requires-2 c κs =
-    let at-start = c .before .before .before .before in
-    (at-start .pre .0, at-start .pre .1)
-
-same-length-2 : tie.Need-same-length-2
-same-length-2 c = search needs
+part-requires-2 c κs = let at-start = c .before .before .before .before in (at-start .pre .0, at-start .pre .1)
 
 returns-2 : tie.Need-returns-2
 unfolding partsBy if_then_else_
-returns-2 c =
-    let at-part2 = c .before .before .part2 in
-    let at-if1 = c .before .before .before .before .if1 in
-    rw (at-if1 .left) (at-part2 .ensures)
+returns-2 c = let at-if1 = c .before .before .before .before in
+    rw (at-if1 .if1 .left) (c .before .before .part2 .ensures)
 
 pub convert-part-spec : {M : Type 1} → statement M
-convert-part-spec =
-    tie.close (tie.spec part-requires same-length returns part-requires-2 same-length-2 returns-2)
+convert-part-spec = tie.close (tie.spec part-requires (λ c. search needs) returns part-requires-2 (λ c. search needs)
+    returns-2)

@@ -18,86 +18,45 @@ abbrev μ-loop : tie.MeasureT-loop
 μ-loop packing form s at out₀ to p₀ q₀ i₀ out p q i = length form - i
 
 loop-holds : tie.Need-loop-holds Inv-loop μ-loop
-loop-holds c =
-    let at-start = c .before .before .before in
-    (omega arith, going-start _ _ _ _ _ _ (at-start .pre .1))
-
-shared-slice-read-convert-part : tie.Need-shared-slice-read-convert-part Inv-loop μ-loop
-shared-slice-read-convert-part c = search needs
+loop-holds c = let at-start = c .before .before .before in (omega arith, going-start _ _ _ _ _ _ (at-start .pre .1))
 
 convert-part-requires : tie.Need-convert-part-requires Inv-loop μ-loop
-convert-part-requires c κs =
-    let at-loop-test = c .before .before .loop-test in
-    let at-loop = c .before .before .before .loop in
-    let at-start = c .before .before .before .before .before .before .before in
-    (going-room _ _ _ _ _ _ (at-start .pre .0) _ _ _ _ (at-loop .inv .1) (at-loop-test .taken), at-loop .inv .1 .inside)
-
-enum-known-r : tie.Need-enum-known-r Inv-loop μ-loop
-enum-known-r c = search needs
-
-enum-told : tie.Need-enum-told Inv-loop μ-loop
-enum-told c = search needs
+convert-part-requires c κs = let at-loop = c .before .before .before in
+    let at-start = at-loop .before .before .before .before in
+    (going-room _ _ _ _ _ _ (at-start .pre .0) _ _ _ _ (at-loop .loop .inv .1) (c .before .before .loop-test .taken), at-loop .loop .inv .1 .inside)
 
 same-length : tie.Need-same-length Inv-loop μ-loop
-same-length c =
-    let at-convert-part = c .before .before .before .before .convert-part in
-    let at-loop = c .before .before .before .before .before .before .before .before .loop in
-    let at-start = c .before .before .before .before .before .before .before .before .before .before .before .before in
-    omega (arith, at-convert-part .kept .1 .1 .1 .1 .0, going-long _ _ _ _ _ _ (at-start .pre .0) _ _ _ _ (at-loop .inv .1))
+same-length c = let at-convert-part = c .before .before .before .before in
+    let at-loop = at-convert-part .before .before .before .before in
+    let at-start = at-loop .before .before .before .before in
+    omega (arith, at-convert-part .convert-part .kept .1 .1 .1 .1 .0, going-long _ _ _ _ _ _ (at-start .pre .0) _ _ _ _ (at-loop .loop .inv .1))
 
 returns : tie.Need-returns Inv-loop μ-loop
-returns c =
-    let at-enum-told = c .enum-told in
-    let at-convert-part = c .before .before .before .before .convert-part in
-    let at-loop-test = c .before .before .before .before .before .before .before .loop-test in
-    let at-loop = c .before .before .before .before .before .before .before .before .loop in
-    let at-start = c .before .before .before .before .before .before .before .before .before .before .before .before in
-    stops (going-stop _ _ _ _ _ _ (at-start .pre .0) _ _ _ _ (at-loop .inv .1) (at-loop-test .taken) (put-not (at-convert-part .ensures) (at-enum-told .given .1)))
-
-add-i : tie.Need-add-i Inv-loop μ-loop
-add-i c = search needs
-
-loop-less : tie.Need-loop-less Inv-loop μ-loop
-loop-less c = search needs
+returns c = let at-convert-part = c .before .before .before .before in
+    let at-loop-test = at-convert-part .before .before .before in
+    let at-start = at-loop-test .before .before .before .before .before in
+    stops (going-stop _ _ _ _ _ _ (at-start .pre .0) _ _ _ _ (at-loop-test .before .loop .inv .1)
+    (at-loop-test .loop-test .taken) (put-not (at-convert-part .convert-part .ensures) (c .enum-told .given .1)))
 
 loop-again : tie.Need-loop-again Inv-loop μ-loop
-loop-again c =
-    let at-r = c .before .r in
-    let at-convert-part = c .before .before .before .before .before .convert-part in
-    let at-loop-test = c .before .before .before .before .before .before .before .before .loop-test in
-    let at-loop = c .before .before .before .before .before .before .before .before .before .loop in
-    let at-start = c .before .before .before .before .before .before .before .before .before .before .before .before .before in
-    let u = put-to (at-convert-part .ensures) (at-r .given .1) in
-    (omega (arith, at-loop-test .taken), going-turn _ _ _ _ _ _ (at-start .pre .0) _ _ _ _ (at-loop .inv .1) (at-loop-test .taken) _ _ _ _ (u .1) (u .2) (u .3) (u .4))
+loop-again c = let at-convert-part = c .before .before .before .before .before in
+    let at-loop-test = at-convert-part .before .before .before in
+    let at-start = at-loop-test .before .before .before .before .before in
+    let u = put-to (at-convert-part .convert-part .ensures) (c .before .r .given .1) in (
+      omega (arith, at-loop-test .loop-test .taken),
+      going-turn _ _ _ _ _ _ (at-start .pre .0) _ _ _ _ (at-loop-test .before .loop .inv .1)
+          (at-loop-test .loop-test .taken) _ _ _ _ (u .1) (u .2) (u .3) (u .4),
+    )
 
 same-length-2 : tie.Need-same-length-2 Inv-loop μ-loop
-same-length-2 c =
-    let at-loop = c .before .loop in
-    let at-start = c .before .before .before .before .before in
-    going-long _ _ _ _ _ _ (at-start .pre .0) _ _ _ _ (at-loop .inv .1)
+same-length-2 c = let at-start = c .before .before .before .before .before in
+    going-long _ _ _ _ _ _ (at-start .pre .0) _ _ _ _ (c .before .loop .inv .1)
 
 returns-2 : tie.Need-returns-2 Inv-loop μ-loop
-returns-2 c =
-    let at-loop-test = c .loop-test in
-    let at-loop = c .before .loop in
-    let at-start = c .before .before .before .before .before in
-    going-done _ _ _ _ _ _ (at-start .pre .0) _ _ _ _ (at-loop .inv .1) (at-loop-test .left)
+returns-2 c = let at-start = c .before .before .before .before .before in
+    going-done _ _ _ _ _ _ (at-start .pre .0) _ _ _ _ (c .before .loop .inv .1) (c .loop-test .left)
 
 pub convert-parts-spec : {M : Type 1} → statement M
-convert-parts-spec =
-    tie.close
-    (tie.spec
-    Inv-loop
-    μ-loop
-    loop-holds
-    shared-slice-read-convert-part
-    convert-part-requires
-    enum-known-r
-    enum-told
-    same-length
-    returns
-    add-i
-    loop-less
-    loop-again
-    same-length-2
-    returns-2)
+convert-parts-spec = tie.close (tie.spec Inv-loop μ-loop loop-holds (λ c. search needs) convert-part-requires
+    (λ c. search needs) (λ c. search needs) same-length returns (λ c. search needs) (λ c. search needs) loop-again
+    same-length-2 returns-2)

@@ -7,42 +7,26 @@ use Rattle.readable_lines.proofs.form.kind_by.Tie as tie
 
 returns : tie.Need-returns
 unfolding kindBy if_then_else_
-returns c =
-    let at-if1 = c .if1 in
-    rw (eq-eqb _ _ (at-if1 .taken))
+returns c = rw (eq-eqb _ _ (c .if1 .taken))
 
 returns-2 : tie.Need-returns-2
 unfolding kindBy if_then_else_
-returns-2 c =
-    let at-if2 = c .if2 in
-    let at-if1 = c .before .if1 in
-    rw (ne-eqb _ _ (at-if1 .left), eq-eqb _ _ (at-if2 .taken))
+returns-2 c = rw (ne-eqb _ _ (c .before .if1 .left), eq-eqb _ _ (c .if2 .taken))
 
 returns-3 : tie.Need-returns-3
 unfolding kindBy if_then_else_
 returns-3 c =
-    let at-if3 = c .if3 in
-    let at-if2 = c .before .if2 in
-    let at-if1 = c .before .before .if1 in
-    rw (ne-eqb _ _ (at-if1 .left), ne-eqb _ _ (at-if2 .left), eq-eqb _ _ (at-if3 .taken))
+    rw (ne-eqb _ _ (c .before .before .if1 .left), ne-eqb _ _ (c .before .if2 .left), eq-eqb _ _ (c .if3 .taken))
 
 returns-4 : tie.Need-returns-4
 unfolding kindBy if_then_else_
-returns-4 c =
-    let at-if4 = c .if4 in
-    let at-if3 = c .before .if3 in
-    let at-if2 = c .before .before .if2 in
-    let at-if1 = c .before .before .before .if1 in
-    rw (ne-eqb _ _ (at-if1 .left), ne-eqb _ _ (at-if2 .left), ne-eqb _ _ (at-if3 .left), eq-eqb _ _ (at-if4 .taken))
+returns-4 c = let at-if1 = c .before .before .before in
+    rw (ne-eqb _ _ (at-if1 .if1 .left), ne-eqb _ _ (c .before .before .if2 .left), ne-eqb _ _ (c .before .if3 .left), eq-eqb _ _ (c .if4 .taken))
 
 returns-5 : tie.Need-returns-5
 unfolding kindBy if_then_else_
-returns-5 c =
-    let at-if4 = c .if4 in
-    let at-if3 = c .before .if3 in
-    let at-if2 = c .before .before .if2 in
-    let at-if1 = c .before .before .before .if1 in
-    rw (ne-eqb _ _ (at-if1 .left), ne-eqb _ _ (at-if2 .left), ne-eqb _ _ (at-if3 .left), ne-eqb _ _ (at-if4 .left))
+returns-5 c = let at-if1 = c .before .before .before in
+    rw (ne-eqb _ _ (at-if1 .if1 .left), ne-eqb _ _ (c .before .before .if2 .left), ne-eqb _ _ (c .before .if3 .left), ne-eqb _ _ (c .if4 .left))
 
 pub kind-by-spec : {M : Type 1} → statement M
 kind-by-spec = tie.close (tie.spec returns returns-2 returns-3 returns-4 returns-5)

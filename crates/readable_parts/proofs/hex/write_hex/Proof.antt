@@ -18,84 +18,36 @@ abbrev μ-loop : tie.MeasureT-loop
 μ-loop f out₀ at p₀ i₀ out p i = length f - i
 
 loop-holds : tie.Need-loop-holds Inv-loop μ-loop
-loop-holds c =
-    let at-start = c .before .before in
-    (search needs, hex-start _ _ _ (at-start .pre))
-
-shared-slice-read-b : tie.Need-shared-slice-read-b Inv-loop μ-loop
-shared-slice-read-b c = search needs
+loop-holds c = (search needs, hex-start _ _ _ (c .before .before .pre))
 
 hex-digit-requires : tie.Need-hex-digit-requires Inv-loop μ-loop
-hex-digit-requires c κs =
-    let at-shared-slice-known2 = c .shared-slice-known2 in
-    let at-loop = c .before .before .loop in
-    omega (arith, at-shared-slice-known2 .given (at-loop .i))
+hex-digit-requires c κs = omega (arith, c .shared-slice-known2 .given (c .before .before .loop .i))
 
 slice-write-out : tie.Need-slice-write-out Inv-loop μ-loop
-slice-write-out c =
-    let at-hex-digit = c .hex-digit in
-    let at-loop-test = c .before .before .loop-test in
-    let at-loop = c .before .before .before .loop in
-    pair-room _ _ _ _ _ _ _ (at-loop .inv .1) (at-loop-test .taken) _ 0 (at-hex-digit .ensures)
+slice-write-out c = let at-loop = c .before .before .before in
+    pair-room _ _ _ _ _ _ _ (at-loop .loop .inv .1) (c .before .before .loop-test .taken) _ 0 (c .hex-digit .ensures)
 
 hex-digit-requires-2 : tie.Need-hex-digit-requires-2 Inv-loop μ-loop
 hex-digit-requires-2 c κs = omega arith
 
-add-out : tie.Need-add-out Inv-loop μ-loop
-add-out c = search needs
-
 slice-write-out-2 : tie.Need-slice-write-out-2 Inv-loop μ-loop
-slice-write-out-2 c =
-    let at-hex-digit2 = c .hex-digit2 in
-    let at-hex-digit = c .before .hex-digit in
-    let at-loop-test = c .before .before .before .loop-test in
-    let at-loop = c .before .before .before .before .loop in
-    second-room _ _ _ _ _ _ _ (at-loop .inv .1) (at-loop-test .taken) _ _ (at-hex-digit .ensures) (at-hex-digit2 .ensures)
-
-add-p : tie.Need-add-p Inv-loop μ-loop
-add-p c = search needs
-
-add-i : tie.Need-add-i Inv-loop μ-loop
-add-i c = search needs
-
-loop-less : tie.Need-loop-less Inv-loop μ-loop
-loop-less c = search needs
+slice-write-out-2 c = let at-loop-test = c .before .before .before in
+    second-room _ _ _ _ _ _ _ (at-loop-test .before .loop .inv .1) (at-loop-test .loop-test .taken) _ _ (c .before .hex-digit .ensures) (c .hex-digit2 .ensures)
 
 loop-again : tie.Need-loop-again Inv-loop μ-loop
-loop-again c =
-    let at-hex-digit2 = c .hex-digit2 in
-    let at-hex-digit = c .before .hex-digit in
-    let at-loop-test = c .before .before .before .loop-test in
-    let at-loop = c .before .before .before .before .loop in
-    (omega arith, pair-turn _ _ _ _ _ _ _ (at-loop .inv .1) (at-loop-test .taken) _ _ (at-hex-digit .ensures) (at-hex-digit2 .ensures))
+loop-again c = let at-loop-test = c .before .before .before in (
+  omega arith,
+  pair-turn _ _ _ _ _ _ _ (at-loop-test .before .loop .inv .1) (at-loop-test .loop-test .taken) _ _
+      (c .before .hex-digit .ensures) (c .hex-digit2 .ensures),
+)
 
 same-length : tie.Need-same-length Inv-loop μ-loop
-same-length c =
-    let at-loop = c .before .loop in
-    at-loop .inv .1 .long
+same-length c = c .before .loop .inv .1 .long
 
 returns : tie.Need-returns Inv-loop μ-loop
-returns c =
-    let at-loop-test = c .loop-test in
-    let at-loop = c .before .loop in
-    hex-done _ _ _ _ _ _ _ (at-loop .inv .1) (at-loop-test .left)
+returns c = hex-done _ _ _ _ _ _ _ (c .before .loop .inv .1) (c .loop-test .left)
 
 pub write-hex-spec : {M : Type 1} → statement M
-write-hex-spec =
-    tie.close
-    (tie.spec
-    Inv-loop
-    μ-loop
-    loop-holds
-    shared-slice-read-b
-    hex-digit-requires
-    slice-write-out
-    hex-digit-requires-2
-    add-out
-    slice-write-out-2
-    add-p
-    add-i
-    loop-less
-    loop-again
-    same-length
-    returns)
+write-hex-spec = tie.close (tie.spec Inv-loop μ-loop loop-holds (λ c. search needs) hex-digit-requires slice-write-out
+    hex-digit-requires-2 (λ c. search needs) slice-write-out-2 (λ c. search needs) (λ c. search needs)
+    (λ c. search needs) loop-again same-length returns)

@@ -8,127 +8,71 @@ use Rattle.readable_parts.proofs.Showing.{string-unshown, long-unshown,
 use Rattle.readable_parts.proofs.shown.string.Statement.{statement}
 use Rattle.readable_parts.proofs.shown.string.Tie as tie
 
-string-end-requires : tie.Need-string-end-requires
-string-end-requires c κs = search needs
-
-enum-known-e : tie.Need-enum-known-e
-enum-known-e c = search needs
-
-enum-told : tie.Need-enum-told
-enum-told c = search needs
-
 returns : tie.Need-returns
-returns c =
-    let at-enum-told = c .enum-told in
-    let at-string-end = c .before .before .string-end in
-    stops (string-unshown _ _ _ (at-string-end .ensures) (at-enum-told .given .1))
+returns c = stops (string-unshown _ _ _ (c .before .before .string-end .ensures) (c .enum-told .given .1))
 
 add-start : tie.Need-add-start
-add-start c =
-    let at-e = c .before .e in
-    let at-string-end = c .before .before .before .string-end in
-    let t = string-ends _ _ _ (at-string-end .ensures) _ (at-e .given .1) in omega (arith, t .1, t .2)
+add-start c = let at-string-end = c .before .before .before in
+    let t = string-ends _ _ _ (at-string-end .string-end .ensures) _ (c .before .e .given .1) in omega (arith, t .1, t .2)
 
 sub-s : tie.Need-sub-s
-sub-s c =
-    let at-e = c .before .e in
-    let at-string-end = c .before .before .before .string-end in
-    string-ends _ _ _ (at-string-end .ensures) _ (at-e .given .1) .1
+sub-s c = let at-string-end = c .before .before .before in
+    string-ends _ _ _ (at-string-end .string-end .ensures) _ (c .before .e .given .1) .1
 
 part-s-start : tie.Need-part-s-start
-part-s-start c =
-    let at-e = c .before .e in
-    let at-string-end = c .before .before .before .string-end in
-    string-ends _ _ _ (at-string-end .ensures) _ (at-e .given .1) .1
+part-s-start c = let at-string-end = c .before .before .before in
+    string-ends _ _ _ (at-string-end .string-end .ensures) _ (c .before .e .given .1) .1
 
 part-s-end : tie.Need-part-s-end
-part-s-end c =
-    let at-e = c .before .e in
-    let at-string-end = c .before .before .before .string-end in
-    string-ends _ _ _ (at-string-end .ensures) _ (at-e .given .1) .2
+part-s-end c = let at-string-end = c .before .before .before in
+    string-ends _ _ _ (at-string-end .string-end .ensures) _ (c .before .e .given .1) .2
 
 returns-2 : tie.Need-returns-2
-returns-2 c =
-    let at-if1 = c .if1 in
-    let at-e = c .before .before .before .e in
-    let at-string-end = c .before .before .before .before .before .string-end in
-    let at-start = c .before .before .before .before .before .before .before .before in
-    let t = string-ends _ _ _ (at-string-end .ensures) _ (at-e .given .1) in
-    stops (long-unshown _ _ _ (at-string-end .ensures) _ (at-e .given .1) (omega (arith, at-if1 .taken, part-length (at-start .args .f .now) _ _ (t .1) (t .2))))
-
-slice-write-out : tie.Need-slice-write-out
-slice-write-out c = search needs
-
-add-write-value : tie.Need-add-write-value
-add-write-value c = search needs
+returns-2 c = let at-e = c .before .before .before in let at-start = at-e .before .before .before .before .before in
+    let t = string-ends _ _ _ (at-e .before .before .string-end .ensures) _ (at-e .e .given .1) in
+    stops (long-unshown _ _ _ (at-e .before .before .string-end .ensures) _ (at-e .e .given .1)
+    (omega (arith, c .if1 .taken, part-length (at-start .args .f .now) _ _ (t .1) (t .2))))
 
 write-value-requires : tie.Need-write-value-requires
-write-value-requires c κs =
-    let at-if1 = c .before .if1 in
-    let at-e = c .before .before .before .before .e in
-    let at-string-end = c .before .before .before .before .before .before .string-end in
-    let at-start = c .before .before .before .before .before .before .before .before .before in
-    let t = string-ends _ _ _ (at-string-end .ensures) _ (at-e .given .1) in
-    value-fits (at-start .args .out .now) _ _ (at-start .pre) (omega (arith, at-if1 .left, part-length (at-start .args .f .now) _ _ (t .1) (t .2)))
+write-value-requires c κs = let at-e = c .before .before .before .before in
+    let at-start = at-e .before .before .before .before .before in
+    let t = string-ends _ _ _ (at-e .before .before .string-end .ensures) _ (at-e .e .given .1) in
+    value-fits (at-start .args .out .now) _ _ (at-start .pre) (omega (arith, c .before .if1 .left, part-length (at-start .args .f .now) _ _ (t .1) (t .2)))
 
 slice-write-out-2 : tie.Need-slice-write-out-2
-slice-write-out-2 c =
-    let at-write-value = c .before .before .write-value in
-    let at-if1 = c .before .before .before .before .if1 in
-    let at-e = c .before .before .before .before .before .before .before .e in
-    let at-string-end = c .before .before .before .before .before .before .before .before .before .string-end in
-    let at-start = c .before .before .before .before .before .before .before .before .before .before .before .before in
-    let t = string-ends _ _ _ (at-string-end .ensures) _ (at-e .given .1) in
-    close-room (at-start .args .out .now) _ _ (at-start .pre) (omega (arith, at-if1 .left, part-length (at-start .args .f .now) _ _ (t .1) (t .2))) _ _ (at-write-value .ensures) .0
+slice-write-out-2 c = let at-if1 = c .before .before .before .before in let at-e = at-if1 .before .before .before in
+    let at-start = at-e .before .before .before .before .before in
+    let t = string-ends _ _ _ (at-e .before .before .string-end .ensures) _ (at-e .e .given .1) in
+    close-room (at-start .args .out .now) _ _ (at-start .pre)
+    (omega (arith, at-if1 .if1 .left, part-length (at-start .args .f .now) _ _ (t .1) (t .2))) _ _ (c .before .before .write-value .ensures) .0
 
 add-t11 : tie.Need-add-t11
-add-t11 c =
-    let at-write-value = c .before .before .write-value in
-    let at-if1 = c .before .before .before .before .if1 in
-    let at-e = c .before .before .before .before .before .before .before .e in
-    let at-string-end = c .before .before .before .before .before .before .before .before .before .string-end in
-    let at-start = c .before .before .before .before .before .before .before .before .before .before .before .before in
-    let t = string-ends _ _ _ (at-string-end .ensures) _ (at-e .given .1) in
-    omega (arith, close-room (at-start .args .out .now) _ _ (at-start .pre) (omega (arith, at-if1 .left, part-length (at-start .args .f .now) _ _ (t .1) (t .2))) _ _ (at-write-value .ensures) .1)
+add-t11 c = let at-if1 = c .before .before .before .before in let at-e = at-if1 .before .before .before in
+    let at-start = at-e .before .before .before .before .before in
+    let t = string-ends _ _ _ (at-e .before .before .string-end .ensures) _ (at-e .e .given .1) in
+    omega (
+      arith,
+      close-room (at-start .args .out .now) _ _ (at-start .pre)
+          (omega (arith, at-if1 .if1 .left, part-length (at-start .args .f .now) _ _ (t .1) (t .2))) _ _ (c .before .before .write-value .ensures) .1,
+    )
 
 same-length : tie.Need-same-length
-same-length c =
-    let at-write-value = c .before .before .write-value in
-    let at-if1 = c .before .before .before .before .if1 in
-    let at-e = c .before .before .before .before .before .before .before .e in
-    let at-string-end = c .before .before .before .before .before .before .before .before .before .string-end in
-    let at-start = c .before .before .before .before .before .before .before .before .before .before .before .before in
-    let t = string-ends _ _ _ (at-string-end .ensures) _ (at-e .given .1) in
-    closed-long (at-start .args .out .now) _ _ (at-start .pre) (omega (arith, at-if1 .left, part-length (at-start .args .f .now) _ _ (t .1) (t .2))) _ _ (at-write-value .ensures)
+same-length c = let at-if1 = c .before .before .before .before in let at-e = at-if1 .before .before .before in
+    let at-start = at-e .before .before .before .before .before in
+    let t = string-ends _ _ _ (at-e .before .before .string-end .ensures) _ (at-e .e .given .1) in
+    closed-long (at-start .args .out .now) _ _ (at-start .pre)
+    (omega (arith, at-if1 .if1 .left, part-length (at-start .args .f .now) _ _ (t .1) (t .2))) _ _ (c .before .before .write-value .ensures)
 
 returns-3 : tie.Need-returns-3
-returns-3 c =
-    let at-write-value = c .before .before .write-value in
-    let at-if1 = c .before .before .before .before .if1 in
-    let at-e = c .before .before .before .before .before .before .before .e in
-    let at-string-end = c .before .before .before .before .before .before .before .before .before .string-end in
-    let at-start = c .before .before .before .before .before .before .before .before .before .before .before .before in
-    let t = string-ends _ _ _ (at-string-end .ensures) _ (at-e .given .1) in
-    string-puts (at-start .args .out .now) _ _ (at-start .pre) (omega (arith, at-if1 .left, part-length (at-start .args .f .now) _ _ (t .1) (t .2))) _ _ (at-write-value .ensures) _ _ _
-    (string-shown _ _ _ (at-string-end .ensures) _ (at-e .given .1) (omega (arith, at-if1 .left, part-length (at-start .args .f .now) _ _ (t .1) (t .2)))) (t .2)
+returns-3 c = let at-if1 = c .before .before .before .before in let at-e = at-if1 .before .before .before in
+    let at-start = at-e .before .before .before .before .before in
+    let t = string-ends _ _ _ (at-e .before .before .string-end .ensures) _ (at-e .e .given .1) in
+    string-puts (at-start .args .out .now) _ _ (at-start .pre)
+    (omega (arith, at-if1 .if1 .left, part-length (at-start .args .f .now) _ _ (t .1) (t .2))) _ _ (c .before .before .write-value .ensures) _ _ _
+    (string-shown _ _ _ (at-e .before .before .string-end .ensures) _ (at-e .e .given .1)
+    (omega (arith, at-if1 .if1 .left, part-length (at-start .args .f .now) _ _ (t .1) (t .2)))) (t .2)
 
 pub string-spec : {M : Type 1} → statement M
-string-spec =
-    tie.close
-    (tie.spec
-    string-end-requires
-    enum-known-e
-    enum-told
-    returns
-    add-start
-    sub-s
-    part-s-start
-    part-s-end
-    returns-2
-    slice-write-out
-    add-write-value
-    write-value-requires
-    slice-write-out-2
-    add-t11
-    same-length
-    returns-3)
+string-spec = tie.close (tie.spec (λ c κs. search needs) (λ c. search needs) (λ c. search needs) returns add-start sub-s
+    part-s-start part-s-end returns-2 (λ c. search needs) (λ c. search needs) write-value-requires slice-write-out-2
+    add-t11 same-length returns-3)

@@ -19,45 +19,26 @@ abbrev μ-loop : tie.MeasureT-loop
 loop-holds : tie.Need-loop-holds Inv-loop μ-loop
 loop-holds c = (search needs, search needs, λ e l g. g)
 
-shared-slice-read-if1 : tie.Need-shared-slice-read-if1 Inv-loop μ-loop
-shared-slice-read-if1 c = search needs
-
 returns : tie.Need-returns Inv-loop μ-loop
-returns c =
-    let at-if1 = c .if1 in
-    let at-loop-test = c .before .before .loop-test in
-    let at-loop = c .before .before .before .loop in
-    record { is = at-loop .inv .2 _ (omega arith) (cut-found _ _ _ (at-loop-test .taken) (at-if1 .taken)); low = at-loop .inv .1; high = at-loop .inv .0 }
-
-add-i : tie.Need-add-i Inv-loop μ-loop
-add-i c = search needs
-
-loop-less : tie.Need-loop-less Inv-loop μ-loop
-loop-less c = search needs
+returns c = let at-loop = c .before .before .before in
+    record {
+      is = at-loop .loop .inv .2 _ (omega arith) (cut-found _ _ _ (c .before .before .loop-test .taken)
+          (c .if1 .taken));
+      low = at-loop .loop .inv .1;
+      high = at-loop .loop .inv .0;
+    }
 
 loop-again : tie.Need-loop-again Inv-loop μ-loop
-loop-again c =
-    let at-if1 = c .if1 in
-    let at-loop-test = c .before .before .loop-test in
-    let at-loop = c .before .before .before .loop in
-    (omega arith, omega arith, λ e l g. at-loop .inv .2 e (omega arith) (cut-pass _ _ _ e (at-loop-test .taken) (omega arith) (at-if1 .left) g))
+loop-again c = let at-loop = c .before .before .before in (
+  omega arith,
+  omega arith,
+  λ e l g. at-loop .loop .inv .2 e (omega arith) (cut-pass _ _ _ e (c .before .before .loop-test .taken) (omega arith) (c .if1 .left) g),
+)
 
 returns-2 : tie.Need-returns-2 Inv-loop μ-loop
 returns-2 c =
-    let at-loop-test = c .loop-test in
-    let at-loop = c .before .loop in
-    record { is = at-loop .inv .2 _ (omega arith) (cut-over _ _ _ (at-loop-test .left)); low = at-loop .inv .1; high = at-loop .inv .0 }
+    record { is = c .before .loop .inv .2 _ (omega arith) (cut-over _ _ _ (c .loop-test .left)); low = c .before .loop .inv .1; high = c .before .loop .inv .0 }
 
 pub byte-from-spec : {M : Type 1} → statement M
-byte-from-spec =
-    tie.close
-    (tie.spec
-    Inv-loop
-    μ-loop
-    loop-holds
-    shared-slice-read-if1
-    returns
-    add-i
-    loop-less
-    loop-again
-    returns-2)
+byte-from-spec = tie.close (tie.spec Inv-loop μ-loop loop-holds (λ c. search needs) returns (λ c. search needs)
+    (λ c. search needs) loop-again returns-2)

@@ -5,18 +5,10 @@ use Rattle.rpc_request.proofs.headers.is_bad_headers.Statement.{stateme
 use Rattle.rpc_request.proofs.headers.is_bad_headers.Tie as tie
 
 returns : tie.Need-returns
-returns c =
-    let at-if1 = c .if1 in
-    bad-long _ (at-if1 .taken)
-
-are-lines-requires : tie.Need-are-lines-requires
-are-lines-requires c κs = search needs
+returns c = bad-long _ (c .if1 .taken)
 
 returns-2 : tie.Need-returns-2
-returns-2 c =
-    let at-are-lines = c .are-lines in
-    let at-if1 = c .before .if1 in
-    bad-lines _ _ (at-if1 .left) (at-are-lines .ensures)
+returns-2 c = bad-lines _ _ (c .before .if1 .left) (c .are-lines .ensures)
 
 pub is-bad-headers-spec : {M : Type 1} → statement M
-is-bad-headers-spec = tie.close (tie.spec returns are-lines-requires returns-2)
+is-bad-headers-spec = tie.close (tie.spec returns (λ c κs. search needs) returns-2)

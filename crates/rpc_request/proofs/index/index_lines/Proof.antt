@@ -17,133 +17,73 @@ abbrev μ-loop : tie.MeasureT-loop
 μ-loop h last₀ before₀ n i₀ last before i = length h - i
 
 loop-holds : tie.Need-loop-holds Inv-loop μ-loop
-loop-holds c =
-    let at-start = c .before .before .before in
-    indexing-start _ _ _ (at-start .pre)
-
-byte-from-requires : tie.Need-byte-from-requires Inv-loop μ-loop
-byte-from-requires c κs = search needs
-
-sub-line-bucket : tie.Need-sub-line-bucket Inv-loop μ-loop
-sub-line-bucket c = search needs
-
-part-line-bucket-start : tie.Need-part-line-bucket-start Inv-loop μ-loop
-part-line-bucket-start c = search needs
-
-part-line-bucket-end : tie.Need-part-line-bucket-end Inv-loop μ-loop
-part-line-bucket-end c = search needs
+loop-holds c = let at-start = c .before .before .before in indexing-start _ _ _ (at-start .pre)
 
 line-bucket-requires : tie.Need-line-bucket-requires Inv-loop μ-loop
-line-bucket-requires c κs =
-    let at-byte-from = c .before .byte-from in
-    let at-loop-test = c .before .before .loop-test in
-    let at-loop = c .before .before .before .loop in
-    indexing-line _ _ _ _ _ (at-loop-test .taken) (at-byte-from .ensures) (at-loop .inv)
+line-bucket-requires c κs = let at-loop = c .before .before .before in
+    indexing-line _ _ _ _ _ (c .before .before .loop-test .taken) (c .before .byte-from .ensures) (at-loop .loop .inv)
 
 mul-before : tie.Need-mul-before Inv-loop μ-loop
-mul-before c =
-    let at-line-bucket = c .line-bucket in
-    omega (arith, at-line-bucket .ensures .0)
+mul-before c = omega (arith, c .line-bucket .ensures .0)
 
 slice-read-before : tie.Need-slice-read-before Inv-loop μ-loop
-slice-read-before c =
-    let at-line-bucket = c .before .line-bucket in
-    let at-loop = c .before .before .before .before .before .loop in
-    omega (arith, at-line-bucket .ensures .0, at-loop .inv .buckets)
+slice-read-before c = let at-loop = c .before .before .before .before .before in
+    omega (arith, c .before .line-bucket .ensures .0, at-loop .loop .inv .buckets)
 
 mul-before-2 : tie.Need-mul-before-2 Inv-loop μ-loop
-mul-before-2 c =
-    let at-start = c .before .before .before .before .before .before .before .before .before in
+mul-before-2 c = let at-start = c .before .before .before .before .before .before .before .before .before in
     omega (arith, headers-short _ (at-start .pre .good))
 
 slice-write-before : tie.Need-slice-write-before Inv-loop μ-loop
-slice-write-before c =
-    let at-byte-from = c .before .before .before .byte-from in
-    let at-loop-test = c .before .before .before .before .loop-test in
-    let at-loop = c .before .before .before .before .before .loop in
-    let at-start = c .before .before .before .before .before .before .before .before .before in
-    third-place _ _ _ _ _ (at-loop-test .taken) (at-byte-from .ensures) (at-loop .inv) (headers-short _ (at-start .pre .good))
+slice-write-before c = let at-byte-from = c .before .before .before in
+    let at-start = at-byte-from .before .before .before .before .before .before in
+    third-place _ _ _ _ _ (at-byte-from .before .loop-test .taken) (at-byte-from .byte-from .ensures)
+    (at-byte-from .before .before .loop .inv) (headers-short _ (at-start .pre .good))
 
 cast-last : tie.Need-cast-last Inv-loop μ-loop
-cast-last c =
-    let at-start = c .before .before .before .before .before .before .before .before .before in
+cast-last c = let at-start = c .before .before .before .before .before .before .before .before .before in
     omega (arith, headers-short _ (at-start .pre .good))
 
 mul-last : tie.Need-mul-last Inv-loop μ-loop
-mul-last c =
-    let at-line-bucket = c .before .line-bucket in
-    omega (arith, at-line-bucket .ensures .0)
+mul-last c = omega (arith, c .before .line-bucket .ensures .0)
 
 slice-write-last : tie.Need-slice-write-last Inv-loop μ-loop
-slice-write-last c =
-    let at-line-bucket = c .before .line-bucket in
-    let at-loop = c .before .before .before .before .before .loop in
-    omega (arith, at-line-bucket .ensures .0, at-loop .inv .buckets)
+slice-write-last c = let at-loop = c .before .before .before .before .before in
+    omega (arith, c .before .line-bucket .ensures .0, at-loop .loop .inv .buckets)
 
 add-i : tie.Need-add-i Inv-loop μ-loop
-add-i c =
-    let at-byte-from = c .before .before .before .byte-from in
-    let at-loop-test = c .before .before .before .before .loop-test in
-    let at-loop = c .before .before .before .before .before .loop in
-    omega (arith, indexing-cut _ _ _ _ _ (at-loop-test .taken) (at-byte-from .ensures) (at-loop .inv))
+add-i c = let at-byte-from = c .before .before .before in
+    omega (arith, indexing-cut _ _ _ _ _ (at-byte-from .before .loop-test .taken) (at-byte-from .byte-from .ensures) (at-byte-from .before .before .loop .inv))
 
 loop-less : tie.Need-loop-less Inv-loop μ-loop
-loop-less c =
-    let at-byte-from = c .before .before .before .byte-from in
-    let at-loop-test = c .before .before .before .before .loop-test in
-    let at-loop = c .before .before .before .before .before .loop in
-    omega (arith, indexing-cut _ _ _ _ _ (at-loop-test .taken) (at-byte-from .ensures) (at-loop .inv), at-byte-from .ensures .low)
+loop-less c = let at-byte-from = c .before .before .before in
+    omega (
+      arith,
+      indexing-cut _ _ _ _ _ (at-byte-from .before .loop-test .taken) (at-byte-from .byte-from .ensures)
+          (at-byte-from .before .before .loop .inv),
+      at-byte-from .byte-from .ensures .low,
+    )
 
 loop-again : tie.Need-loop-again Inv-loop μ-loop
-loop-again c =
-    let at-line-bucket = c .before .line-bucket in
-    let at-byte-from = c .before .before .before .byte-from in
-    let at-loop-test = c .before .before .before .before .loop-test in
-    let at-loop = c .before .before .before .before .before .loop in
-    let at-start = c .before .before .before .before .before .before .before .before .before in
-    indexing-on _ _ _ _ _ (at-loop-test .taken) (at-byte-from .ensures) (at-loop .inv) _ (at-line-bucket .ensures .0) (at-line-bucket .ensures .1) (headers-short _ (at-start .pre .good))
+loop-again c = let at-byte-from = c .before .before .before in
+    let at-start = at-byte-from .before .before .before .before .before .before in
+    indexing-on _ _ _ _ _ (at-byte-from .before .loop-test .taken) (at-byte-from .byte-from .ensures)
+    (at-byte-from .before .before .loop .inv) _ (c .before .line-bucket .ensures .0)
+    (c .before .line-bucket .ensures .1) (headers-short _ (at-start .pre .good))
 
 same-length : tie.Need-same-length Inv-loop μ-loop
-same-length c =
-    let at-loop = c .before .loop in
-    let at-start = c .before .before .before .before .before in
-    at-loop .inv .buckets ∙ sym (at-start .pre .buckets)
+same-length c = let at-start = c .before .before .before .before .before in
+    c .before .loop .inv .buckets ∙ sym (at-start .pre .buckets)
 
 same-length-2 : tie.Need-same-length-2 Inv-loop μ-loop
-same-length-2 c =
-    let at-loop = c .before .loop in
-    let at-start = c .before .before .before .before .before in
-    at-loop .inv .places ∙ sym (at-start .pre .places)
+same-length-2 c = let at-start = c .before .before .before .before .before in
+    c .before .loop .inv .places ∙ sym (at-start .pre .places)
 
 returns : tie.Need-returns Inv-loop μ-loop
-returns c =
-    let at-loop-test = c .loop-test in
-    let at-loop = c .before .loop in
-    let at-start = c .before .before .before .before .before in
-    indexing-done _ _ _ _ (at-start .pre .good) (at-loop .inv) (at-loop-test .left)
+returns c = let at-start = c .before .before .before .before .before in
+    indexing-done _ _ _ _ (at-start .pre .good) (c .before .loop .inv) (c .loop-test .left)
 
 pub index-lines-spec : {M : Type 1} → statement M
-index-lines-spec =
-    tie.close
-    (tie.spec
-    Inv-loop
-    μ-loop
-    loop-holds
-    byte-from-requires
-    sub-line-bucket
-    part-line-bucket-start
-    part-line-bucket-end
-    line-bucket-requires
-    mul-before
-    slice-read-before
-    mul-before-2
-    slice-write-before
-    cast-last
-    mul-last
-    slice-write-last
-    add-i
-    loop-less
-    loop-again
-    same-length
-    same-length-2
-    returns)
+index-lines-spec = tie.close (tie.spec Inv-loop μ-loop loop-holds (λ c κs. search needs) (λ c. search needs)
+    (λ c. search needs) (λ c. search needs) line-bucket-requires mul-before slice-read-before mul-before-2
+    slice-write-before cast-last mul-last slice-write-last add-i loop-less loop-again same-length same-length-2 returns)

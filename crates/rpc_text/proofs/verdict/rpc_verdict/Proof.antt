@@ -6,64 +6,29 @@ use Rattle.rpc_text.proofs.Answers.{policy-refused, request-refused, re
 use Rattle.rpc_text.proofs.verdict.rpc_verdict.Statement.{statement}
 use Rattle.rpc_text.proofs.verdict.rpc_verdict.Tie as tie
 
-check-policy-requires : tie.Need-check-policy-requires
-check-policy-requires c κs = search needs
-
-enum-known-c : tie.Need-enum-known-c
-enum-known-c c = search needs
-
 returns : tie.Need-returns
-returns c =
-    let at-c = c .before .c in
-    let at-check-policy = c .before .before .before .check-policy in
-    policy-refused _ _ _ _ _ (sym (at-c .given .1) ∙ at-check-policy .ensures)
-
-enum-told : tie.Need-enum-told
-enum-told c = search needs
-
-request-fault-requires : tie.Need-request-fault-requires
-request-fault-requires c κs = search needs
+returns c = let at-check-policy = c .before .before .before in
+    policy-refused _ _ _ _ _ (sym (c .before .c .given .1) ∙ at-check-policy .check-policy .ensures)
 
 returns-2 : tie.Need-returns-2
-returns-2 c =
-    let at-if1 = c .if1 in
-    let at-request-fault = c .before .request-fault in
-    let at-enum-told = c .before .before .enum-told in
-    let at-check-policy = c .before .before .before .before .check-policy in
-    request-refused _ _ _ _ (accepted-clear _ (sym (at-enum-told .given .1) ∙ at-check-policy .ensures)) _ (at-request-fault .ensures) (at-if1 .taken)
-
-skip-white-requires : tie.Need-skip-white-requires
-skip-white-requires c κs = search needs
+returns-2 c = let at-check-policy = c .before .before .before .before in
+    request-refused _ _ _ _ (accepted-clear _ (sym (c .before .before .enum-told .given .1) ∙
+    at-check-policy .check-policy .ensures)) _ (c .before .request-fault .ensures) (c .if1 .taken)
 
 verdict-at-requires : tie.Need-verdict-at-requires
-verdict-at-requires c κs =
-    let at-skip-white = c .skip-white in
-    let at-if1 = c .before .if1 in
-    let at-request-fault = c .before .before .request-fault in
-    let at-enum-told = c .before .before .before .enum-told in
-    let at-check-policy = c .before .before .before .before .before .check-policy in
-    (policy-stands _ (accepted-clear _ (sym (at-enum-told .given .1) ∙ at-check-policy .ensures)) _ (at-skip-white .ensures .0), headers-good _ _ _ (sym (at-request-fault .ensures) ∙ at-if1 .left))
+verdict-at-requires c κs = let at-enum-told = c .before .before .before in (
+  policy-stands _ (accepted-clear _ (sym (at-enum-told .enum-told .given .1) ∙
+      at-enum-told .before .before .check-policy .ensures)) _ (c .skip-white .ensures .0),
+  headers-good _ _ _ (sym (c .before .before .request-fault .ensures) ∙ c .before .if1 .left),
+)
 
 returns-3 : tie.Need-returns-3
-returns-3 c =
-    let at-verdict-at = c .verdict-at in
-    let at-skip-white = c .before .skip-white in
-    let at-if1 = c .before .before .if1 in
-    let at-request-fault = c .before .before .before .request-fault in
-    let at-enum-told = c .before .before .before .before .enum-told in
-    let at-check-policy = c .before .before .before .before .before .before .check-policy in
-    request-judged _ _ _ _ (accepted-clear _ (sym (at-enum-told .given .1) ∙ at-check-policy .ensures)) _ (at-skip-white .ensures .0) (sym (at-request-fault .ensures) ∙ at-if1 .left) _ (at-verdict-at .ensures)
+returns-3 c = let at-request-fault = c .before .before .before in
+    let at-check-policy = at-request-fault .before .before .before in
+    request-judged _ _ _ _ (accepted-clear _ (sym (at-request-fault .before .enum-told .given .1) ∙
+    at-check-policy .check-policy .ensures)) _ (c .before .skip-white .ensures .0)
+    (sym (at-request-fault .request-fault .ensures) ∙ c .before .before .if1 .left) _ (c .verdict-at .ensures)
 
 pub rpc-verdict-spec : {M : Type 1} → statement M
-rpc-verdict-spec =
-    tie.close
-    (tie.spec
-    check-policy-requires
-    enum-known-c
-    returns
-    enum-told
-    request-fault-requires
-    returns-2
-    skip-white-requires
-    verdict-at-requires
-    returns-3)
+rpc-verdict-spec = tie.close (tie.spec (λ c κs. search needs) (λ c. search needs) returns (λ c. search needs)
+    (λ c κs. search needs) returns-2 (λ c κs. search needs) verdict-at-requires returns-3)

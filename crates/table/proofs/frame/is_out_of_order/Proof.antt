@@ -4,14 +4,10 @@ use Rattle.table.proofs.frame.is_out_of_order.Statement.{statement}
 use Rattle.table.proofs.frame.is_out_of_order.Tie as tie
 
 returns : tie.Need-returns
-returns c =
-    let at-if1 = c .if1 in
-    order-first _ _ (at-if1 .taken)
+returns c = order-first _ _ (c .if1 .taken)
 
 returns-2 : tie.Need-returns-2
-returns-2 c =
-    let at-if1 = c .if1 in
-    order-later _ _ (at-if1 .left)
+returns-2 c = order-later _ _ (c .if1 .left)
 
 pub is-out-of-order-spec : {M : Type 1} → statement M
 is-out-of-order-spec = tie.close (tie.spec returns returns-2)

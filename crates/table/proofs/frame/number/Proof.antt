@@ -7,53 +7,30 @@ use Rattle.table.proofs.frame.number.Tie as tie
 
 returns : tie.Need-returns
 unfolding merged if_then_else_
-returns c =
-    let at-if1 = c .if1 in
-    rw (at-if1 .taken)
+returns c = rw (c .if1 .taken)
 
 returns-2 : tie.Need-returns-2
 unfolding merged if_then_else_
-returns-2 c =
-    let at-if2 = c .if2 in
-    let at-if1 = c .before .if1 in
-    rw (at-if1 .left, at-if2 .taken)
+returns-2 c = rw (c .before .if1 .left, c .if2 .taken)
 
 returns-3 : tie.Need-returns-3
 unfolding merged if_then_else_
-returns-3 c =
-    let at-if3 = c .if3 in
-    let at-if2 = c .before .if2 in
-    let at-if1 = c .before .before .if1 in
-    rw (at-if1 .left, at-if2 .left, eq-eqb _ _ (at-if3 .taken))
+returns-3 c = rw (c .before .before .if1 .left, c .before .if2 .left, eq-eqb _ _ (c .if3 .taken))
 
 returns-4 : tie.Need-returns-4
 unfolding merged if_then_else_
-returns-4 c =
-    let at-if4 = c .if4 in
-    let at-if3 = c .before .if3 in
-    let at-if2 = c .before .before .if2 in
-    let at-if1 = c .before .before .before .if1 in
-    rw (at-if1 .left, at-if2 .left, ne-eqb _ _ (at-if3 .left), at-if4 .taken)
+returns-4 c = let at-if1 = c .before .before .before in
+    rw (at-if1 .if1 .left, c .before .before .if2 .left, ne-eqb _ _ (c .before .if3 .left), c .if4 .taken)
 
 returns-5 : tie.Need-returns-5
 unfolding merged if_then_else_
-returns-5 c =
-    let at-if5 = c .if5 in
-    let at-if4 = c .before .if4 in
-    let at-if3 = c .before .before .if3 in
-    let at-if2 = c .before .before .before .if2 in
-    let at-if1 = c .before .before .before .before .if1 in
-    rw (at-if1 .left, at-if2 .left, ne-eqb _ _ (at-if3 .left), at-if4 .left, at-if5 .taken)
+returns-5 c = let at-if2 = c .before .before .before in
+    rw (at-if2 .before .if1 .left, at-if2 .if2 .left, ne-eqb _ _ (c .before .before .if3 .left), c .before .if4 .left, c .if5 .taken)
 
 returns-6 : tie.Need-returns-6
 unfolding merged if_then_else_
-returns-6 c =
-    let at-if5 = c .if5 in
-    let at-if4 = c .before .if4 in
-    let at-if3 = c .before .before .if3 in
-    let at-if2 = c .before .before .before .if2 in
-    let at-if1 = c .before .before .before .before .if1 in
-    rw (at-if1 .left, at-if2 .left, ne-eqb _ _ (at-if3 .left), at-if4 .left, at-if5 .left)
+returns-6 c = let at-if2 = c .before .before .before in
+    rw (at-if2 .before .if1 .left, at-if2 .if2 .left, ne-eqb _ _ (c .before .before .if3 .left), c .before .if4 .left, c .if5 .left)
 
 pub number-spec : {M : Type 1} → statement M
 number-spec = tie.close (tie.spec returns returns-2 returns-3 returns-4 returns-5 returns-6)

@@ -15,60 +15,23 @@ abbrev μ-loop : tie.MeasureT-loop
 μ-loop s out₀ at i₀ out i = length s - i
 
 loop-holds : tie.Need-loop-holds Inv-loop μ-loop
-loop-holds c =
-    let at-start = c in
-    (search needs, copy-start _ _ _ (at-start .pre))
-
-shared-slice-read-out : tie.Need-shared-slice-read-out Inv-loop μ-loop
-shared-slice-read-out c = search needs
+loop-holds c = (search needs, copy-start _ _ _ (c .pre))
 
 add-out : tie.Need-add-out Inv-loop μ-loop
-add-out c =
-    let at-loop-test = c .before .loop-test in
-    let at-loop = c .before .before .loop in
-    omega (arith, copy-room _ _ _ _ _ (at-loop .inv .1) (at-loop-test .taken))
+add-out c = omega (arith, copy-room _ _ _ _ _ (c .before .before .loop .inv .1) (c .before .loop-test .taken))
 
 slice-write-out : tie.Need-slice-write-out Inv-loop μ-loop
-slice-write-out c =
-    let at-loop-test = c .before .loop-test in
-    let at-loop = c .before .before .loop in
-    copy-room _ _ _ _ _ (at-loop .inv .1) (at-loop-test .taken)
-
-add-i : tie.Need-add-i Inv-loop μ-loop
-add-i c = search needs
-
-loop-less : tie.Need-loop-less Inv-loop μ-loop
-loop-less c = search needs
+slice-write-out c = copy-room _ _ _ _ _ (c .before .before .loop .inv .1) (c .before .loop-test .taken)
 
 loop-again : tie.Need-loop-again Inv-loop μ-loop
-loop-again c =
-    let at-loop-test = c .before .loop-test in
-    let at-loop = c .before .before .loop in
-    (omega arith, copy-turn _ _ _ _ _ (at-loop .inv .1) (at-loop-test .taken))
+loop-again c = (omega arith, copy-turn _ _ _ _ _ (c .before .before .loop .inv .1) (c .before .loop-test .taken))
 
 same-length : tie.Need-same-length Inv-loop μ-loop
-same-length c =
-    let at-loop = c .before .loop in
-    at-loop .inv .1 .long
+same-length c = c .before .loop .inv .1 .long
 
 returns : tie.Need-returns Inv-loop μ-loop
-returns c =
-    let at-loop-test = c .loop-test in
-    let at-loop = c .before .loop in
-    copy-done _ _ _ _ _ (at-loop .inv .1) (at-loop-test .left)
+returns c = copy-done _ _ _ _ _ (c .before .loop .inv .1) (c .loop-test .left)
 
 pub copy-spec : {M : Type 1} → statement M
-copy-spec =
-    tie.close
-    (tie.spec
-    Inv-loop
-    μ-loop
-    loop-holds
-    shared-slice-read-out
-    add-out
-    slice-write-out
-    add-i
-    loop-less
-    loop-again
-    same-length
-    returns)
+copy-spec = tie.close (tie.spec Inv-loop μ-loop loop-holds (λ c. search needs) add-out slice-write-out
+    (λ c. search needs) (λ c. search needs) loop-again same-length returns)

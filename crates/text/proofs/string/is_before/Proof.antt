@@ -20,58 +20,19 @@ loop-holds : tie.Need-loop-holds Inv-loop μ-loop
 loop-holds c = (search needs, refl)
 
 returns : tie.Need-returns Inv-loop μ-loop
-returns c =
-    let at-if1 = c .if1 in
-    let at-loop-test = c .before .loop-test in
-    let at-loop = c .before .before .loop in
-    sym (at-loop .inv .1 ∙ before-short _ _ _ (at-loop-test .taken) (at-if1 .taken))
-
-shared-slice-read-x : tie.Need-shared-slice-read-x Inv-loop μ-loop
-shared-slice-read-x c = search needs
-
-shared-slice-read-y : tie.Need-shared-slice-read-y Inv-loop μ-loop
-shared-slice-read-y c = search needs
+returns c = sym (c .before .before .loop .inv .1 ∙ before-short _ _ _ (c .before .loop-test .taken) (c .if1 .taken))
 
 returns-2 : tie.Need-returns-2 Inv-loop μ-loop
-returns-2 c =
-    let at-if2 = c .if2 in
-    let at-if1 = c .before .before .before .if1 in
-    let at-loop-test = c .before .before .before .before .loop-test in
-    let at-loop = c .before .before .before .before .before .loop in
-    sym (at-loop .inv .1 ∙ before-differ _ _ _ (at-loop-test .taken) (at-if1 .left) (at-if2 .taken))
-
-add-i : tie.Need-add-i Inv-loop μ-loop
-add-i c = search needs
-
-loop-less : tie.Need-loop-less Inv-loop μ-loop
-loop-less c = search needs
+returns-2 c = let at-if1 = c .before .before .before in
+    sym (at-if1 .before .before .loop .inv .1 ∙ before-differ _ _ _ (at-if1 .before .loop-test .taken) (at-if1 .if1 .left) (c .if2 .taken))
 
 loop-again : tie.Need-loop-again Inv-loop μ-loop
-loop-again c =
-    let at-if2 = c .if2 in
-    let at-if1 = c .before .before .before .if1 in
-    let at-loop-test = c .before .before .before .before .loop-test in
-    let at-loop = c .before .before .before .before .before .loop in
-    (omega arith, at-loop .inv .1 ∙ before-pass _ _ _ (at-loop-test .taken) (at-if1 .left) (at-if2 .left))
+loop-again c = let at-if1 = c .before .before .before in
+    (omega arith, at-if1 .before .before .loop .inv .1 ∙ before-pass _ _ _ (at-if1 .before .loop-test .taken) (at-if1 .if1 .left) (c .if2 .left))
 
 returns-3 : tie.Need-returns-3 Inv-loop μ-loop
-returns-3 c =
-    let at-loop-test = c .loop-test in
-    let at-loop = c .before .loop in
-    sym (at-loop .inv .1 ∙ before-end _ _ _ (at-loop-test .left))
+returns-3 c = sym (c .before .loop .inv .1 ∙ before-end _ _ _ (c .loop-test .left))
 
 pub is-before-spec : {M : Type 1} → statement M
-is-before-spec =
-    tie.close
-    (tie.spec
-    Inv-loop
-    μ-loop
-    loop-holds
-    returns
-    shared-slice-read-x
-    shared-slice-read-y
-    returns-2
-    add-i
-    loop-less
-    loop-again
-    returns-3)
+is-before-spec = tie.close (tie.spec Inv-loop μ-loop loop-holds returns (λ c. search needs) (λ c. search needs)
+    returns-2 (λ c. search needs) (λ c. search needs) loop-again returns-3)

@@ -17,59 +17,29 @@ abbrev μ-loop : tie.MeasureT-loop
 μ-loop a b n i₀ i = n - i
 
 returns : tie.Need-returns Inv-loop μ-loop
-returns c =
-    let at-if1 = c .if1 in
-    sym (same-lengths _ _ (at-if1 .taken))
+returns c = sym (same-lengths _ _ (c .if1 .taken))
 
 loop-holds : tie.Need-loop-holds Inv-loop μ-loop
-loop-holds c =
-    let at-if1 = c .if1 in
-    (refl, at-if1 .left, search needs, refl)
-
-shared-slice-read-if2 : tie.Need-shared-slice-read-if2 Inv-loop μ-loop
-shared-slice-read-if2 c = search needs
-
-shared-slice-read-if2-2 : tie.Need-shared-slice-read-if2-2 Inv-loop μ-loop
-shared-slice-read-if2-2 c = search needs
+loop-holds c = (refl, c .if1 .left, search needs, refl)
 
 returns-2 : tie.Need-returns-2 Inv-loop μ-loop
-returns-2 c =
-    let at-if2 = c .if2 in
-    let at-loop = c .before .before .before .before .loop in
-    let at-start = c .before .before .before .before .before .before in
-    sym (at-loop .inv .3 ∙ same-differ (at-start .args .a .now) (at-start .args .b .now) (at-loop .i) (omega arith) (omega arith) (at-if2 .taken))
-
-add-i : tie.Need-add-i Inv-loop μ-loop
-add-i c = search needs
-
-loop-less : tie.Need-loop-less Inv-loop μ-loop
-loop-less c = search needs
+returns-2 c = let at-loop = c .before .before .before .before in
+    sym (at-loop .loop .inv .3 ∙ same-differ (at-loop .before .before .args .a .now)
+    (at-loop .before .before .args .b .now) (at-loop .loop .i) (omega arith) (omega arith) (c .if2 .taken))
 
 loop-again : tie.Need-loop-again Inv-loop μ-loop
-loop-again c =
-    let at-if2 = c .if2 in
-    let at-loop = c .before .before .before .before .loop in
-    let at-start = c .before .before .before .before .before .before in
-    (at-loop .inv .0, at-loop .inv .1, omega arith, at-loop .inv .3 ∙ same-pass (at-start .args .a .now) (at-start .args .b .now) (at-loop .i) (omega arith) (omega arith) (at-if2 .left))
+loop-again c = let at-loop = c .before .before .before .before in (
+  at-loop .loop .inv .0,
+  at-loop .loop .inv .1,
+  omega arith,
+  at-loop .loop .inv .3 ∙ same-pass (at-loop .before .before .args .a .now)
+      (at-loop .before .before .args .b .now) (at-loop .loop .i) (omega arith) (omega arith) (c .if2 .left),
+)
 
 returns-3 : tie.Need-returns-3 Inv-loop μ-loop
-returns-3 c =
-    let at-loop = c .before .loop in
-    let at-start = c .before .before .before in
-    sym (at-loop .inv .3 ∙ same-end (at-start .args .a .now) (at-start .args .b .now) (at-loop .i) (omega arith) (omega arith))
+returns-3 c = let at-start = c .before .before .before in
+    sym (c .before .loop .inv .3 ∙ same-end (at-start .args .a .now) (at-start .args .b .now) (c .before .loop .i) (omega arith) (omega arith))
 
 pub is-same-spec : {M : Type 1} → statement M
-is-same-spec =
-    tie.close
-    (tie.spec
-    Inv-loop
-    μ-loop
-    returns
-    loop-holds
-    shared-slice-read-if2
-    shared-slice-read-if2-2
-    returns-2
-    add-i
-    loop-less
-    loop-again
-    returns-3)
+is-same-spec = tie.close (tie.spec Inv-loop μ-loop returns loop-holds (λ c. search needs) (λ c. search needs) returns-2
+    (λ c. search needs) (λ c. search needs) loop-again returns-3)

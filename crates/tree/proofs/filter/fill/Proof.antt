@@ -21,76 +21,34 @@ abbrev μ-loop : tie.MeasureT-loop
 loop-holds : tie.Need-loop-holds Inv-loop μ-loop
 loop-holds c = (zero-le, refl, λ i z. absurd (omega arith))
 
-mul-a : tie.Need-mul-a Inv-loop μ-loop
-mul-a c = search needs
-
-shared-slice-read-a : tie.Need-shared-slice-read-a Inv-loop μ-loop
-shared-slice-read-a c = search needs
-
 cast-a : tie.Need-cast-a Inv-loop μ-loop
-cast-a c =
-    let at-loop = c .before .before .loop in
-    let at-shared-slice-known3 = c .before .before .before .before .before .shared-slice-known3 in
-    omega (arith, at-shared-slice-known3 .given (at-loop .i))
-
-mul-filter-at : tie.Need-mul-filter-at Inv-loop μ-loop
-mul-filter-at c = search needs
-
-shared-slice-read-filter-at : tie.Need-shared-slice-read-filter-at Inv-loop μ-loop
-shared-slice-read-filter-at c = search needs
+cast-a c = let at-shared-slice-known3 = c .before .before .before .before .before in
+    omega (arith, at-shared-slice-known3 .shared-slice-known3 .given (c .before .before .loop .i))
 
 filter-at-requires : tie.Need-filter-at-requires Inv-loop μ-loop
-filter-at-requires c κs =
-    let at-loop-test = c .before .before .loop-test in
-    let at-start = c .before .before .before .before .before .before .before .before .before in
-    (at-start .pre .seed, at-start .pre .laid _ (at-loop-test .taken), at-start .pre .asked)
+filter-at-requires c κs = let at-start = c .before .before .before .before .before .before .before .before .before in
+    (at-start .pre .seed, at-start .pre .laid _ (c .before .before .loop-test .taken), at-start .pre .asked)
 
 store-requires : tie.Need-store-requires Inv-loop μ-loop
 store-requires c κs = omega arith
 
-add-i : tie.Need-add-i Inv-loop μ-loop
-add-i c = search needs
-
-loop-less : tie.Need-loop-less Inv-loop μ-loop
-loop-less c = search needs
-
 loop-again : tie.Need-loop-again Inv-loop μ-loop
-loop-again c =
-    let at-store = c .before .before .store in
-    let at-filter-at = c .before .before .before .before .filter-at in
-    let at-loop = c .before .before .before .before .before .before .before .before .loop in
-    let at-start = c .before .before .before .before .before .before .before .before .before .before .before .before .before .before in
+loop-again c = let at-filter-at = c .before .before .before .before in
+    let at-loop = at-filter-at .before .before .before .before in
+    let at-start = at-loop .before .before .before .before .before .before in
     let p = elemsIn (at-start .args .k) (at-start .args .g .now) (at-start .args .p) in
-    let Q : ℕ → Filter → Type 0 = λ j x. Fits (getD (at-start .args .weights .now) j 0) → x ≡ beyond (at-start .args .s) 0 (pathIn (at-start .args .f .now) (getD (at-start .args .paths .now) j 0)) p in (
+    let Q : ℕ → Filter → Type 0 = λ j x. Fits (getD (at-start .args .weights .now) j 0) → x ≡ beyond (at-start .args .s)
+    0 (pathIn (at-start .args .f .now) (getD (at-start .args .paths .now) j 0)) p in (
       omega arith,
-      at-store .ensures .long ∙ at-loop .inv .1,
-      stored-by filterOf Q (at-loop .filters) _ (at-loop .i) (at-filter-at .result) (at-store .ensures .same) (at-store .ensures .others) (at-loop .inv .2) (at-filter-at .ensures),
+      c .before .before .store .ensures .long ∙ at-loop .loop .inv .1,
+      stored-by filterOf Q (at-loop .loop .filters) _ (at-loop .loop .i) (at-filter-at .filter-at .result)
+          (c .before .before .store .ensures .same) (c .before .before .store .ensures .others) (at-loop .loop .inv .2) (at-filter-at .filter-at .ensures),
     )
 
-same-length : tie.Need-same-length Inv-loop μ-loop
-same-length c = search needs
-
 returns : tie.Need-returns Inv-loop μ-loop
-returns c =
-    let at-loop = c .before .loop in
-    (at-loop .inv .1, λ i l. at-loop .inv .2 i (omega arith))
+returns c = (c .before .loop .inv .1, λ i l. c .before .loop .inv .2 i (omega arith))
 
 pub fill-spec : {M : Type 1} → statement M
-fill-spec =
-    tie.close
-    (tie.spec
-    Inv-loop
-    μ-loop
-    loop-holds
-    mul-a
-    shared-slice-read-a
-    cast-a
-    mul-filter-at
-    shared-slice-read-filter-at
-    filter-at-requires
-    store-requires
-    add-i
-    loop-less
-    loop-again
-    same-length
-    returns)
+fill-spec = tie.close (tie.spec Inv-loop μ-loop loop-holds (λ c. search needs) (λ c. search needs) cast-a
+    (λ c. search needs) (λ c. search needs) filter-at-requires store-requires (λ c. search needs) (λ c. search needs)
+    loop-again (λ c. search needs) returns)

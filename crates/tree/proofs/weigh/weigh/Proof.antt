@@ -50,23 +50,15 @@ shared-slice-read-s : tie.Need-shared-slice-read-s Inv-loop μ-loop
 shared-slice-read-s c = omega arith
 
 cast-s : tie.Need-cast-s Inv-loop μ-loop
-cast-s c =
-    let at-shared-slice-known5 = c .shared-slice-known5 in
-    let at-loop = c .before .before .loop in
-    omega (arith, at-shared-slice-known5 .given (at-loop .i))
+cast-s c = omega (arith, c .shared-slice-known5 .given (c .before .before .loop .i))
 
 path-at-requires : tie.Need-path-at-requires Inv-loop μ-loop
-path-at-requires c κs =
-    let at-loop-test = c .before .loop-test in
-    let at-start = c .before .before .before .before .before .before .before .before .before in
-    at-start .pre .0 .rules .laid _ (at-loop-test .taken)
+path-at-requires c κs = let at-start = c .before .before .before .before .before .before .before .before .before in
+    at-start .pre .0 .rules .laid _ (c .before .loop-test .taken)
 
 cast-paths : tie.Need-cast-paths Inv-loop μ-loop
-cast-paths c =
-    let at-path-at = c .path-at in
-    let at-loop-test = c .before .before .loop-test in
-    let at-start = c .before .before .before .before .before .before .before .before .before .before in
-    let e = rule-room _ _ (at-start .pre .0 .rules .laid _ (at-loop-test .taken)) in rw (at-path-at .ensures) (omega arith)
+cast-paths c = let at-start = c .before .before .before .before .before .before .before .before .before .before in
+    let e = rule-room _ _ (at-start .pre .0 .rules .laid _ (c .before .before .loop-test .taken)) in rw (c .path-at .ensures) (omega arith)
 
 mul-paths : tie.Need-mul-paths Inv-loop μ-loop
 mul-paths c = omega arith
@@ -78,21 +70,15 @@ shared-slice-read-weight-at : tie.Need-shared-slice-read-weight-at Inv-loop μ-l
 shared-slice-read-weight-at c = omega arith
 
 weight-at-requires : tie.Need-weight-at-requires Inv-loop μ-loop
-weight-at-requires c κs =
-    let at-path-at = c .before .path-at in
-    let at-loop-test = c .before .before .before .loop-test in
-    let at-start = c .before .before .before .before .before .before .before .before .before .before .before in
-    (at-start .pre .0 .rules .laid _ (at-loop-test .taken), at-path-at .ensures, at-start .pre .0 .path, at-start .pre .0 .rules .short)
+weight-at-requires c κs = let at-loop-test = c .before .before .before in
+    let at-start = at-loop-test .before .before .before .before .before .before .before .before in
+    (at-start .pre .0 .rules .laid _ (at-loop-test .loop-test .taken), c .before .path-at .ensures, at-start .pre .0 .path, at-start .pre .0 .rules .short)
 
 mul-weights : tie.Need-mul-weights Inv-loop μ-loop
-mul-weights c =
-    let at-weight-at = c .weight-at in
-    let e = at-weight-at .ensures .light in omega arith
+mul-weights c = let e = c .weight-at .ensures .light in omega arith
 
 add-weights : tie.Need-add-weights Inv-loop μ-loop
-add-weights c =
-    let at-weight-at = c .weight-at in
-    let e = at-weight-at .ensures .light in omega arith
+add-weights c = let e = c .weight-at .ensures .light in omega arith
 
 mul-weights-2 : tie.Need-mul-weights-2 Inv-loop μ-loop
 mul-weights-2 c = omega arith
@@ -107,37 +93,30 @@ loop-less : tie.Need-loop-less Inv-loop μ-loop
 loop-less c = omega arith
 
 loop-again : tie.Need-loop-again Inv-loop μ-loop
-loop-again c =
-    let at-weight-at = c .weight-at in
-    let at-path-at = c .before .before .path-at in
-    let at-loop-test = c .before .before .before .before .loop-test in
-    let at-loop = c .before .before .before .before .before .loop in
-    let at-start = c .before .before .before .before .before .before .before .before .before .before .before .before in
+loop-again c = let at-loop-test = c .before .before .before .before in let at-loop = at-loop-test .before in
+    let at-start = at-loop .before .before .before .before .before .before .before in
     let f = at-start .args .f .now in
     let start : ℕ → ℕ = λ j. getD (at-start .args .starts .now) j 0 in
     let p = elemsIn (at-start .args .k) (at-start .args .g .now) (at-start .args .p) in
-    let i = at-loop .i in
-    let x = at-weight-at .result * maxRules + i in
-    let inv = at-loop .inv in
+    let i = at-loop .loop .i in
+    let x = c .weight-at .result * maxRules + i in
+    let inv = at-loop .loop .inv in
     record {
       inside = omega arith;
-      long = length-set (at-loop .weights) i _ ∙ inv .long;
-      paths-long = length-set (at-loop .paths) i _ ∙ inv .paths-long;
-      paths-are = stored (λ (j v : ℕ). v ≡ pathAt f (start j)) (at-loop .paths) i (at-path-at .result) (omega arith) (inv .paths-are) (at-path-at .ensures);
-      packed = stored (λ (j v : ℕ). Packed v j) (at-loop .weights) i x (omega arith) (inv .packed) (pack _ _ (at-weight-at .ensures .light) (omega arith));
-      weights-are = λ app h. stored (λ (j v : ℕ). v ≡ weight (fitting app p) (ruleIn f (start j)) * maxRules + j) (at-loop .weights) i x (omega arith) (inv .weights-are app h) (ap (λ (y : ℕ). y * maxRules + i) (at-weight-at .ensures .weighs app (h _ (at-loop-test .taken))));
+      long = length-set (at-loop .loop .weights) i _ ∙ inv .long;
+      paths-long = length-set (at-loop .loop .paths) i _ ∙ inv .paths-long;
+      paths-are = stored (λ (j v : ℕ). v ≡ pathAt f (start j)) (at-loop .loop .paths) i
+          (c .before .before .path-at .result) (omega arith) (inv .paths-are) (c .before .before .path-at .ensures);
+      packed = stored (λ (j v : ℕ). Packed v j) (at-loop .loop .weights) i x (omega arith) (inv .packed)
+          (pack _ _ (c .weight-at .ensures .light) (omega arith));
+      weights-are = λ app h. stored (λ (j v : ℕ). v ≡ weight (fitting app p) (ruleIn f (start j)) * maxRules + j)
+          (at-loop .loop .weights) i x (omega arith) (inv .weights-are app h)
+          (ap (λ (y : ℕ). y * maxRules + i) (c .weight-at .ensures .weighs app (h _ (at-loop-test .loop-test .taken))));
     }
-
-same-length : tie.Need-same-length Inv-loop μ-loop
-same-length c = search needs
-
-same-length-2 : tie.Need-same-length-2 Inv-loop μ-loop
-same-length-2 c = search needs
 
 returns : tie.Need-returns Inv-loop μ-loop
 returns c =
-    let at-loop = c .before .loop in
-    let inv = at-loop .inv in
+    let inv = c .before .loop .inv in
     record {
       weighed = record {
         each-weight = omega arith;
@@ -149,28 +128,6 @@ returns c =
     }
 
 pub weigh-spec : {M : Type 1} → statement M
-weigh-spec =
-    tie.close
-    (tie.spec
-    Inv-loop
-    μ-loop
-    loop-holds
-    mul-s
-    shared-slice-read-s
-    cast-s
-    path-at-requires
-    cast-paths
-    mul-paths
-    slice-write-paths
-    shared-slice-read-weight-at
-    weight-at-requires
-    mul-weights
-    add-weights
-    mul-weights-2
-    slice-write-weights
-    add-i
-    loop-less
-    loop-again
-    same-length
-    same-length-2
-    returns)
+weigh-spec = tie.close (tie.spec Inv-loop μ-loop loop-holds mul-s shared-slice-read-s cast-s path-at-requires cast-paths
+    mul-paths slice-write-paths shared-slice-read-weight-at weight-at-requires mul-weights add-weights mul-weights-2
+    slice-write-weights add-i loop-less loop-again (λ c. search needs) (λ c. search needs) returns)

@@ -34,12 +34,12 @@ abbrev μ-loop : tie.MeasureT-loop
 μ-loop f starts weights paths next filters n first v g p k b₀ i₀ b i = n - i
 
 loop-holds : tie.Need-loop-holds Inv-loop μ-loop
-loop-holds c =
-    let at-start = c .before .before .before .before .before .before .before in
+loop-holds c = let at-start = c .before .before .before .before .before .before .before in
     let f = at-start .args .f .now in
     let starts = at-start .args .starts .now in
     let n = at-start .args .n in
-    let against : (Rule → Bool) → Rule → Bool = λ test. opposing test (rulesIn f starts n 0) (elemsIn (at-start .args .k) (at-start .args .g .now) (at-start .args .p)) (at-start .args .v) in
+    let against : (Rule → Bool) → Rule → Bool = λ test. opposing test (rulesIn f starts n 0)
+    (elemsIn (at-start .args .k) (at-start .args .g .now) (at-start .args .p)) (at-start .args .v) in
     record {
       inside = zero-le;
       sound = λ z. clash (eq-eqb 0 0 refl) z;
@@ -48,11 +48,8 @@ loop-holds c =
     }
 
 oppose-requires : tie.Need-oppose-requires Inv-loop μ-loop
-oppose-requires c κs =
-    let at-loop-test = c .loop-test in
-    let at-loop = c .before .loop in
-    let at-start = c .before .before .before .before .before .before .before .before .before in
-    (at-loop-test .taken, at-loop .inv .sound, at-start .pre)
+oppose-requires c κs = let at-start = c .before .before .before .before .before .before .before .before .before in
+    (c .loop-test .taken, c .before .loop .inv .sound, at-start .pre)
 
 add-i : tie.Need-add-i Inv-loop μ-loop
 add-i c = omega arith
@@ -61,38 +58,34 @@ loop-less : tie.Need-loop-less Inv-loop μ-loop
 loop-less c = omega arith
 
 loop-again : tie.Need-loop-again Inv-loop μ-loop
-loop-again c =
-    let at-oppose = c .oppose in
-    let at-loop-test = c .before .loop-test in
-    let at-loop = c .before .before .loop in
-    let at-start = c .before .before .before .before .before .before .before .before .before .before in
+loop-again c = let at-loop = c .before .before in
+    let at-start = at-loop .before .before .before .before .before .before .before .before in
     let f = at-start .args .f .now in
     let starts = at-start .args .starts .now in
     let n = at-start .args .n in
-    let against : (Rule → Bool) → Rule → Bool = λ test. opposing test (rulesIn f starts n 0) (elemsIn (at-start .args .k) (at-start .args .g .now) (at-start .args .p)) (at-start .args .v) in
+    let against : (Rule → Bool) → Rule → Bool = λ test. opposing test (rulesIn f starts n 0)
+    (elemsIn (at-start .args .k) (at-start .args .g .now) (at-start .args .p)) (at-start .args .v) in
     record {
       inside = omega arith;
-      sound = at-oppose .ensures .sound;
-      numbered = at-oppose .ensures .numbered (at-loop .inv .numbered);
-      best = λ test h. best-turn earlier earlier-order (against test) f starts n _ (at-loop .b) _ (at-loop .i) (at-loop-test .taken) (at-oppose .ensures .best test h) (at-loop .inv .best test h);
+      sound = c .oppose .ensures .sound;
+      numbered = c .oppose .ensures .numbered (at-loop .loop .inv .numbered);
+      best = λ test h. best-turn earlier earlier-order (against test) f starts n _ (at-loop .loop .b) _
+          (at-loop .loop .i) (c .before .loop-test .taken) (c .oppose .ensures .best test h) (at-loop .loop .inv .best test h);
     }
 
 returns : tie.Need-returns Inv-loop μ-loop
-returns c =
-    let at-loop-test = c .loop-test in
-    let at-loop = c .before .loop in
-    let at-start = c .before .before .before .before .before .before .before .before .before in
+returns c = let at-start = c .before .before .before .before .before .before .before .before .before in
     let f = at-start .args .f .now in
     let starts = at-start .args .starts .now in
     let n = at-start .args .n in
-    let against : (Rule → Bool) → Rule → Bool = λ test. opposing test (rulesIn f starts n 0) (elemsIn (at-start .args .k) (at-start .args .g .now) (at-start .args .p)) (at-start .args .v) in
+    let against : (Rule → Bool) → Rule → Bool = λ test. opposing test (rulesIn f starts n 0)
+    (elemsIn (at-start .args .k) (at-start .args .g .now) (at-start .args .p)) (at-start .args .v) in
     record {
-      sound = at-loop .inv .sound;
-      numbered = at-loop .inv .numbered;
-      best = λ test h. best-end earlier earlier-order (against test) f starts n _ (at-loop .b) (at-loop .i) (at-loop-test .left) (at-loop .inv .best test h);
+      sound = c .before .loop .inv .sound;
+      numbered = c .before .loop .inv .numbered;
+      best = λ test h. best-end earlier earlier-order (against test) f starts n _ (c .before .loop .b)
+          (c .before .loop .i) (c .loop-test .left) (c .before .loop .inv .best test h);
     }
 
 pub search-spec : {M : Type 1} → statement M
-search-spec =
-    tie.close
-    (tie.spec Inv-loop μ-loop loop-holds oppose-requires add-i loop-less loop-again returns)
+search-spec = tie.close (tie.spec Inv-loop μ-loop loop-holds oppose-requires add-i loop-less loop-again returns)

@@ -3,14 +3,10 @@ use Rattle.tree.proofs.witness.unlike.Statement.{statement}
 use Rattle.tree.proofs.witness.unlike.Tie as tie
 
 returns : tie.Need-returns
-returns c =
-    let at-if1 = c .if1 in
-    rw (at-if1 .taken) (xor-true _)
+returns c = rw (c .if1 .taken) (xor-true _)
 
 returns-2 : tie.Need-returns-2
-returns-2 c =
-    let at-if1 = c .if1 in
-    rw (at-if1 .left) (xor-false _)
+returns-2 c = rw (c .if1 .left) (xor-false _)
 
 pub unlike-spec : {M : Type 1} → statement M
 unlike-spec = tie.close (tie.spec returns returns-2)

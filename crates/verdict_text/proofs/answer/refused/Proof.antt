@@ -5,15 +5,11 @@ use Rattle.verdict_text.proofs.answer.refused.Tie as tie
 
 returns : tie.Need-returns
 unfolding refusedAs
-returns c =
-    let at-if1 = c .if1 in
-    tree-one _ _ _ (at-if1 .taken)
+returns c = tree-one _ _ _ (c .if1 .taken)
 
 returns-2 : tie.Need-returns-2
 unfolding refusedAs
-returns-2 c =
-    let at-if1 = c .if1 in
-    path-one _ _ _ (at-if1 .left)
+returns-2 c = path-one _ _ _ (c .if1 .left)
 
 pub refused-spec : {M : Type 1} → statement M
 refused-spec = tie.close (tie.spec returns returns-2)

@@ -4,18 +4,10 @@ use Rattle.verdict_text.proofs.request.is_bad_user.Statement.{statement
 use Rattle.verdict_text.proofs.request.is_bad_user.Tie as tie
 
 returns : tie.Need-returns
-returns c =
-    let at-if1 = c .if1 in
-    user-unsized _ (at-if1 .taken)
-
-all-print-requires : tie.Need-all-print-requires
-all-print-requires c κs = search needs
+returns c = user-unsized _ (c .if1 .taken)
 
 returns-2 : tie.Need-returns-2
-returns-2 c =
-    let at-all-print = c .all-print in
-    let at-if1 = c .before .if1 in
-    user-sized _ (at-if1 .left) _ (at-all-print .ensures)
+returns-2 c = user-sized _ (c .before .if1 .left) _ (c .all-print .ensures)
 
 pub is-bad-user-spec : {M : Type 1} → statement M
-is-bad-user-spec = tie.close (tie.spec returns all-print-requires returns-2)
+is-bad-user-spec = tie.close (tie.spec returns (λ c κs. search needs) returns-2)

@@ -8,12 +8,8 @@ use Rattle.verdicts.proofs.Found.{found}
 use Rattle.verdicts.proofs.loaded.path_answer.Statement.{statement}
 use Rattle.verdicts.proofs.loaded.path_answer.Tie as tie
 
-slice-aggregate-mark : tie.Need-slice-aggregate-mark
-slice-aggregate-mark c = search needs
-
 mark-requires : tie.Need-mark-requires
-mark-requires c κs =
-    let at-start = c .before .before .before .before .before .before .before in
+mark-requires c κs = let at-start = c .before .before .before .before .before .before .before in
     let few = at-start .pre .0 .few in (at-start .pre .0, omega arith)
 
 shared-slice-read-k : tie.Need-shared-slice-read-k
@@ -22,12 +18,7 @@ shared-slice-read-k c =
     path-room (at-start .args .g .now) 0 (at-start .pre .1)
 
 cast-k : tie.Need-cast-k
-cast-k c =
-    let at-shared-slice-known7 = c .shared-slice-known7 in
-    omega (arith, at-shared-slice-known7 .given 0)
-
-slice-aggregate-decide : tie.Need-slice-aggregate-decide
-slice-aggregate-decide c = search needs
+cast-k c = omega (arith, c .shared-slice-known7 .given 0)
 
 decide-requires : tie.Need-decide-requires
 decide-requires c κs =
@@ -36,29 +27,18 @@ decide-requires c κs =
 
 decided-requires : tie.Need-decided-requires
 decided-requires c κs =
-    let at-decide = c .decide in
     let at-start = c .before .before .before .before .before .before .before .before .before .before .before .before in
-    let few = at-start .pre .0 .few in ((λ e. at-decide .ensures .ranked e .0), λ e. let l = at-decide .ensures .numbered e in omega arith)
+    let few = at-start .pre .0 .few in ((λ e. c .decide .ensures .ranked e .0), λ e. let l = c .decide .ensures .numbered e in omega arith)
 
 returns : tie.Need-returns
-returns c =
-    let at-decided = c .decided in
-    let at-decide = c .before .decide in
-    let at-mark = c .before .before .before .before .before .mark in
-    let at-start = c .before .before .before .before .before .before .before .before .before .before .before .before .before in
+returns c = let at-mark = c .before .before .before .before .before in
+    let at-start = at-mark .before .before .before .before .before .before .before .before in
     let a = at-start .args in
-    let on = at-mark .last .1 .1 .1 .1 .1 .1 .1 .1 .0 in
-    λ t holding groups. at-decided .ensures ∙ ap decidedBy (found t (a .f .now) (a .starts .now) (a .holders .now) (a .n) holding (a .user .now) (a .set) groups (a .mode) (a .origin .now) (pathIn (a .g .now) 0) on (at-mark .ensures .1) (at-decide .result) (at-decide .ensures .best))
+    let on = at-mark .mark .last .1 .1 .1 .1 .1 .1 .1 .1 .0 in
+    λ t holding groups. c .decided .ensures ∙ ap decidedBy (found t (a .f .now) (a .starts .now) (a .holders .now)
+    (a .n) holding (a .user .now) (a .set) groups (a .mode) (a .origin .now) (pathIn (a .g .now) 0) on
+    (at-mark .mark .ensures .1) (c .before .decide .result) (c .before .decide .ensures .best))
 
 pub path-answer-spec : {M : Type 1} → statement M
-path-answer-spec =
-    tie.close
-    (tie.spec
-    slice-aggregate-mark
-    mark-requires
-    shared-slice-read-k
-    cast-k
-    slice-aggregate-decide
-    decide-requires
-    decided-requires
-    returns)
+path-answer-spec = tie.close (tie.spec (λ c. search needs) mark-requires shared-slice-read-k cast-k (λ c. search needs)
+    decide-requires decided-requires returns)
