@@ -2,14 +2,14 @@
 -- and rules in another order.
 use mathlib.Core.Path.{_≡_, refl, sym, ap, _∙_}
 use mathlib.Core.Bool.{Bool, true, false, not}
-use mathlib.Core.List.{List, [], _∷_, filterMap, List·Memᴰ·head, List·Memᴰ·tail, List·Memᴰ·not-nil, List·Permᴰ, List·Permᴰ·nil, List·Permᴰ·cons, List·Permᴰ·swap, List·Permᴰ·trans, Permᴰ·symm}
+use mathlib.Core.List.{List, [], _∷_, filterMap, List·Memᴰ·head, List·Memᴰ·tail, List·Memᴰ·not-nil, List·Permᴰ, Permᴰ·symm}
 use mathlib.Core.Option.{Option, none, some, Option·elim}
 use Prim.Native.Nat.{ℕ, suc, _≤_}
 use native.Mathlib.Omega.{arith}
 use borrow.Author.Tests.{leb-true, le-ltb, ne-eqb}
 use lib.Dec.{eqb, ltb, leb}
 use lib.ListN.{length}
-use Rattle.text.specs.Test.{_and_, _or_, if_then_else_, _∈_, any, twice}
+use Rattle.text.specs.Test.{_and_, _or_, if_then_else_, _∈_, twice}
 use Rattle.text.specs.String.{Str, same, joined}
 use Rattle.text.proofs.Tests.{clash, by, and-l, and-r, both, on-cons}
 use Rattle.limits.specs.Limits.{maxTableText}

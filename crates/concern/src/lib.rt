@@ -10,16 +10,19 @@ ghost use Rattle.concern.specs.Concern.{concernsBy, appliesBy, Safe, App
 use table::GroupNumber;
 use table::RuleNumber;
 
+// The first byte of a subject's name, from a rule's start on.
+const SUBJECT_NAME: usize = table::RULE_SUBJECT + 1;
+
 // Whether the subject of the rule at s, group g if it is a group, is the user or in the user's groups.
 fn concerns_at(f: &[u8], s: usize, g: GroupNumber, set: u64, user: &[u8]) -> bool
     requires { ⌜ (ruleEnd (now f) s ≤ length (now f)) × (ruleIn (now f) s .byGroup ≡ true → g .0 < maxGroups) ⌝ }
     ensures { λ r. ⌜ r ≡ concernsBy set (g .0) (now (user .entry)) (ruleIn (now (f .entry)) s) ⌝ }
 {
-    if f[s + 2] == 1 {
+    if f[s + table::RULE_SUBJECT_KIND] == table::SUBJECT_GROUP {
         return membership::has(set, g);
     }
-    let a = s + 4;
-    let d = place::str_end(f, s + 3);
+    let a = s + SUBJECT_NAME;
+    let d = place::str_end(f, s + table::RULE_SUBJECT);
     text::string::is_same(&f[a..d], user)
 }
 
@@ -36,7 +39,7 @@ fn mark_at(
     requires { ⌜ (ruleEnd (now f) s ≤ length (now f)) × (ruleIn (now f) s .byGroup ≡ true → g .0 < maxGroups) ⌝ }
     ensures { λ r. ⌜ eqb r 1 ≡ appliesBy set (g .0) (now (user .entry)) mode (now (origin .entry)) (ruleIn (now (f .entry)) s) ⌝ }
 {
-    if f[s + 1] as u32 != mode {
+    if f[s + table::RULE_MODE] as u32 != mode {
         return 0;
     }
     let o = place::str_end(f, judge::rule::id_at(f, s));

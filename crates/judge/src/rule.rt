@@ -58,7 +58,7 @@ pub fn id_at(f: &[u8], at: usize) -> usize
     requires { ⌜ ruleEnd (now f) at ≤ length (now f) ⌝ }
     ensures { λ r. ⌜ r ≡ idAt (now (f .entry)) at ⌝ }
 {
-    place::str_end(f, at + 3)
+    place::str_end(f, at + table::RULE_SUBJECT)
 }
 
 // Where the path of the rule at `at` stands.
@@ -76,5 +76,10 @@ pub fn rank_at(f: &[u8], at: usize, a: usize) -> usize
 {
     let n = f[a] as usize;
     let k = count_keys(f, a + 1, n);
-    verdict::rank(n, k, f[at + 2] == 1, f[at] == 1)
+    verdict::rank(
+        n,
+        k,
+        f[at + table::RULE_SUBJECT_KIND] == table::SUBJECT_GROUP,
+        f[at] == table::ACTION_PERMIT,
+    )
 }

@@ -7,7 +7,7 @@ use Prim.Native.Nat.{ℕ, _+_, _-_, _≤_, _<_}
 use native.Mathlib.Omega.{arith}
 use borrow.Author.Tests.{leb-false}
 use lib.Dec.{leb}
-use lib.ListN.{length, getD, set}
+use lib.ListN.{length, set}
 use Rattle.limits.specs.Limits.{maxTableBytes, maxGroups, maxString}
 use Rattle.text.specs.Test.{_or_, any, all}
 use Rattle.text.specs.Byte.{isPrint}

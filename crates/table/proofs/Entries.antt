@@ -1,5 +1,5 @@
 -- What the lines of a text hold, one line after another.
-use mathlib.Core.Path.{_≡_, refl}
+use mathlib.Core.Path.{_≡_}
 use mathlib.Core.List.{List, _∷_, filterMap}
 use mathlib.Core.Option.{Option·elim}
 use Rattle.text.specs.String.{Str}

@@ -6,7 +6,6 @@ use Rattle.limits.specs.Limits.{maxString}
 use Rattle.text.specs.Test.{_or_, all}
 use Rattle.text.specs.Byte.{isPrint}
 use Rattle.text.specs.String.{Str}
-use Rattle.path.specs.Faults.{unsized}
 use Rattle.table.specs.Group.{badUser}
 use Rattle.table.specs.Walk.{unsizedBy}
 use Rattle.table.proofs.Numbers.{long-is, stray-is}

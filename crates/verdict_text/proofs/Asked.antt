@@ -1,34 +1,20 @@
 -- The tests on a request, one by one.
-use mathlib.Core.Path.{_≡_, sym, ap, _∙_}
+use mathlib.Core.Path.{_≡_, ap}
 use mathlib.Core.Bool.{Bool, true, false, not, _||_}
 use Prim.Native.Nat.{ℕ, _≤_, _<_}
 use borrow.Author.Tests.{lt-ltb, le-ltb}
-use lib.Dec.{eqb, ltb}
+use lib.Dec.{eqb}
 use lib.ListN.{length}
-use Rattle.limits.specs.Limits.{maxShortString, maxString}
+use Rattle.limits.specs.Limits.{maxShortString}
 use Rattle.text.specs.Test.{_or_, if_then_else_, all}
 use Rattle.text.specs.Byte.{isPrint}
 use Rattle.text.specs.String.{Str}
 use Rattle.text.specs.Refusal.{_when_else_, clear}
 use Rattle.text.proofs.Tests.{or-is}
-use Rattle.path.specs.Faults.{unsized}
 use Rattle.table.specs.Refusal.{stray}
-use Rattle.table.specs.Group.{badUser}
 use Rattle.verdict_text.specs.Calls.{badMode, badOrigin}
 
 module _ (s : Str) where
-  unsized-is : (eqb (length s) 0 || ltb maxString (length s)) ≡ unsized s
-  unfolding unsized
-  unsized-is = or-is _ _
-
-  pub user-unsized : (eqb (length s) 0 || ltb maxString (length s)) ≡ true → true ≡ badUser s
-  unfolding badUser _or_
-  user-unsized e = rw (sym unsized-is ∙ e)
-
-  pub user-sized : (eqb (length s) 0 || ltb maxString (length s)) ≡ false → (b : Bool) → b ≡ all isPrint s → not b ≡ badUser s
-  unfolding badUser stray _or_
-  user-sized e b i = rw (sym unsized-is ∙ e) (ap not i)
-
   pub origin-long : maxShortString < length s → true ≡ badOrigin s
   unfolding badOrigin _or_
   origin-long h = rw (lt-ltb maxShortString (length s) h)

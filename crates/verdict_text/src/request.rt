@@ -5,16 +5,6 @@ ghost use Rattle.text.specs.Refusal.{_when_else_, clear};
 ghost use Rattle.table.specs.Group.{badUser};
 ghost use Rattle.verdict_text.specs.Calls.{badMode, badOrigin};
 
-fn is_bad_user(user: &[u8]) -> bool
-    ensures { λ r. ⌜ r ≡ badUser (now (user .entry)) ⌝ }
-{
-    let n = user.len();
-    if (n == 0) | (limits::MAX_STRING < n) {
-        return true;
-    }
-    !text::string::all_print(user)
-}
-
 fn is_bad_mode(mode: u32) -> bool
     ensures { λ r. ⌜ r ≡ badMode mode ⌝ }
 {
@@ -34,7 +24,7 @@ fn is_bad_origin(origin: &[u8]) -> bool
 pub fn number(user: &[u8], mode: u32, origin: &[u8]) -> u8
     ensures { λ r. ⌜ r ≡ (20 when (badUser (now (user .entry)) or badMode mode) else 21 when badOrigin (now (origin .entry)) else clear) ⌝ }
 {
-    if is_bad_user(user) {
+    if table::is_bad_user(user) {
         return 20;
     }
     if is_bad_mode(mode) {
