@@ -1,45 +1,32 @@
 // The probes of a rotation: a request judged on what is in force.
-ghost use Prim.Native.Nat.{_≤_};
+use probe::force::Source;
 use probe::rpcs::RpcAnswer;
-use rotation::InForce;
 use rotation::Record;
+use rpc::verdict::Verdict;
 
-// Where the text in force lies in a store.
-struct Force {
-    is_factory: bool,
-    start: usize,
-    end: usize,
-}
-
-// In a store of n bytes; nothing where it has no such text.
-fn find_force(r: Record, n: usize) -> Force
-    ensures { λ f. ⌜ (f .start ≤ f .end) × (f .end ≤ n) ⌝ }
-{
-    let f = rotation::state::in_force(r);
-    let InForce::Text { slot, len } = f else {
-        return Force {
-            is_factory: true,
-            start: 0,
-            end: 0,
-        };
-    };
-    let start = slot as usize * 32768;
-    let end = start + len as usize;
-    if end <= n {
-        return Force {
-            is_factory: false,
-            start: start,
-            end: end,
-        };
-    }
-    Force {
-        is_factory: false,
-        start: 0,
-        end: 0,
+// What is asked of a path; `text` names the rules, and `none` is said where no rule decides, `nowhere` where no path is permitted.
+fn answer_table(
+    r: Record,
+    store: &[u8],
+    text: &[u8],
+    is_tree: bool,
+    user: &[u8],
+    mode: u32,
+    origin: &[u8],
+    path: &[u8],
+    none: &[u8],
+    nowhere: &[u8],
+) {
+    if is_tree {
+        let a = probe::probe_tree(r, store, user, mode, origin, path);
+        answers::tree(text, a, nowhere);
+    } else {
+        let a = probe::probe_path(r, store, user, mode, origin, path);
+        answers::path(text, a, none);
     }
 }
 
-// What is asked of a path, with the text that names the rules.
+// The same, on what is in force.
 fn judge(
     r: Record,
     store: &[u8],
@@ -49,24 +36,33 @@ fn judge(
     origin: &[u8],
     path: &[u8],
 ) {
-    let f = find_force(r, store.len());
-    let start = f.start;
-    let end = f.end;
-    let text = &store[start..end];
-    if is_tree {
-        let a = probe::probe_tree(r, store, user, mode, origin, path);
-        if f.is_factory {
-            answers::tree(text, a, b"factory\n");
-        } else {
-            answers::tree(text, a, b"");
-        }
-    } else {
-        let a = probe::probe_path(r, store, user, mode, origin, path);
-        if f.is_factory {
-            answers::path(text, a, b"factory\n");
-        } else {
-            answers::path(text, a, b"default\n");
-        }
+    let s = probe::force::find_source(r, store.len(), 2);
+    match s {
+        Source::Refused(number) => console::refusal::at(number, 0),
+        Source::Factory => answer_table(
+            r,
+            store,
+            b"",
+            is_tree,
+            user,
+            mode,
+            origin,
+            path,
+            b"factory\n",
+            b"factory\n",
+        ),
+        Source::Part { start, end } => answer_table(
+            r,
+            store,
+            &store[start..end],
+            is_tree,
+            user,
+            mode,
+            origin,
+            path,
+            b"default\n",
+            b"",
+        ),
     }
 }
 
@@ -94,12 +90,17 @@ pub fn table(r: Record, store: &[u8], is_tree: bool) {
 
 // A probe's answer, with the text that names the rules.
 fn answer_rpc(r: Record, store: &[u8], a: RpcAnswer) {
-    let f = find_force(r, store.len());
-    let start = f.start;
-    let end = f.end;
     match a {
         RpcAnswer::PermitAll => show::line(b"permit\nfactory"),
-        RpcAnswer::Judged(v) => policy_commands::rpcs::answer(&store[start..end], v),
+        RpcAnswer::Judged(v) => answer_judged(r, store, v),
+    }
+}
+
+fn answer_judged(r: Record, store: &[u8], v: Verdict) {
+    let s = probe::force::find_source(r, store.len(), 1);
+    match s {
+        Source::Part { start, end } => policy_commands::rpcs::answer(&store[start..end], v),
+        _ => policy_commands::rpcs::answer(b"", v),
     }
 }
 

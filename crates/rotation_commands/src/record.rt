@@ -79,8 +79,8 @@ fn print_length(n: u32) {
 
 // Prints what a record says, unless it or its store of n bytes is refused.
 pub fn tell(r: Record, n: usize) {
-    let number = rotation::state::refusal(r, n, 255);
-    if number == 255 {
+    let number = rotation::state::refusal(r, n, limits::CLEAR);
+    if number == limits::CLEAR {
         print(r);
     } else {
         console::refusal::at(number, 0);

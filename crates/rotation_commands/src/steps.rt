@@ -88,33 +88,66 @@ fn upload(r: Record, store: &mut [u8]) {
     }
 }
 
-// Whether a step takes that many words. Steps are numbered as in `run`.
-fn takes(step: usize, words: usize) -> bool {
+enum Step {
+    Start,
+    Finalize,
+    Close,
+    Upload,
+    New,
+    Verdict,
+    Tree,
+    Rpc,
+    Show,
+    Unknown,
+}
+
+// The step of that name.
+fn named(word: &[u8]) -> Step {
+    let place = console::lines::place(
+        b"start\nfinalize\nclose\nupload\nnew\nverdict\ntree\nrpc\nshow\n",
+        word,
+    );
+    match place {
+        1 => Step::Start,
+        2 => Step::Finalize,
+        3 => Step::Close,
+        4 => Step::Upload,
+        5 => Step::New,
+        6 => Step::Verdict,
+        7 => Step::Tree,
+        8 => Step::Rpc,
+        9 => Step::Show,
+        _ => Step::Unknown,
+    }
+}
+
+// Whether a step takes that many words.
+fn takes(step: Step, words: usize) -> bool {
     match step {
-        1 | 2 | 3 | 9 => words == 5,
-        4 | 5 => words == 6,
-        6 | 7 => words == 9,
-        8 => (words == 7) | (words == 8),
-        _ => false,
+        Step::Start | Step::Finalize | Step::Close | Step::Show => words == 5,
+        Step::Upload | Step::New => words == 6,
+        Step::Verdict | Step::Tree => words == 9,
+        Step::Rpc => (words == 7) | (words == 8),
+        Step::Unknown => false,
     }
 }
 
 // A step on a record and its store.
-fn run_on(step: usize, words: usize, r: Record, store: &mut [u8]) {
+fn run_on(step: Step, words: usize, r: Record, store: &mut [u8]) {
     match step {
-        1 => settle(rotation_step::start(r, store.len())),
-        2 => settle(rotation_step::finalize(r, store.len())),
-        3 => settle(rotation_step::close(r, store.len())),
-        4 => upload(r, store),
-        6 => crate::probes::table(r, store, false),
-        7 => crate::probes::table(r, store, true),
-        8 => crate::probes::policy(r, store, words),
+        Step::Start => settle(rotation_step::start(r, store.len())),
+        Step::Finalize => settle(rotation_step::finalize(r, store.len())),
+        Step::Close => settle(rotation_step::close(r, store.len())),
+        Step::Upload => upload(r, store),
+        Step::Verdict => crate::probes::table(r, store, false),
+        Step::Tree => crate::probes::table(r, store, true),
+        Step::Rpc => crate::probes::policy(r, store, words),
         _ => crate::record::tell(r, store.len()),
     }
 }
 
 // Reads the record and the store, and takes the step.
-fn open(step: usize, words: usize) {
+fn open(step: Step, words: usize) {
     if console::input::is_standard(3) | console::input::is_standard(4) {
         console::say::usage(b"a record and a store are files", b"", b"rotate");
         return;
@@ -144,15 +177,12 @@ fn open(step: usize, words: usize) {
 
 // The step, if there is one of that name and it takes that many words.
 pub fn run(word: &[u8], words: usize) {
-    let step = console::lines::place(
-        b"start\nfinalize\nclose\nupload\nnew\nverdict\ntree\nrpc\nshow\n",
-        word,
-    );
-    if step == 0 {
+    let step = named(word);
+    if let Step::Unknown = step {
         console::say::usage(b"no such step of a rotation: ", word, b"rotate");
     } else if !takes(step, words) {
         console::say::misuse(b"rotate");
-    } else if step == 5 {
+    } else if let Step::New = step {
         new();
     } else {
         open(step, words);
