@@ -22,7 +22,13 @@ def crates():
 
 
 def in_antt(text, names):
-    return re.sub(r"Rattle·([a-z_0-9]+)(?=[.·])", lambda m: "Rattle·" + names.get(m.group(1), m.group(1)), text)
+    """Names of modules; in comments `crate/specs/..`, `(crate/File)` and `crate::module::function`."""
+    def new(match):
+        return match.group(1) + names.get(match.group(2), match.group(2))
+
+    text = re.sub(r"(Rattle·)([a-z_0-9]+)(?=[.·])", new, text)
+    text = re.sub(r"((?<![\w/]))([a-z_0-9]+)(?=/(?:specs|proofs|src)/|/[A-Z]\w*\))", new, text)
+    return re.sub(r"(`)([a-z_0-9]+)(?=::\w+::\w+`)", new, text)
 
 
 def in_program(text, names, used, own):
