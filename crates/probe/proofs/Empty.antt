@@ -20,7 +20,7 @@ use Rattle.concern.specs.Concern.{Safe}
 use Rattle.verdicts.specs.Holding.{Holding, Groups}
 
 abbrev pub empty : Table
-empty = record { version = []; time = []; groups = []; members = []; rules = [] }
+empty = record { groups = []; members = []; rules = [] }
 
 no-decider : (q : Request) → decider empty q ≡ none
 unfolding decider choose
