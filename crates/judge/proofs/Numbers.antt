@@ -9,7 +9,7 @@ use native.Mathlib.Omega.{arith}
 use lib.ListN.{length, getD, getElem?}
 use Rattle.text.specs.Test.{_∈_, twice}
 use Rattle.table.specs.Table.{Rule}
-use Rattle.verdict.specs.Laws.{sameId}
+use Rattle.table.specs.Refusal.{sameId}
 use Rattle.verdict.proofs.Twice.{first-alone, rest-alone}
 use Rattle.judge.specs.Rules.{ruleIn, rulesIn}
 

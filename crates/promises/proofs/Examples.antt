@@ -8,7 +8,8 @@ use Rattle.text.specs.String.{same, more, before}
 use Rattle.text.specs.Frame.{_>>=_, ret, byte, run, string, times}
 use Rattle.text_search.specs.Search.{until}
 use Rattle.path.specs.Bytes.{key, element, path}
-use Rattle.path.specs.Faults.{unsized, keyOver, elemOver, overLimit, outsideName, outsideValue, keyStray, elemStray, strayByte, halfWild, keyMisplaced, elemMisplaced, misplaced, keyTwice, leastRefusal, pathRefusal, goodPath}
+use Rattle.path.specs.Faults.{unsized, keyOver, elemOver, overLimit, outsideName, outsideValue, keyStray, elemStray, strayByte, halfWild, keyMisplaced, elemMisplaced, misplaced, keyTwice, goodPath}
+use Rattle.path.specs.Walk.{leastRefusal, pathRefusal}
 use Rattle.path.specs.Spells.{whole, readBytes}
 use Rattle.path_text.specs.TextReader.{literal, name, item, value, each, elements, readText}
 use Rattle.path_text.specs.TextReader as reader
