@@ -1,13 +1,14 @@
 #!/usr/bin/env bash
-# Every limit stands once, in the crate `limits`: as a definition (specs/Limits.antt) and as a constant (src/lib.rt), which agree. The C header,
-# the Rust implementation, the documents and the refusals that the command line prints say the same numbers. No other crate has the literal of a
-# limit, or of a size that follows from one, in its programs or definitions. To see where a literal stands: bash tests/limits.sh 9377
+# Every limit stands once, in the crate `limits`: as a definition (specs/Limits.antt; the sizes that follow from them in specs/Sizes.antt) and as a
+# constant (src/lib.rt), which agree. The C header, the Rust implementation, the documents and the refusals that the command line prints say the same
+# numbers. No other crate has the literal of a limit, or of a size that follows from one, in its programs or definitions. To see where a literal
+# stands: bash tests/limits.sh 9377
 set -uo pipefail
 cd "$(dirname "$0")/.."
 shopt -s nullglob extglob
 
 programs=crates/limits/src/lib.rt
-definitions=crates/limits/specs/Limits.antt
+definitions='crates/limits/specs/Limits.antt crates/limits/specs/Sizes.antt'
 
 # NUMBER: the places of this literal in programs, definitions and proofs, and nothing else is done.
 if [ $# -eq 1 ]; then
@@ -222,6 +223,8 @@ Small s × (n < 256)     a count of elements, in a byte
 words < 4               arguments of the command line
 4 <= t.len() - i        four bytes a turn of a hash
 f.len() < 4             a rule's kind, action, mode and subject
+(pathText p) ≤ 13520    a promise says the rules' own number
+(pathBytes p) ≤ 9377    the same
 END
 }
 

@@ -20,7 +20,8 @@ use Rattle.table.specs.Refusal.{lineOf, kindOf, outOfOrder, listed, first, same
 use Rattle.table.specs.Text.{check, read, entries, asGroup, asMember, asRule, table, tableOf}
 use Rattle.table.specs.declared.Checked.the-variants.{Accepted}
 use Rattle.path.specs.Faults.{keyTwice}
-use Rattle.verdict.specs.Laws.{Orderly, Reordered}
+use Rattle.verdict.specs.Laws.{Reordered}
+use Rattle.verdict.specs.Orderly.{Orderly}
 use Rattle.verdict.proofs.Choose.{same-id-turned}
 use Rattle.verdict.proofs.Reorder.{perm-mem, perm-any, perm-twice}
 use Rattle.acceptance.specs.Reordering.{rising, ReorderedLines}

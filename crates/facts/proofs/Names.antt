@@ -9,7 +9,8 @@ use lib.ListN.{length, take, drop, getD, length-drop}
 use lib.Seq.{length-take-le}
 use Rattle.text.specs.Test.{if_then_else_}
 use Rattle.text.specs.String.{Str}
-use Rattle.text.specs.Fill.{put, Wrote}
+use Rattle.text.specs.Fill.{put}
+use Rattle.text.specs.Steps.{Wrote}
 use Rattle.text.proofs.Tests.{by}
 use Rattle.text.proofs.Filling.{wrote-nothing}
 use Rattle.place.specs.Place.{strEnd, strIn}

@@ -3,7 +3,7 @@ ghost use mathlib.Core.Path.{_≡_};
 ghost use mathlib.Core.List.{[]};
 ghost use Prim.Native.Nat.{_≤_};
 ghost use lib.ListN.{length, getD};
-ghost use Rattle.text.specs.Fill.{Wrote};
+ghost use Rattle.text.specs.Steps.{Wrote};
 ghost use Rattle.place.specs.Place.{strEnd, strIn};
 ghost use Rattle.rows.specs.Strings.{stringsIn, Listed};
 ghost use Rattle.table.specs.Text.{check, tableOf};

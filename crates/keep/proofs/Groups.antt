@@ -8,12 +8,14 @@ use native.Mathlib.Omega.{arith}
 use borrow.Author.Tests.{leb-false}
 use lib.Dec.{leb}
 use lib.ListN.{length, set}
-use Rattle.limits.specs.Limits.{maxTableBytes, maxGroups, maxString}
+use Rattle.limits.specs.Limits.{maxGroups, maxString}
+use Rattle.limits.specs.Sizes.{maxTableBytes}
 use Rattle.text.specs.Test.{_or_, any, all}
 use Rattle.text.specs.Byte.{isPrint}
 use Rattle.text.specs.String.{Str, same}
 use Rattle.text.specs.Refusal.{clear}
-use Rattle.text.specs.Frame.{got, string, endOf, part}
+use Rattle.text.specs.Frame.{got, string, part}
+use Rattle.text.specs.Steps.{endOf}
 use Rattle.text.specs.declared.frame.End.{End}
 use Rattle.text.specs.declared.frame.End.the-variants.{At, Unread}
 use Rattle.text.proofs.Tests.{or-false-r, or-is}

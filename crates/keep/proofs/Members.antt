@@ -9,12 +9,14 @@ use borrow.Author.Tests.{leb-false, eqb-false, ltb-true, ltb-false, eq-eqb, ne-e
 use lib.Dec.{eqb, ltb, leb}
 use lib.ListN.{length, take, drop, getD, set, length-append, length-drop}
 use lib.Seq.{take-at}
-use Rattle.limits.specs.Limits.{maxTableBytes, maxMembers, maxString}
+use Rattle.limits.specs.Limits.{maxMembers, maxString}
+use Rattle.limits.specs.Sizes.{maxTableBytes}
 use Rattle.text.specs.Test.{_and_, _or_, any, all}
 use Rattle.text.specs.Byte.{isPrint}
 use Rattle.text.specs.String.{Str, same}
 use Rattle.text.specs.Refusal.{clear}
-use Rattle.text.specs.Frame.{got, string, stringBytes, endOf, part}
+use Rattle.text.specs.Frame.{got, string, stringBytes, part}
+use Rattle.text.specs.Steps.{endOf}
 use Rattle.text.specs.declared.frame.End.{End}
 use Rattle.text.specs.declared.frame.End.the-variants.{At, Unread}
 use Rattle.text.proofs.Tests.{by, bool-ext, and-l, and-r, both, same→≡, ≡→same, or-false-r, or-is}

@@ -4,7 +4,8 @@ use mathlib.Core.Path.{_≡_}
 use mathlib.Core.List.{List, [], _∷_, _++_}
 use mathlib.Core.Option.{some}
 use lib.ListN.{length, getD, set}
-use Rattle.limits.specs.Limits.{maxTableBytes, maxGroups, maxMembers}
+use Rattle.limits.specs.Limits.{maxGroups, maxMembers}
+use Rattle.limits.specs.Sizes.{maxTableBytes}
 use Rattle.text.specs.Test.{any}
 use Rattle.text.specs.String.{Str, same}
 use Rattle.text.specs.Frame.{got, string, stringBytes}

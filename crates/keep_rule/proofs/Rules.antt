@@ -8,7 +8,8 @@ use native.Mathlib.Omega.{arith}
 use borrow.Author.Tests.{leb-false}
 use lib.Dec.{eqb, ltb, leb}
 use lib.ListN.{length, getD, set}
-use Rattle.limits.specs.Limits.{maxTableBytes, maxRules, maxString, maxShortString}
+use Rattle.limits.specs.Limits.{maxRules, maxString, maxShortString}
+use Rattle.limits.specs.Sizes.{maxTableBytes}
 use Rattle.text.specs.Test.{_and_, _or_, if_then_else_, any, all}
 use Rattle.text.specs.Byte.{isPrint}
 use Rattle.text.specs.String.{Str, same}

@@ -5,7 +5,8 @@ use mathlib.Core.Bool.{true}
 use mathlib.Core.List.{List, [], _∷_, _++_, map}
 use mathlib.Core.Option.{some}
 use lib.ListN.{length, getD, set}
-use Rattle.limits.specs.Limits.{maxTableBytes, maxGroups, maxRules}
+use Rattle.limits.specs.Limits.{maxGroups, maxRules}
+use Rattle.limits.specs.Sizes.{maxTableBytes}
 use Rattle.text.specs.String.{Str}
 use Rattle.text.specs.Frame.{got}
 use Rattle.hash_set.specs.Set.{Holds}

@@ -7,7 +7,8 @@ use native.Mathlib.Omega.{arith}
 use borrow.Author.Tests.{eq-eqb, ne-eqb, le-ltb, lt-ltb}
 use lib.ListN.{length, take, drop, getD, drop-of-length-le}
 use lib.Seq.{length-take-le, take-at, drop-at, take-add, getD-take, getD-drop, append-snoc}
-use Rattle.limits.specs.Limits.{maxTableText, maxTableBytes, maxMembers, maxRules}
+use Rattle.limits.specs.Limits.{maxTableText, maxMembers, maxRules}
+use Rattle.limits.specs.Sizes.{maxTableBytes}
 use Rattle.text.specs.Test.{if_then_else_, any, twice}
 use Rattle.text.specs.String.{Str}
 use Rattle.text.specs.Refusal.{clear}

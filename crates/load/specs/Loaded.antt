@@ -4,7 +4,7 @@ use mathlib.Core.Path.{_≡_}
 use mathlib.Core.List.{List, _++_}
 use mathlib.Core.Option.{some}
 use lib.ListN.{length, take, getD}
-use Rattle.limits.specs.Limits.{maxTableBytes}
+use Rattle.limits.specs.Sizes.{maxTableBytes}
 use Rattle.text.specs.String.{Str}
 use Rattle.table.specs.Frame.{Entry, entryOf}
 use Rattle.table.specs.Refusal.{Earlier, with}

@@ -2,7 +2,8 @@
 ghost use mathlib.Core.Path.{_≡_};
 ghost use Prim.Native.Nat.{_≤_};
 ghost use lib.ListN.{length};
-ghost use Rattle.limits.specs.Limits.{maxTableBytes, maxGroups, maxMembers, maxRules};
+ghost use Rattle.limits.specs.Limits.{maxGroups, maxMembers, maxRules};
+ghost use Rattle.limits.specs.Sizes.{maxTableBytes};
 ghost use Rattle.load.specs.Loaded.{Outcome};
 use crate::row::Counts;
 use line::Line;

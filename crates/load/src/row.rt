@@ -2,7 +2,8 @@
 ghost use mathlib.Core.Path.{_≡_};
 ghost use Prim.Native.Nat.{_≤_, _<_};
 ghost use lib.ListN.{length, take};
-ghost use Rattle.limits.specs.Limits.{maxTableBytes, maxGroups, maxMembers, maxRules};
+ghost use Rattle.limits.specs.Limits.{maxGroups, maxMembers, maxRules};
+ghost use Rattle.limits.specs.Sizes.{maxTableBytes};
 ghost use Rattle.text.specs.Refusal.{clear};
 ghost use Rattle.text.specs.Frame.{part};
 ghost use Rattle.table.specs.Frame.{entryOf};

@@ -7,7 +7,6 @@ use Rattle.limits.specs.Limits.{maxElements, maxKeys, maxString}
 use Rattle.text.specs.Test.{_and_, _or_, any, twice}
 use Rattle.text.specs.Byte.{isName, isPrint, isStar}
 use Rattle.text.specs.String.{Str, bytes, same}
-use Rattle.text.specs.Refusal.{_when_else_, clear}
 use Rattle.path.specs.Path.{Key, Elem, Path}
 
 -- ---- 5: "a limit passed, or an empty string that may not be"
@@ -74,14 +73,7 @@ sameName j k = same (j .name) (k .name)
 unfoldable pub keyTwice : Path → Bool
 keyTwice p = any (λ (e : Elem). twice sameName (e .keys)) p
 
--- ---- the smallest of them, and none
-
--- the smallest of 5 to 8 that holds
-unfoldable pub leastRefusal : Bool → Bool → Bool → Bool → ℕ
-leastRefusal five six seven eight = 5 when five else 6 when six else 7 when seven else 8 when eight else clear
-
-unfoldable pub pathRefusal : Path → ℕ
-pathRefusal p = leastRefusal (overLimit p) (strayByte p) (misplaced p) (keyTwice p)
+-- ---- none of them
 
 -- a path that no rule table refuses
 unfoldable pub goodPath : Path → Bool

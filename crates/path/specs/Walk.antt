@@ -9,11 +9,11 @@ use Rattle.text.specs.Test.{_and_, _or_, any, twice}
 use Rattle.text.specs.Byte.{isName}
 use Rattle.text.specs.String.{Str, bytes, same}
 use Rattle.text.specs.Frame.{Parsed, got, unread}
-use Rattle.text.specs.Refusal.{clear}
+use Rattle.text.specs.Refusal.{_when_else_, clear}
 use Rattle.path.specs.Path.{Key, Elem, Path}
 use Rattle.path.specs.Bytes.{path}
 use Rattle.path.specs.Faults.{unsized, keyOver, elemOver, outsideName, outsideValue, keyStray, elemStray}
-use Rattle.path.specs.Faults.{starred, halfWild, keyMisplaced, elemMisplaced, sameName, leastRefusal, goodPath}
+use Rattle.path.specs.Faults.{starred, halfWild, keyMisplaced, elemMisplaced, sameName, overLimit, strayByte, misplaced, keyTwice, goodPath}
 
 -- `unsized`, by the length
 abbrev pub unsizedBy : ℕ → Bool
@@ -22,6 +22,13 @@ unsizedBy n = eqb n 0 || ltb maxString n
 -- no byte of a name
 abbrev pub noName : ℕ → Bool
 noName b = not (isName b)
+
+-- the smallest of 5 to 8 that holds
+unfoldable pub leastRefusal : Bool → Bool → Bool → Bool → ℕ
+leastRefusal five six seven eight = 5 when five else 6 when six else 7 when seven else 8 when eight else clear
+
+unfoldable pub pathRefusal : Path → ℕ
+pathRefusal p = leastRefusal (overLimit p) (strayByte p) (misplaced p) (keyTwice p)
 
 -- the smallest number that each part of a path gets, or `clear`
 unfoldable pub nameRefusal : Str → ℕ

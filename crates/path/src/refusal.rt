@@ -18,7 +18,7 @@ pub fn smaller(a: u8, b: u8) -> u8
 
 // The smallest number whose flag is set.
 pub fn least_refusal(five: bool, six: bool, seven: bool, eight: bool) -> u8
-    ensures { λ r. ⌜ r ≡ Rattle.path.specs.Faults.leastRefusal five six seven eight ⌝ }
+    ensures { λ r. ⌜ r ≡ Rattle.path.specs.Walk.leastRefusal five six seven eight ⌝ }
 {
     if five {
         return 5;

@@ -10,7 +10,8 @@ use lib.ListN.{length, getD}
 use Rattle.limits.specs.Limits.{maxElements, maxKeys}
 use Rattle.text.specs.Test.{_and_, _or_, any, twice}
 use Rattle.text.specs.String.{Str, same}
-use Rattle.text.specs.Frame.{Parsed, got, unread, andThen, _>>=_, ret, string, part, times, endOf}
+use Rattle.text.specs.Frame.{Parsed, got, unread, andThen, _>>=_, ret, string, part, times}
+use Rattle.text.specs.Steps.{endOf}
 use Rattle.text.specs.declared.frame.End.{End}
 use Rattle.text.specs.declared.frame.End.the-variants.{At}
 use Rattle.text.specs.declared.frame.End.the-variants as ends
@@ -19,8 +20,7 @@ use Rattle.text.proofs.Tests.{or-none}
 use Rattle.text.proofs.Frames.{byte-got, byte-unread, string-ends, string-misses, times-turn, times-unread, times-done, times-length}
 use Rattle.path.specs.Path.{Key, Elem, Path}
 use Rattle.path.specs.Bytes.{key, element, path}
-use Rattle.path.specs.Faults.{leastRefusal, pathRefusal}
-use Rattle.path.specs.Walk.{keyRefusal, keysRefusal, elemNameRefusal, elemRefusal, elemsRefusal, hasName, twiceIn, isPath, isPathIn}
+use Rattle.path.specs.Walk.{keyRefusal, keysRefusal, elemNameRefusal, elemRefusal, elemsRefusal, hasName, twiceIn, isPath, isPathIn, leastRefusal, pathRefusal}
 use Rattle.path_frame.specs.Walked.{walked}
 use Rattle.path_frame.specs.declared.Walk.{Walk}
 use Rattle.path_frame.specs.declared.Walk.the-variants.{To, Unread}

@@ -3,8 +3,7 @@ ghost use mathlib.Core.Path.{_≡_};
 ghost use mathlib.Core.Bool.{false};
 ghost use Rattle.text.specs.Frame.{times};
 ghost use Rattle.path.specs.Bytes.{key, element, path};
-ghost use Rattle.path.specs.Faults.{pathRefusal};
-ghost use Rattle.path.specs.Walk.{keysRefusal, elemRefusal, elemsRefusal, hasName, twiceIn, isPath};
+ghost use Rattle.path.specs.Walk.{keysRefusal, elemRefusal, elemsRefusal, hasName, twiceIn, isPath, pathRefusal};
 ghost use Rattle.path_frame.specs.Walked.{walked};
 use text::frame::End;
 

@@ -9,11 +9,12 @@ use borrow.Author.Tests.{le-leb, lt-leb, eq-eqb, ne-eqb}
 use lib.Dec.{leb}
 use lib.ListN.{length, take, set}
 use lib.Seq.{take-at}
-use Rattle.limits.specs.Limits.{maxPathBytes}
+use Rattle.limits.specs.Sizes.{maxPathBytes}
 use Rattle.text.specs.Test.{_and_, if_then_else_}
 use Rattle.text.specs.String.{Str, bytes, same, joined}
 use Rattle.text.specs.Frame.{got, unread}
-use Rattle.text.specs.Fill.{put, Wrote}
+use Rattle.text.specs.Fill.{put}
+use Rattle.text.specs.Steps.{Wrote}
 use Rattle.text.proofs.Filling.{wrote-byte}
 use Rattle.path.specs.Path.{Path}
 use Rattle.path.specs.Bytes.{counted, elemBytes, pathBytes}

@@ -9,12 +9,13 @@ use borrow.Author.Tests.{eqb-true, ltb-true, ltb-false, lt-ltb, le-ltb, eq-eqb, 
 use lib.Dec.{eqb, ltb}
 use lib.ListN.{length, take, drop, getD, length-drop}
 use lib.Seq.{getD-drop}
-use Rattle.limits.specs.Limits.{maxElements, maxKeys, maxString, maxStringBytes, maxKeyBytes, maxKeysBytes, maxElemBytes}
+use Rattle.limits.specs.Limits.{maxElements, maxKeys, maxString}
+use Rattle.limits.specs.Sizes.{maxStringBytes, maxKeyBytes, maxKeysBytes, maxElemBytes}
 use Rattle.text.specs.Test.{_and_, _or_, if_then_else_, all, any, twice}
 use Rattle.text.specs.Byte.{isName}
 use Rattle.text.specs.String.{Str, bytes, same, joined}
 use Rattle.text.specs.Frame.{Parsed, got, unread, andThen, Reader, _>>=_, ret, part, stringBytes, times}
-use Rattle.text.specs.Fill.{Wrote}
+use Rattle.text.specs.Steps.{Wrote}
 use Rattle.text.specs.Refusal.{clear}
 use Rattle.text.proofs.Filling.{wrote-long}
 use Rattle.text.proofs.Tests.{by, clash, and-l, and-r, both, and-left, and-right}

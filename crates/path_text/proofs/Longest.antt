@@ -8,7 +8,8 @@ use native.Mathlib.Omega.{arith}
 use borrow.Author.Tests.{ltb-false}
 use lib.Dec.{ltb}
 use lib.ListN.{length, length-append}
-use Rattle.limits.specs.Limits.{maxElements, maxKeys, maxString, maxKeyBytes, maxElemBytes, maxPathBytes, maxKeyText, maxElemText, maxPathText}
+use Rattle.limits.specs.Limits.{maxElements, maxKeys, maxString}
+use Rattle.limits.specs.Sizes.{maxKeyBytes, maxElemBytes, maxPathBytes, maxKeyText, maxElemText, maxPathText}
 use Rattle.text.specs.Test.{_or_, if_then_else_, any}
 use Rattle.text.specs.String.{Str, joined}
 use Rattle.text.specs.Frame.{stringBytes}

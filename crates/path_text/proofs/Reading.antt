@@ -8,11 +8,13 @@ use borrow.Author.Tests.{eqb-true, ltb-true, lt-ltb, le-ltb, eq-eqb, ne-eqb}
 use lib.Dec.{eqb, ltb}
 use lib.ListN.{length, drop, getD, set, length-drop, List·getD-eq-default}
 use lib.Seq.{length-take-le}
-use Rattle.limits.specs.Limits.{maxString, maxStringBytes}
+use Rattle.limits.specs.Limits.{maxString}
+use Rattle.limits.specs.Sizes.{maxStringBytes}
 use Rattle.text.specs.Test.{if_then_else_}
 use Rattle.text.specs.String.{Str, joined}
 use Rattle.text.specs.Frame.{Parsed, got, unread, andThen, Reader, _>>=_, ret, part, stringBytes}
-use Rattle.text.specs.Fill.{put, Wrote}
+use Rattle.text.specs.Fill.{put}
+use Rattle.text.specs.Steps.{Wrote}
 use Rattle.text.proofs.Tests.{by, and-left, and-right}
 use Rattle.text.proofs.Filling.{wrote-more, wrote-byte, wrote-before}
 use Rattle.text_search.proofs.Searching.{found-high}

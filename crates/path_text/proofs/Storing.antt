@@ -7,7 +7,8 @@ use lib.ListN.{length, take, drop, length-append}
 use lib.Seq.{length-take-le, take-at, drop-at}
 use Rattle.text.specs.String.{Str, joined}
 use Rattle.text.specs.Frame.{Parsed, got, unread, andThen, Reader, part, stringBytes}
-use Rattle.text.specs.Fill.{put, Wrote}
+use Rattle.text.specs.Fill.{put}
+use Rattle.text.specs.Steps.{Wrote}
 use Rattle.text.proofs.Filling.{wrote-long, wrote-more, wrote-nothing}
 use Rattle.path_text.specs.Steps.{Within, Room, Stores, stores, nothing}
 use Rattle.path_text.specs.declared.reader.Stored.{Stored}

@@ -1,6 +1,5 @@
 -- What reading path text and writing it answer, and what they leave in the lent buffer.
 use Prim.Native.Nat.{ℕ}
-use mathlib.Core.Path.{_≡_}
 use mathlib.Core.List.{List}
 use mathlib.Core.Option.{Option, none, some, Option·map}
 use lib.ListN.{length}
@@ -32,7 +31,3 @@ answer out (some s) = if leb (length s) (length out) then Length (length s) else
 unfoldable pub lent : List ℕ → Option Str → List ℕ
 lent out none = out
 lent out (some s) = if leb (length s) (length out) then put out 0 s else out
-
--- r is the answer where `out` was lent for this result, and out′ what is left of it
-abbrev pub Delivers : List ℕ → Option Str → List ℕ → Filled → Type 0
-Delivers out result out′ r = (r ≡ answer out result) × (out′ ≡ lent out result)

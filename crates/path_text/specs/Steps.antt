@@ -10,12 +10,15 @@ use Rattle.limits.specs.Limits.{maxElements, maxKeys, maxString}
 use Rattle.text.specs.Test.{if_then_else_, twice}
 use Rattle.text.specs.String.{Str}
 use Rattle.text.specs.Frame.{Parsed, got, unread, Reader}
-use Rattle.text.specs.Fill.{put, Wrote}
+use Rattle.text.specs.Fill.{put}
+use Rattle.text.specs.Steps.{Wrote}
 use Rattle.text_search.specs.Search.{until}
 use Rattle.path.specs.Path.{Key, Elem, Path}
 use Rattle.path.specs.Faults.{sameName}
 use Rattle.path.specs.Walk.{noName, nameRefusal, valueRefusal, aloneRefusal, elemRefusal, good}
+use Rattle.path_text.specs.Calls.{answer, lent}
 use Rattle.path_text.specs.TextReader.{name, item, value, each, key, element}
+use Rattle.path_text.specs.declared.Filled.{Filled}
 use Rattle.path_text.specs.declared.reader.Stored.{Stored}
 use Rattle.path_text.specs.declared.reader.Stored.the-variants as stored
 use Rattle.path_text.specs.declared.reader.Item.{Item}
@@ -100,3 +103,7 @@ pub data Stores {A : Type 0} (most more : ℕ) (w : A → Str) (r : Reader A) (s
 pub data Transcribed : Option Str → List ℕ → List ℕ → Stored → Type 0 where
   filled-up : {f : Str} {d d′ : List ℕ} {next end : ℕ} → end ≡ length f → end ≤ length d → d′ ≡ put d 0 f → Transcribed (some f) d d′ (stored.To next end)
   not-filled : {d d′ : List ℕ} → Transcribed none d d′ stored.Unread
+
+-- r is the answer where `out` was lent for this result, and out′ what is left of it
+abbrev pub Delivers : List ℕ → Option Str → List ℕ → Filled → Type 0
+Delivers out result out′ r = (r ≡ answer out result) × (out′ ≡ lent out result)

@@ -8,14 +8,15 @@ ghost use mathlib.Core.List.{[], _∷_};
 ghost use mathlib.Core.Option.{some};
 ghost use Prim.Native.Nat.{_+_, _≤_};
 ghost use lib.ListN.{length, drop, getD};
-ghost use Rattle.limits.specs.Limits.{maxString, maxStringBytes, maxKeyBytes, maxKeysBytes, maxElemBytes, maxPathBytes};
+ghost use Rattle.limits.specs.Limits.{maxString};
+ghost use Rattle.limits.specs.Sizes.{maxStringBytes, maxKeyBytes, maxKeysBytes, maxElemBytes, maxPathBytes};
 ghost use Rattle.text.specs.Byte.{isName};
 ghost use Rattle.text.specs.String.{bytes, same};
 ghost use Rattle.text.specs.Frame.{stringBytes};
 ghost use Rattle.path.specs.Bytes.{counted, keyBytes, elemBytes};
 ghost use Rattle.path_text.specs.TextReader.{value};
-ghost use Rattle.path_text.specs.Calls.{bytesFor, Delivers};
-ghost use Rattle.path_text.specs.Steps.{maxGrowth, shortText, nameRun, itemOf, Room, Stores, plainly, Transcribed};
+ghost use Rattle.path_text.specs.Calls.{bytesFor};
+ghost use Rattle.path_text.specs.Steps.{maxGrowth, shortText, nameRun, itemOf, Room, Stores, plainly, Transcribed, Delivers};
 ghost use Rattle.path_text.specs.Steps.{goodName, goodValue, goodKey, goodKeys, goodElement, goodElements};
 use crate::Filled;
 

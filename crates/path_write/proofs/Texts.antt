@@ -6,7 +6,7 @@ use mathlib.Core.Option.{none, some, Option·map}
 use Prim.Native.Nat.{ℕ, _-_, _/_, _≤_}
 use native.Mathlib.Omega.{arith}
 use lib.ListN.{length}
-use Rattle.limits.specs.Limits.{maxPathText}
+use Rattle.limits.specs.Sizes.{maxPathText}
 use Rattle.text.specs.Test.{_and_, if_then_else_}
 use Rattle.text.specs.String.{Str}
 use Rattle.text.specs.Frame.{Parsed, got, unread}

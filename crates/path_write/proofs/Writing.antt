@@ -8,8 +8,9 @@ use native.Mathlib.Omega.{arith}
 use lib.ListN.{length, drop, getD, set, drop-of-length-le}
 use lib.Seq.{drop-cons}
 use Rattle.text.specs.String.{Str, joined}
-use Rattle.text.specs.Frame.{Parsed, got, unread, andThen, _>>=_, ret, part, string, times, endOf}
-use Rattle.text.specs.Fill.{put, Wrote}
+use Rattle.text.specs.Frame.{Parsed, got, unread, andThen, _>>=_, ret, part, string, times}
+use Rattle.text.specs.Fill.{put}
+use Rattle.text.specs.Steps.{Wrote, endOf}
 use Rattle.text.specs.declared.frame.End.{End}
 use Rattle.text.specs.declared.frame.End.the-variants.{At, Unread}
 use Rattle.text.proofs.Tests.{clash}

@@ -11,7 +11,7 @@ use Rattle.text.specs.Test.{twice}
 use Rattle.table.specs.Table.{Table}
 use Rattle.verdict.specs.Order.{choose}
 use Rattle.verdict.specs.Verdict.{Request, decider, action, permits, word, answer, tree, NONE}
-use Rattle.verdict.specs.Laws.{Orderly}
+use Rattle.verdict.specs.Orderly.{Orderly}
 use Rattle.judge.specs.Rules.{rulesIn}
 use Rattle.table.specs.declared.Checked.the-variants.{Accepted}
 use Rattle.verdict_text.specs.Calls.{pathAnswer, treeAnswer}
@@ -20,7 +20,7 @@ use Rattle.concern.specs.Concern.{Safe}
 use Rattle.verdicts.specs.Holding.{Holding, Groups}
 
 abbrev pub empty : Table
-empty = record { version = []; time = []; groups = []; members = []; rules = [] }
+empty = record { groups = []; members = []; rules = [] }
 
 no-decider : (q : Request) → decider empty q ≡ none
 unfolding decider choose

@@ -8,7 +8,8 @@ use Rattle.text.specs.String.{same, more, before}
 use Rattle.text.specs.Frame.{_>>=_, ret, byte, run, string, times}
 use Rattle.text_search.specs.Search.{until}
 use Rattle.path.specs.Bytes.{key, element, path}
-use Rattle.path.specs.Faults.{unsized, keyOver, elemOver, overLimit, outsideName, outsideValue, keyStray, elemStray, strayByte, halfWild, keyMisplaced, elemMisplaced, misplaced, keyTwice, leastRefusal, pathRefusal, goodPath}
+use Rattle.path.specs.Faults.{unsized, keyOver, elemOver, overLimit, outsideName, outsideValue, keyStray, elemStray, strayByte, halfWild, keyMisplaced, elemMisplaced, misplaced, keyTwice, goodPath}
+use Rattle.path.specs.Walk.{leastRefusal, pathRefusal}
 use Rattle.path.specs.Spells.{whole, readBytes}
 use Rattle.path_text.specs.TextReader.{literal, name, item, value, each, elements, readText}
 use Rattle.path_text.specs.TextReader as reader
@@ -16,7 +17,7 @@ use Rattle.line.specs.Lines.{onto, lines, pair, pairs, nonempty, frame}
 use Rattle.table.specs.Frame.{unknown, code, versionBody, groupBody, memberBody, ruleBody, ruleEntry, body, entry, entryOf}
 use Rattle.table.specs.Frame as table-line
 use Rattle.table.specs.Refusal.{framed, decoded, lineOf, kindOf, outOfOrder, unsizedShort, pastLimit, stray, strays, misplaces, sameMember, sameId, repeats, listed, unlisted, refusal, first, with, after}
-use Rattle.table.specs.Text.{unless, judge, check, read, entries, asGroup, asMember, asRule, versionOf, timeOf, table, tableOf}
+use Rattle.table.specs.Text.{unless, judge, check, read, entries, asGroup, asMember, asRule, table, tableOf}
 use Rattle.table.specs.Group.{lists, badUser}
 use Rattle.verdict.specs.Cover.{wild, definite, holds, meets, covers}
 use Rattle.verdict.specs.Join.{conflict, clashes, agrees, agree, meld, join}
@@ -25,16 +26,16 @@ use Rattle.verdict.specs.Verdict.{concerns, applies, matches, decider, action, 
 use Rattle.verdict_text.specs.Calls.{badMode, badOrigin, unspelled, requestRefusal, spelled, request, decidedBy, pathAnswer, pathVerdict, spread, treeAnswer, treeVerdict}
 use Rattle.text_affix.specs.Affix.{empty, begins, ends}
 use Rattle.rpc.specs.Pattern as pattern
-use Rattle.promises.specs.Examples.{Example, examples}
+use Rattle.promises.specs.Examples.{Answer, examples}
 
-pub marked : map (λ (x : Example). x .given) examples ≡ map (λ (x : Example). x .expected) examples
+pub marked : map (λ (x : Answer × Answer). x .0) examples ≡ map (λ (x : Answer × Answer). x .1) examples
 unfolding xor _and_ _or_ if_then_else_ all any only twice same more before _>>=_ ret byte run string times key element
     path unsized keyOver elemOver overLimit outsideName outsideValue keyStray elemStray strayByte halfWild keyMisplaced
     elemMisplaced misplaced keyTwice leastRefusal pathRefusal goodPath whole readBytes literal until name item value
     each elements readText reader.key reader.element onto lines pair pairs nonempty frame unknown code versionBody
     groupBody memberBody ruleBody ruleEntry body entry entryOf table-line.whole framed decoded lineOf kindOf outOfOrder
     unsizedShort pastLimit stray strays misplaces sameMember sameId repeats listed unlisted refusal first with after
-    unless judge check filterMap Option·elim read entries asGroup asMember asRule versionOf timeOf table tableOf lists
+    unless judge check filterMap Option·elim read entries asGroup asMember asRule table tableOf lists
     badUser wild definite holds meets covers conflict clashes agrees agree meld join definites better earlier prefer
     candidate choose concerns applies matches decider action permits fits opposes word answer tree badMode badOrigin
     unspelled requestRefusal spelled request decidedBy pathAnswer pathVerdict spread treeAnswer treeVerdict empty begins ends pattern.matches examples

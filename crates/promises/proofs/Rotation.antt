@@ -14,9 +14,9 @@ use Rattle.table.specs.declared.Checked.{Checked}
 use Rattle.table.specs.declared.Checked.the-variants.{Accepted, Refused}
 use Rattle.rotation.specs.State.{slotStart, candidateSlot}
 use Rattle.rotation.specs.Calls.{started, uploaded, finalized, closed, stepped, start, upload, storedBy, uploadStore, finalize, close}
-use Rattle.rotation.specs.Machine.{Call, Start, Upload, Finalize, Close, Machine, lacking, machineRefusal, machineNext, machineForce, Lent, machineOf, Whole, offered, machineAnswer, machineStep, answers, leaves, Follows, end, machineEnd}
+use Rattle.rotation.specs.Machine.{Call, Start, Upload, Finalize, Close, Machine, lacking, machineRefusal, machineNext, Lent, machineOf, Whole, offered, machineAnswer, machineStep, answers, leaves, Follows, end}
 use Rattle.rotation.specs.declared.Record.{Record}
-use Rattle.rotation.proofs.Follows.{stepped-answer, follows, same-end, same-force}
+use Rattle.rotation.proofs.Follows.{stepped-answer, follows, machineEnd, same-end, machineForce, same-force}
 use Rattle.upload.specs.Offered.{offeredCheck}
 use Rattle.upload.proofs.Offered.{never, offered-short}
 use Rattle.promises.specs.Rotation as promise

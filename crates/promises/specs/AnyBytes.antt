@@ -17,6 +17,7 @@ use Rattle.policy_text.specs.Answer.{checkOf}
 use Rattle.rpc.specs.Call.{rpcVerdict}
 use Rattle.rotation.specs.Calls.{start, upload, uploadStore, finalize, close}
 use Rattle.rotation.specs.declared.Record.{Record}
+use Rattle.rotation.specs.declared.Stepped.{Stepped}
 use Rattle.upload.specs.Offered.{offeredCheck}
 use Rattle.probe.specs.Probe.{probePath, probeTree}
 use Rattle.probe.specs.Rpc.{probeRpc}
@@ -40,73 +41,47 @@ pub data PublicCall : Type 0 where
   ProbeTree : (rec : Record) (store user : Str) (mode : ℕ) (origin path : Str) → PublicCall
   ProbeRpc : (rec : Record) (store identity path headers : Str) → PublicCall
 
--- the word that it answers
-unfoldable pub word : PublicCall → ℕ
-word (PathRead text out) = filledWord (answer out (bytesFor text))
-word (PathWrite bytes out) = filledWord (answer out (textFor bytes))
-word (TableCheck table) = checkedWord (check table)
-word (GroupCount table user) = countedWord (groupCount table user)
-word (PathVerdict table user mode origin path) = pathWord (pathVerdict table user mode origin path)
-word (TreeVerdict table user mode origin path) = treeWord (treeVerdict table user mode origin path)
-word (PolicyCheck policy) = policyWord (checkOf (judgement policy))
-word (RpcVerdict policy identity path headers) = rpcWord (rpcVerdict policy identity path headers)
-word (Start rec store) = checkedWord (start rec (length store) .answer)
-word (Upload rec store text) = checkedWord (upload offeredCheck rec (length store) text .answer)
-word (Finalize rec store) = checkedWord (finalize rec (length store) .answer)
-word (Close rec store) = checkedWord (close rec (length store) .answer)
-word (ProbePath rec store user mode origin path) = pathWord (probePath rec store user mode origin path)
-word (ProbeTree rec store user mode origin path) = treeWord (probeTree rec store user mode origin path)
-word (ProbeRpc rec store identity path headers) = rpcProbeWord (probeRpc rec store identity path headers)
+-- the word that a call answers, and what is lent to it to store to, before it and after it: the record, if there is one, and the bytes of the
+-- buffer or the store
+pub record Outcome : Type 0 where
+  pub word : ℕ
+  pub before : Option Record × Str
+  pub after : Option Record × Str
 
--- what is lent: the record, if there is one, and the bytes of the buffer or the store
-pub record Lending : Type 0 where
-  pub state : Option Record
-  pub bytes : Str
+-- everything lent is only read
+abbrev reading : ℕ → Outcome
+reading word = record { word = word; before = (none, []); after = (none, []) }
 
--- nothing but what is only read
-abbrev nothing : Lending
-nothing = record { state = none; bytes = [] }
+-- a buffer is lent for a path result
+abbrev filling : Str → Option Str → Outcome
+filling out result = record { word = filledWord (answer out result); before = (none, out); after = (none, lent out result) }
 
--- as it is lent
-unfoldable pub before : PublicCall → Lending
-before (PathRead text out) = record { state = none; bytes = out }
-before (PathWrite bytes out) = record { state = none; bytes = out }
-before (TableCheck table) = nothing
-before (GroupCount table user) = nothing
-before (PathVerdict table user mode origin path) = nothing
-before (TreeVerdict table user mode origin path) = nothing
-before (PolicyCheck policy) = nothing
-before (RpcVerdict policy identity path headers) = nothing
-before (Start rec store) = record { state = some rec; bytes = store }
-before (Upload rec store text) = record { state = some rec; bytes = store }
-before (Finalize rec store) = record { state = some rec; bytes = store }
-before (Close rec store) = record { state = some rec; bytes = store }
-before (ProbePath rec store user mode origin path) = nothing
-before (ProbeTree rec store user mode origin path) = nothing
-before (ProbeRpc rec store identity path headers) = nothing
+-- the record and the store are lent; the store is left as `left`
+abbrev stepping : Record → Str → Stepped → Str → Outcome
+stepping rec store step left = record { word = checkedWord (step .answer); before = (some rec, store); after = (some (step .next), left) }
 
--- as the call leaves it
-unfoldable pub after : PublicCall → Lending
-after (PathRead text out) = record { state = none; bytes = lent out (bytesFor text) }
-after (PathWrite bytes out) = record { state = none; bytes = lent out (textFor bytes) }
-after (TableCheck table) = nothing
-after (GroupCount table user) = nothing
-after (PathVerdict table user mode origin path) = nothing
-after (TreeVerdict table user mode origin path) = nothing
-after (PolicyCheck policy) = nothing
-after (RpcVerdict policy identity path headers) = nothing
-after (Start rec store) = record { state = some (start rec (length store) .next); bytes = store }
-after (Upload rec store text) = record { state = some (upload offeredCheck rec (length store) text .next); bytes = uploadStore offeredCheck rec store text }
-after (Finalize rec store) = record { state = some (finalize rec (length store) .next); bytes = store }
-after (Close rec store) = record { state = some (close rec (length store) .next); bytes = store }
-after (ProbePath rec store user mode origin path) = nothing
-after (ProbeTree rec store user mode origin path) = nothing
-after (ProbeRpc rec store identity path headers) = nothing
+-- by the definitions that the contract of each call names
+unfoldable pub outcome : PublicCall → Outcome
+outcome (PathRead text out) = filling out (bytesFor text)
+outcome (PathWrite bytes out) = filling out (textFor bytes)
+outcome (TableCheck table) = reading (checkedWord (check table))
+outcome (GroupCount table user) = reading (countedWord (groupCount table user))
+outcome (PathVerdict table user mode origin path) = reading (pathWord (pathVerdict table user mode origin path))
+outcome (TreeVerdict table user mode origin path) = reading (treeWord (treeVerdict table user mode origin path))
+outcome (PolicyCheck policy) = reading (policyWord (checkOf (judgement policy)))
+outcome (RpcVerdict policy identity path headers) = reading (rpcWord (rpcVerdict policy identity path headers))
+outcome (Start rec store) = stepping rec store (start rec (length store)) store
+outcome (Upload rec store text) = stepping rec store (upload offeredCheck rec (length store) text) (uploadStore offeredCheck rec store text)
+outcome (Finalize rec store) = stepping rec store (finalize rec (length store)) store
+outcome (Close rec store) = stepping rec store (close rec (length store)) store
+outcome (ProbePath rec store user mode origin path) = reading (pathWord (probePath rec store user mode origin path))
+outcome (ProbeTree rec store user mode origin path) = reading (treeWord (probeTree rec store user mode origin path))
+outcome (ProbeRpc rec store identity path headers) = reading (rpcProbeWord (probeRpc rec store identity path headers))
 
 -- a word with a number in bits 0 to 7 is a refusal
 abbrev pub Refuses : PublicCall → Type 0
-Refuses c = word c % 2 ^ 8 ≡ 0 → ⊥
+Refuses c = outcome c .word % 2 ^ 8 ≡ 0 → ⊥
 
 -- the demand
 abbrev pub AnyBytes : Type 0
-AnyBytes = (c : PublicCall) → Refuses c → after c ≡ before c
+AnyBytes = (c : PublicCall) → Refuses c → outcome c .after ≡ outcome c .before

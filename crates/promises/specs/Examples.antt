@@ -6,7 +6,7 @@ use mathlib.Core.Bool.{Bool, true, false}
 use mathlib.Core.List.{List, [], _∷_, _++_}
 use Rattle.text.specs.String.{Str, bytes}
 use Rattle.path.specs.Path.{Key, Elem, Path}
-use Rattle.table.specs.Table.{Member, Rule}
+use Rattle.table.specs.Table.{Member, Rule, Table}
 use Rattle.verdict.specs.Verdict.{decider}
 use Rattle.verdict_text.specs.Calls.{decidedBy, pathVerdict, treeVerdict}
 use Rattle.verdict_text.specs.declared.PathAnswer.{PathAnswer}
@@ -21,10 +21,6 @@ pub data Answer : Type 0 where
   verdict : PathAnswer → Answer
   tree : TreeAnswer → Answer
   matched : Bool → Answer
-
-pub record Example : Type 0 where
-  pub given : Answer
-  pub expected : Answer
 
 -- by the rule of this number
 abbrev permitBy : ℕ → Answer
@@ -72,20 +68,13 @@ denies = false
 member : String → Member
 member g = record { group = bytes g; user = bytes "stevie" }
 
--- "In A to D he asks for N[name=DEFAULT]Q[identifier=BGP]": the verdict on a table of two rules
+-- his groups, and two rules
+twoRules : Rule → Rule → Table
+twoRules r s = record { groups = bytes "admin" ∷ bytes "engineers" ∷ []; members = member "admin" ∷ member "engineers" ∷ []; rules = r ∷ s ∷ [] }
+
+-- "In A to D he asks for N[name=DEFAULT]Q[identifier=BGP]"
 stevie : Rule → Rule → Answer
-stevie r s =
-    verdict
-    (decidedBy
-    (decider
-    record {
-      version = [];
-      time = [];
-      groups = bytes "admin" ∷ bytes "engineers" ∷ [];
-      members = member "admin" ∷ member "engineers" ∷ [];
-      rules = r ∷ s ∷ [];
-    }
-    record { user = bytes "stevie"; mode = 1; origin = []; path = nq "DEFAULT" "BGP" }))
+stevie r s = verdict (decidedBy (decider (twoRules r s) (record { user = bytes "stevie"; mode = 1; origin = []; path = nq "DEFAULT" "BGP" })))
 
 -- ---- E to K: "this table, whole"
 
@@ -104,39 +93,35 @@ treeOf user mode text = tree (treeVerdict small (bytes user) mode [] (bytes text
 
 -- ---- the table
 
-infix 5 _⇒_
-_⇒_ : Answer → Answer → Example
-given ⇒ expected = record { given = given; expected = expected }
-
--- proofs/Examples has the one statement: what is given is what is expected, from the first to the last
-unfoldable pub examples : List Example
-unfolding key elem nq rule user group permits denies member stevie line small pathOf treeOf _⇒_
+-- what is asked, and the answer of the rules; proofs/Examples has the one statement: the first of each pair is the second
+unfoldable pub examples : List (Answer × Answer)
+unfolding key elem nq rule user group permits denies member twoRules stevie line small pathOf treeOf
 examples =
     -- A: admin permits; stevie denied on N[name=*]Q[identifier=BGP]
-    (stevie (rule permits group "admin" "1" (nq "DEFAULT" "BGP")) (rule denies user "stevie" "2" (nq "*" "BGP")) ⇒ permitBy 0)
+    (stevie (rule permits group "admin" "1" (nq "DEFAULT" "BGP")) (rule denies user "stevie" "2" (nq "*" "BGP")), permitBy 0)
     -- B: stevie permits, admin denies
-    ∷ (stevie (rule permits user "stevie" "1" (nq "DEFAULT" "BGP")) (rule denies group "admin" "2" (nq "DEFAULT" "BGP")) ⇒ permitBy 0)
+    ∷ (stevie (rule permits user "stevie" "1" (nq "DEFAULT" "BGP")) (rule denies group "admin" "2" (nq "DEFAULT" "BGP")), permitBy 0)
     -- C: stevie permits on N[name=DEFAULT]Q[identifier=*], stevie denied on N[name=*]Q[identifier=BGP]
-    ∷ (stevie (rule permits user "stevie" "1" (nq "DEFAULT" "*")) (rule denies user "stevie" "2" (nq "*" "BGP")) ⇒ denyBy 1)
+    ∷ (stevie (rule permits user "stevie" "1" (nq "DEFAULT" "*")) (rule denies user "stevie" "2" (nq "*" "BGP")), denyBy 1)
     -- D: admin permits, engineers denies
-    ∷ (stevie (rule permits group "admin" "1" (nq "DEFAULT" "BGP")) (rule denies group "engineers" "2" (nq "DEFAULT" "BGP")) ⇒ denyBy 1)
+    ∷ (stevie (rule permits group "admin" "1" (nq "DEFAULT" "BGP")) (rule denies group "engineers" "2" (nq "DEFAULT" "BGP")), denyBy 1)
     -- E
-    ∷ (pathOf "u" 1 "/a/b" ⇒ permitBy 0)
+    ∷ (pathOf "u" 1 "/a/b", permitBy 0)
     -- F
-    ∷ (pathOf "u" 1 "/ab" ⇒ byDefault)
+    ∷ (pathOf "u" 1 "/ab", byDefault)
     -- G
-    ∷ (pathOf "v" 1 "/a" ⇒ byDefault)
+    ∷ (pathOf "v" 1 "/a", byDefault)
     -- H
-    ∷ (pathOf "u" 1 "/a[k=9]" ⇒ permitBy 0)
+    ∷ (pathOf "u" 1 "/a[k=9]", permitBy 0)
     -- I
-    ∷ (pathOf "u" 1 "/" ⇒ byDefault)
-    ∷ (treeOf "u" 1 "/" ⇒ mixedBy 0)
+    ∷ (pathOf "u" 1 "/", byDefault)
+    ∷ (treeOf "u" 1 "/", mixedBy 0)
     -- J
-    ∷ (treeOf "u" 1 "/a" ⇒ tree All)
+    ∷ (treeOf "u" 1 "/a", tree All)
     -- K
-    ∷ (treeOf "u" 2 "/a" ⇒ tree None)
+    ∷ (treeOf "u" 2 "/a", tree None)
     -- L: pattern `*abc`
-    ∷ (matched (matches (bytes "*abc") (bytes "abc")) ⇒ matched true)
-    ∷ (matched (matches (bytes "*abc") (bytes "xabc")) ⇒ matched true)
-    ∷ (matched (matches (bytes "*abc") (bytes "abcx")) ⇒ matched false)
+    ∷ (matched (matches (bytes "*abc") (bytes "abc")), matched true)
+    ∷ (matched (matches (bytes "*abc") (bytes "xabc")), matched true)
+    ∷ (matched (matches (bytes "*abc") (bytes "abcx")), matched false)
     ∷ []

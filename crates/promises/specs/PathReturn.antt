@@ -7,7 +7,6 @@ use mathlib.Core.Path.{_≡_}
 use mathlib.Core.Bool.{true}
 use mathlib.Core.Option.{some}
 use lib.ListN.{length}
-use Rattle.limits.specs.Limits.{maxPathBytes, maxPathText}
 use Rattle.text.specs.String.{Str}
 use Rattle.path.specs.Path.{Path}
 use Rattle.path.specs.Bytes.{pathBytes}
@@ -31,5 +30,5 @@ pub record PathReturn : Type 0 where
   pub every-text : (p : Path) → goodPath p ≡ true → readText (pathText p) ≡ some p
   pub every-bytes : (p : Path) → goodPath p ≡ true → readBytes (pathBytes p) ≡ some p
   -- "The longest path bytes are 9,377, the longest path text 13,520." (A program builds a path that has both.)
-  pub longest-text : (p : Path) → goodPath p ≡ true → length (pathText p) ≤ maxPathText
-  pub longest-bytes : (p : Path) → goodPath p ≡ true → length (pathBytes p) ≤ maxPathBytes
+  pub longest-text : (p : Path) → goodPath p ≡ true → length (pathText p) ≤ 13520
+  pub longest-bytes : (p : Path) → goodPath p ≡ true → length (pathBytes p) ≤ 9377

@@ -9,7 +9,8 @@ use native.Mathlib.Omega.{arith}
 use borrow.Author.Tests.{eqb-true, ltb-true, ltb-false, le-leb, leb-false}
 use lib.Dec.{eqb, leb, ltb}
 use lib.ListN.{length, drop, getD, length-append, length-drop}
-use Rattle.limits.specs.Limits.{maxTableText, maxGroups, maxMembers, maxRules, maxShortString, maxString, maxReadableText}
+use Rattle.limits.specs.Limits.{maxTableText, maxGroups, maxMembers, maxRules, maxShortString, maxString}
+use Rattle.limits.specs.Sizes.{maxReadableText}
 use Rattle.text.specs.Test.{_or_, if_then_else_}
 use Rattle.text.specs.String.{Str, bytes, joined}
 use Rattle.text.specs.Frame.{got, unread, _>>=_, ret, byte, run, string, stringBytes}

@@ -6,7 +6,7 @@ use native.Mathlib.Omega.{arith}
 use borrow.Author.Tests.{le-leb}
 use lib.Dec.{leb}
 use lib.ListN.{length, take}
-use Rattle.limits.specs.Limits.{maxReadableText}
+use Rattle.limits.specs.Sizes.{maxReadableText}
 use Rattle.text.specs.Test.{if_then_else_}
 use Rattle.text.specs.String.{Str}
 use Rattle.text.specs.Fill.{put}

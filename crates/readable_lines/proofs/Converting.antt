@@ -9,12 +9,12 @@ use native.Mathlib.Omega.{arith}
 use borrow.Author.Tests.{eq-eqb, ne-eqb}
 use lib.ListN.{length, take, drop, getD, set, length-append, drop-of-length-le}
 use lib.Seq.{drop-cons}
-use Rattle.limits.specs.Limits.{maxReadableLine}
+use Rattle.limits.specs.Sizes.{maxReadableLine}
 use Rattle.text.specs.Test.{if_then_else_, all}
 use Rattle.text.specs.Byte.{isPrint}
 use Rattle.text.specs.String.{Str, bytes}
 use Rattle.text.specs.Frame.{Parsed, got, unread, andThen, _>>=_, ret}
-use Rattle.text.specs.Fill.{Wrote}
+use Rattle.text.specs.Steps.{Wrote}
 use Rattle.text.proofs.Filling.{wrote-long, wrote-more, wrote-nothing, wrote-before}
 use Rattle.path_text.specs.declared.reader.Stored.{Stored}
 use Rattle.path_text.specs.declared.reader.Stored.the-variants.{To, Unread}

@@ -12,7 +12,8 @@ use lib.Seq.{take-at, drop-drop, getD-append-seam}
 use Rattle.text.specs.Test.{if_then_else_}
 use Rattle.text.specs.String.{Str}
 use Rattle.text.specs.Frame.{part}
-use Rattle.text.specs.Fill.{put, Wrote}
+use Rattle.text.specs.Fill.{put}
+use Rattle.text.specs.Steps.{Wrote}
 use Rattle.text.proofs.Tests.{by}
 use Rattle.text.proofs.Filling.{wrote-long, wrote-more, wrote-byte}
 use Rattle.text_search.specs.Search.{until, is}

@@ -6,7 +6,7 @@ use Prim.Native.Nat.{ℕ, _≤_, _<_}
 use native.Mathlib.Omega.{arith}
 use lib.ListN.{length, drop}
 use Rattle.text.specs.String.{Str}
-use Rattle.text.specs.Fill.{Wrote}
+use Rattle.text.specs.Steps.{Wrote}
 use Rattle.line.specs.Lines.{lines}
 use Rattle.path_text.specs.declared.reader.Stored.{Stored}
 use Rattle.path_text.specs.declared.reader.Stored.the-variants.{To, Unread}

@@ -2,7 +2,7 @@
 ghost use mathlib.Core.Path.{_≡_};
 ghost use Prim.Native.Nat.{_+_, _≤_};
 ghost use lib.ListN.{length};
-ghost use Rattle.limits.specs.Limits.{maxReadableLine};
+ghost use Rattle.limits.specs.Sizes.{maxReadableLine};
 ghost use Rattle.readable_parts.specs.Parts.{partOf};
 ghost use Rattle.readable_lines.specs.Form.{parts, formBy, shownFrame, kindBy, packedFrame};
 ghost use Rattle.readable_parts.specs.Steps.{longest, Puts};

@@ -7,7 +7,8 @@ use Prim.Native.Nat.{ℕ, _+_, _-_, _≤_, _<_}
 use native.Mathlib.Omega.{arith}
 use borrow.Author.Tests.{eq-eqb, ne-eqb, lt-ltb, le-ltb, le-leb, lt-leb, leb-true}
 use lib.ListN.{length, take, drop, getD, set, length-append, length-drop, drop-of-length-le}
-use Rattle.limits.specs.Limits.{maxString, maxStringBytes, maxQuoted}
+use Rattle.limits.specs.Limits.{maxString}
+use Rattle.limits.specs.Sizes.{maxStringBytes, maxQuoted}
 use Rattle.text.specs.Test.{_and_, if_then_else_}
 use Rattle.text.specs.String.{Str, same}
 use Rattle.text.specs.Frame.{got, unread, _>>=_, ret, part, stringBytes}

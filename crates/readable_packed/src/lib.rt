@@ -2,7 +2,7 @@
 ghost use mathlib.Core.Path.{_≡_};
 ghost use Prim.Native.Nat.{_+_, _≤_};
 ghost use lib.ListN.{length};
-ghost use Rattle.limits.specs.Limits.{maxQuoted};
+ghost use Rattle.limits.specs.Sizes.{maxQuoted};
 ghost use Rattle.readable_parts.specs.Parts.{packed, partOf, standsAt, packedString, packedTime, packedCode};
 ghost use Rattle.readable_parts.specs.Steps.{Puts, longest};
 use line::Line;

@@ -5,7 +5,7 @@ use Prim.Native.Nat.{ℕ, _+_, _*_, _/_, _%_, _≤_, _<_}
 use native.Mathlib.Omega.{arith}
 use lib.ListN.{length, drop, getD, set}
 use Rattle.text.specs.String.{Str, joined}
-use Rattle.text.specs.Fill.{Wrote}
+use Rattle.text.specs.Steps.{Wrote}
 use Rattle.text.proofs.Filling.{Pending, fill-start, fill-set, fill-byte, wrote}
 use Rattle.path_write.proofs.Writing.{joined-here, joined-end}
 use Rattle.readable_parts.specs.Parts.{hexDigit, hexPair, hexText}

@@ -5,11 +5,12 @@ use Prim.Native.Nat.{ℕ, _+_, _-_, _≤_, _<_}
 use native.Mathlib.Omega.{arith}
 use borrow.Author.Tests.{eq-eqb, ne-eqb, le-leb, lt-leb}
 use lib.ListN.{length, drop, getD, set, length-append, length-drop}
-use Rattle.limits.specs.Limits.{maxString, maxPathText, maxQuoted}
+use Rattle.limits.specs.Limits.{maxString}
+use Rattle.limits.specs.Sizes.{maxPathText, maxQuoted}
 use Rattle.text.specs.Test.{if_then_else_}
 use Rattle.text.specs.String.{Str, joined}
-use Rattle.text.specs.Frame.{got, unread, Reader, _>>=_, ret, part, string, endOf}
-use Rattle.text.specs.Fill.{Wrote}
+use Rattle.text.specs.Frame.{got, unread, Reader, _>>=_, ret, part, string}
+use Rattle.text.specs.Steps.{Wrote, endOf}
 use Rattle.text.specs.declared.frame.End.{End}
 use Rattle.text.specs.declared.frame.End.the-variants as ends
 use Rattle.text.proofs.Frames.{byte-got, byte-unread, string-ends, string-misses}

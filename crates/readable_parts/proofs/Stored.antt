@@ -7,7 +7,8 @@ use lib.ListN.{length, take}
 use lib.Seq.{take-at}
 use Rattle.text.specs.String.{Str}
 use Rattle.text.specs.Frame.{got, unread, Reader}
-use Rattle.text.specs.Fill.{put, Wrote}
+use Rattle.text.specs.Fill.{put}
+use Rattle.text.specs.Steps.{Wrote}
 use Rattle.path_text.specs.declared.reader.Stored.{Stored}
 use Rattle.path_text.specs.declared.reader.Stored.the-variants.{To, Unread}
 use Rattle.readable_parts.specs.Steps.{Puts, puts, stops}

@@ -6,11 +6,11 @@ use mathlib.Core.List.{List}
 use mathlib.Core.Option.{Option}
 use lib.Dec.{eqb}
 use lib.ListN.{length}
-use Rattle.limits.specs.Limits.{maxPathText, maxQuoted}
+use Rattle.limits.specs.Sizes.{maxPathText, maxQuoted}
 use Rattle.text.specs.Test.{if_then_else_}
 use Rattle.text.specs.String.{Str}
 use Rattle.text.specs.Frame.{got, unread, Reader}
-use Rattle.text.specs.Fill.{Wrote}
+use Rattle.text.specs.Steps.{Wrote}
 use Rattle.path_text.specs.Calls.{bytesFor, textFor}
 use Rattle.path_text.specs.declared.reader.Stored.{Stored}
 use Rattle.path_text.specs.declared.reader.Stored.the-variants as stored

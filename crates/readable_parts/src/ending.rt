@@ -1,8 +1,8 @@
 // The path with which a frame or a line ends. `pack` says which: of path text its bytes are made, or of path bytes their text.
 ghost use Prim.Native.Nat.{_+_, _≤_};
 ghost use lib.ListN.{length};
-ghost use Rattle.limits.specs.Limits.{maxPathText};
-ghost use Rattle.path_text.specs.Calls.{Delivers};
+ghost use Rattle.limits.specs.Sizes.{maxPathText};
+ghost use Rattle.path_text.specs.Steps.{Delivers};
 ghost use Rattle.readable_parts.specs.Parts.{ofRest};
 ghost use Rattle.readable_parts.specs.Steps.{Puts, pathFor};
 use path_text::Filled;

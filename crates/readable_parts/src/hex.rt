@@ -2,7 +2,7 @@
 ghost use mathlib.Core.Path.{_≡_};
 ghost use Prim.Native.Nat.{_+_, _≤_, _<_};
 ghost use lib.ListN.{length};
-ghost use Rattle.text.specs.Fill.{Wrote};
+ghost use Rattle.text.specs.Steps.{Wrote};
 ghost use Rattle.readable_parts.specs.Parts.{hexDigit, hexText};
 
 fn hex_digit(n: u8) -> u8

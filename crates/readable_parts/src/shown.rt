@@ -1,7 +1,7 @@
 // The parts of a frame, as text: each function stores the text of the part at `at` of f into out from `to` on.
 ghost use Prim.Native.Nat.{_+_, _≤_};
 ghost use lib.ListN.{length};
-ghost use Rattle.limits.specs.Limits.{maxQuoted};
+ghost use Rattle.limits.specs.Sizes.{maxQuoted};
 ghost use Rattle.readable_parts.specs.Parts.{shown, partOf, shownString, shownTime, shownCode};
 ghost use Rattle.readable_parts.specs.Steps.{Puts, longest};
 use path_text::reader::Stored;

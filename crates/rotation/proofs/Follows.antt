@@ -20,7 +20,7 @@ use Rattle.table.specs.declared.Checked.{Checked}
 use Rattle.table.specs.declared.Checked.the-variants.{Accepted, Refused}
 use Rattle.rotation.specs.State.{noLength, given, off, on, shortStore, badKind, badSlot, badLength, badRecord, recordRefusal, slotStart, candidateSlot, textIn, inForce, atRest}
 use Rattle.rotation.specs.Calls.{startRefusal, offRefusal, noCandidate, finalizeRefusal, started, uploaded, finalized, closed, stepped, start, uploadAnswer, upload, storedBy, uploadStore, finalize, close}
-use Rattle.rotation.specs.Machine.{Call, Start, Upload, Finalize, Close, Machine, lacking, machineRefusal, machineNext, machineForce, Lent, heldText, machineOf, forceText, Whole, offered, machineAnswer, machineStep, answers, leaves, Follows, end, machineEnd}
+use Rattle.rotation.specs.Machine.{Call, Start, Upload, Finalize, Close, Machine, lacking, machineRefusal, machineNext, Lent, heldText, machineOf, forceText, Whole, offered, machineAnswer, machineStep, answers, leaves, Follows, end}
 use Rattle.rotation.specs.declared.Record.{Record}
 use Rattle.rotation.proofs.Slots.{put-own, put-first, put-second}
 
@@ -333,6 +333,12 @@ module _ (check : ℕ → Str → Checked) (short : (kind : ℕ) (text : Str) �
       whole = upload-whole;
     }
 
+module _ (check : ℕ → Str → Checked) where
+  -- the machine after any number of calls
+  unfoldable pub machineEnd : List Call → Machine → Machine
+  machineEnd [] m = m
+  machineEnd (c ∷ cs) m = machineEnd cs (machineStep check c m)
+
 module _ (check : ℕ → Str → Checked) (short : (kind : ℕ) (text : Str) → check kind text ≡ Accepted → length text ≤ slotLength) where
   pub follows : (c : Call) (l : Lent) → Whole l → Follows check c l
   follows Start l w = follows-start check short l w
@@ -346,7 +352,10 @@ module _ (check : ℕ → Str → Checked) (short : (kind : ℕ) (text : Str) �
   same-end [] l w = (refl, w)
   same-end (c ∷ cs) l w = let f = follows c l w in let g = same-end cs (leaves check c l) (f .whole) in (g .0 ∙ ap (machineEnd check cs) (f .same-next), g .1)
 
--- what is in force is the machine's candidate, else its live text, else none
+-- what is in force: "the candidate, else the live text", else none
+unfoldable pub machineForce : Machine → Option Str
+machineForce m = if lacking (m .candidate) then m .live else m .candidate
+
 pub same-force : (l : Lent) → forceText (l .store) (inForce (l .state)) ≡ machineForce (machineOf l)
 unfolding forceText inForce machineForce machineOf lacking heldText if_then_else_
 same-force l =

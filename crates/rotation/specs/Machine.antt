@@ -50,10 +50,6 @@ machineNext (Upload text) m = record { kind = m .kind; live = m .live; candidate
 machineNext Finalize m = record { kind = m .kind; live = m .candidate; candidate = none; rotating = false }
 machineNext Close m = record { kind = m .kind; live = m .live; candidate = none; rotating = false }
 
--- "the candidate, else the live text", else none
-unfoldable pub machineForce : Machine → Option Str
-machineForce m = if lacking (m .candidate) then m .live else m .candidate
-
 -- ---- record and store
 
 -- what is lent to a call
@@ -122,7 +118,3 @@ module _ (check : ℕ → Str → Checked) where
   unfoldable pub end : List Call → Lent → Lent
   end [] l = l
   end (c ∷ cs) l = end cs (leaves c l)
-
-  unfoldable pub machineEnd : List Call → Machine → Machine
-  machineEnd [] m = m
-  machineEnd (c ∷ cs) m = machineEnd cs (machineStep c m)

@@ -13,7 +13,8 @@ use Rattle.limits.specs.Limits.{maxHeaderLines}
 use Rattle.text.specs.Test.{_and_, if_then_else_, only}
 use Rattle.text.specs.String.{Str}
 use Rattle.text.specs.Frame.{part}
-use Rattle.text.specs.Fill.{put, Wrote}
+use Rattle.text.specs.Fill.{put}
+use Rattle.text.specs.Steps.{Wrote}
 use Rattle.text.proofs.Tests.{by, clash}
 use Rattle.text.proofs.Frames.{no-part}
 use Rattle.text.proofs.Filling.{wrote-long}

@@ -11,7 +11,8 @@ use borrow.Author.Tests.{eq-eqb}
 use Rattle.text.specs.Test.{if_then_else_, only}
 use Rattle.text.specs.String.{Str, same}
 use Rattle.text.specs.Frame.{part}
-use Rattle.text.specs.Fill.{put, Wrote}
+use Rattle.text.specs.Fill.{put}
+use Rattle.text.specs.Steps.{Wrote}
 use Rattle.text.proofs.Tests.{by, clash, same→≡}
 use Rattle.text.proofs.Filling.{wrote-before, wrote-nothing, put-length}
 use Rattle.rpc.specs.Request.{Line, cutAt, lineOf, readable, joined, valuesOf}

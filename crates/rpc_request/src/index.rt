@@ -4,7 +4,7 @@ ghost use mathlib.Core.Bool.{true};
 ghost use mathlib.Core.Option.{some};
 ghost use Prim.Native.Nat.{_+_, _≤_, _<_};
 ghost use lib.ListN.{length};
-ghost use Rattle.text.specs.Fill.{Wrote};
+ghost use Rattle.text.specs.Steps.{Wrote};
 ghost use Rattle.rpc.specs.Request.{Line, cutAt, lineOf, readable};
 ghost use Rattle.rpc_request.specs.Steps.{lineValue, Joined};
 ghost use Rattle.rpc_request.specs.Index.{bucketCount, bucketOf, Blank, Indexed, Ready};

@@ -12,7 +12,7 @@ use Rattle.path.specs.Faults.{unsized, keyOver, elemOver, overLimit, outsideNam
 use Rattle.line.specs.Lines.{onto, lines, pair, pairs, nonempty, frame}
 use Rattle.table.specs.Frame.{unknown, code, versionBody, groupBody, memberBody, ruleBody, ruleEntry, body, entry, whole, entryOf}
 use Rattle.table.specs.Refusal.{framed, decoded, lineOf, kindOf, outOfOrder, unsizedShort, pastLimit, stray, strays, misplaces, sameMember, sameId, repeats, listed, unlisted, refusal, first, with, after}
-use Rattle.table.specs.Text.{unless, judge, check, read, entries, asGroup, asMember, asRule, versionOf, timeOf, table, tableOf}
+use Rattle.table.specs.Text.{unless, judge, check, read, entries, asGroup, asMember, asRule, table, tableOf}
 use Rattle.table.specs.Group.{lists, numbered, memberships, groupsOf, counted, badUser, countFor, groupCount}
 use Rattle.table.specs.declared.Checked.{Checked}
 use Rattle.table.specs.declared.Checked.the-variants.{Accepted, Refused}
@@ -103,6 +103,6 @@ unfolding count counts _and_ _or_ if_then_else_ all any twice same _>>=_ ret byt
     elemMisplaced misplaced keyTwice onto lines pair pairs nonempty frame unknown code versionBody groupBody memberBody
     ruleBody ruleEntry body entry whole entryOf framed decoded lineOf kindOf outOfOrder unsizedShort pastLimit stray
     strays misplaces sameMember sameId repeats listed unlisted refusal first with after unless judge check checkWord
-    filterMap Option·elim read entries asGroup asMember asRule versionOf timeOf table tableOf lists numbered memberships
+    filterMap Option·elim read entries asGroup asMember asRule table tableOf lists numbered memberships
     groupsOf counted badUser countFor groupCount countWord
 counted-right = refl

@@ -11,7 +11,7 @@ use Rattle.text.specs.Test.{_and_, _or_, if_then_else_}
 use Rattle.text.specs.String.{Str}
 use Rattle.text.specs.Frame.{got, unread, _>>=_, ret, part, string}
 use Rattle.text.proofs.Tests.{by, clash, and-left, and-right, or-is}
-use Rattle.text.specs.Frame.{endOf}
+use Rattle.text.specs.Steps.{endOf}
 use Rattle.text.specs.declared.frame.End.{End}
 use Rattle.text.specs.declared.frame.End.the-variants as ends
 use Rattle.text.proofs.Frames.{byte-got, byte-unread, string-ends, string-misses}
@@ -21,7 +21,7 @@ use Rattle.path_frame.specs.declared.Walk.the-variants as walks
 use Rattle.path_frame.proofs.Walks.{walked-to, walked-not}
 use Rattle.path.specs.Path.{Path}
 use Rattle.path.specs.Bytes.{path}
-use Rattle.path.specs.Faults.{pathRefusal}
+use Rattle.path.specs.Walk.{pathRefusal}
 use Rattle.table.specs.Table.{Rule}
 use Rattle.table.specs.Frame.{unknown, code, ruleBody, entryOf}
 use Rattle.table.specs.Walk.{RuleAt, RuleRead}

@@ -7,7 +7,8 @@ use lib.ListN.{length, getD}
 use Rattle.text.specs.Test.{all}
 use Rattle.text.specs.Byte.{isPrint}
 use Rattle.text.specs.String.{Str}
-use Rattle.text.specs.Frame.{string, endOf, part}
+use Rattle.text.specs.Frame.{string, part}
+use Rattle.text.specs.Steps.{endOf}
 use Rattle.text.specs.declared.frame.End.{End}
 use Rattle.text.specs.declared.frame.End.the-variants.{At, Unread}
 use Rattle.text.specs.Refusal.{clear}

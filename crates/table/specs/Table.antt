@@ -20,10 +20,8 @@ pub record Rule : Type 0 where
   pub origin : Str
   pub path : Path
 
--- "S version, 8 bytes creation time", then the groups, members and rules in text order
+-- the groups, members and rules in text order; the 01 line with version and creation time is judged, and nothing else is asked of it
 pub record Table : Type 0 where
-  pub version : Str
-  pub time : Str
   pub groups : List Str
   pub members : List Member
   pub rules : List Rule

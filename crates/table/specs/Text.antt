@@ -69,24 +69,9 @@ asRule (group n) = none
 asRule (member m) = none
 asRule (rule r) = some r
 
--- version and time, of the first entry
-unfoldable pub versionOf : List Entry → Str
-versionOf [] = []
-versionOf (version v t ∷ es) = v
-versionOf (group n ∷ es) = []
-versionOf (member m ∷ es) = []
-versionOf (rule r ∷ es) = []
-
-unfoldable pub timeOf : List Entry → Str
-timeOf [] = []
-timeOf (version v t ∷ es) = t
-timeOf (group n ∷ es) = []
-timeOf (member m ∷ es) = []
-timeOf (rule r ∷ es) = []
-
 -- "Rules and groups are numbered from 0 in text order."
 unfoldable pub table : List Entry → Table
-table es = record { version = versionOf es; time = timeOf es; groups = filterMap asGroup es; members = filterMap asMember es; rules = filterMap asRule es }
+table es = record { groups = filterMap asGroup es; members = filterMap asMember es; rules = filterMap asRule es }
 
 -- the table that an accepted text holds
 unfoldable pub tableOf : Str → Table

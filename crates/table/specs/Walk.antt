@@ -8,7 +8,7 @@ use lib.ListN.{length, getD}
 use Rattle.text.specs.String.{Str}
 use Rattle.text.specs.Refusal.{_when_else_, clear}
 use Rattle.text.specs.Frame.{got, part, string}
-use Rattle.path.specs.Faults.{pathRefusal}
+use Rattle.path.specs.Walk.{pathRefusal}
 use Rattle.table.specs.Table.{Rule}
 use Rattle.table.specs.Layout.{afterKind, frameSubjectKind, frameSubjectName}
 use Rattle.table.specs.Frame.{ruleBody, entryOf}

@@ -9,7 +9,8 @@ use lib.ListN.{length, drop, getD, length-drop}
 use lib.Seq.{take-append-le, drop-append-le}
 use Rattle.text.specs.Test.{if_then_else_}
 use Rattle.text.specs.String.{Str}
-use Rattle.text.specs.Frame.{Parsed, got, unread, andThen, Reader, _>>=_, ret, byte, part, run, string, times, endOf}
+use Rattle.text.specs.Frame.{Parsed, got, unread, andThen, Reader, _>>=_, ret, byte, part, run, string, times}
+use Rattle.text.specs.Steps.{endOf}
 use Rattle.text.specs.declared.frame.End.{End}
 use Rattle.text.specs.declared.frame.End.the-variants.{At, Unread}
 use Rattle.text.proofs.Tests.{by}

@@ -5,8 +5,6 @@ use lib.ListN.{length, take, drop, getD}
 use lib.Dec.{leb, ltb}
 use Rattle.text.specs.Test.{if_then_else_}
 use Rattle.text.specs.String.{Str}
-use Rattle.text.specs.declared.frame.End.{End}
-use Rattle.text.specs.declared.frame.End.the-variants.{At, Unread}
 
 -- a value, and where it ends
 pub data Parsed (A : Type 0) : Type 0 where
@@ -60,8 +58,3 @@ times (suc n) r = do
   x ← r
   xs ← times n r
   ret (x ∷ xs)
-
--- where a reading ends, as programs answer it
-unfoldable pub endOf : {A : Type 0} → Parsed A → End
-endOf (got a t) = At t
-endOf unread = Unread

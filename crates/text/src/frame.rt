@@ -1,6 +1,7 @@
 // Reading a frame by position.
 ghost use mathlib.Core.Path.{_≡_};
-ghost use Rattle.text.specs.Frame.{string, endOf};
+ghost use Rattle.text.specs.Frame.{string};
+ghost use Rattle.text.specs.Steps.{endOf};
 
 // Where what was read ends, which is where reading goes on; or the frame is too short.
 pub enum End {

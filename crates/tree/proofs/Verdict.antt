@@ -8,7 +8,7 @@ use Rattle.table.specs.Table.{Rule, Table}
 use Rattle.verdict.specs.Join.{agree, join}
 use Rattle.verdict.specs.Order.{better, earlier, choose}
 use Rattle.verdict.specs.Verdict.{Request, at, applies, matches, decider, action, permits, fits, opposes}
-use Rattle.verdict.specs.Laws.{Orderly}
+use Rattle.verdict.specs.Orderly.{Orderly}
 use Rattle.verdict.proofs.Paths.{covers-both, covered-agree, covers-join-right, join-once}
 use Rattle.judge.proofs.Verdict.{choose-alike}
 use Rattle.tree.specs.Tree.{fitting, matchingBoth, permitsBoth, opposing}

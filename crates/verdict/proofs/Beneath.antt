@@ -14,7 +14,8 @@ use Rattle.verdict.specs.Cover.{covers}
 use Rattle.verdict.specs.Join.{agree, join}
 use Rattle.verdict.specs.Order.{better, earlier, Numbered, choose}
 use Rattle.verdict.specs.Verdict.{Request, at, applies, matches, decider, action, permits, fits, opposes, ALL, NONE, MIXED, word, answer, tree}
-use Rattle.verdict.specs.Laws.{Orderly, Everywhere}
+use Rattle.verdict.specs.Laws.{Everywhere}
+use Rattle.verdict.specs.Orderly.{Orderly}
 use Rattle.verdict.proofs.Order.{better-order, earlier-order}
 use Rattle.verdict.proofs.Choose.{Wins, Chosen, chosen, tied-same}
 use Rattle.verdict.proofs.Paths.{covers-refl, covers-trans, covered-agree, join-covers, covers-join-left, covers-join-right, join-once}

@@ -13,7 +13,8 @@ use Rattle.verdict.specs.Join.{join}
 use Rattle.verdict.specs.Order.{Numbered}
 use Rattle.verdict.specs.Verdict.{Request, at, concerns, applies, matches, decider, action, permits, fits, opposes, answer, tree}
 use Rattle.table.specs.Refusal.{sameId}
-use Rattle.verdict.specs.Laws.{Orderly, Reordered, idOf, byId, mixed}
+use Rattle.verdict.specs.Laws.{Reordered, idOf, byId, mixed}
+use Rattle.verdict.specs.Orderly.{Orderly}
 use Rattle.verdict.proofs.Twice.{first-alone, rest-alone, →alone}
 use Rattle.verdict.proofs.Order.{Order, better-order, earlier-order}
 use Rattle.verdict.proofs.Choose.{Chosen, chosen, tied-same, same-id-turned}

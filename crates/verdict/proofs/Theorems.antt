@@ -13,7 +13,8 @@ use Rattle.table.specs.Table.{Rule, Table}
 use Rattle.verdict.specs.Order.{better, earlier, Numbered, choose}
 use Rattle.verdict.specs.Verdict.{Request, matches, decider, permits, opposes, MIXED, word, answer, tree}
 use Rattle.table.specs.Refusal.{sameId}
-use Rattle.verdict.specs.Laws.{Orderly, Best, Decided, Everywhere, TreeVerdict, Reordered, SameAnswers}
+use Rattle.verdict.specs.Laws.{Best, Decided, Everywhere, TreeVerdict, Reordered, SameAnswers}
+use Rattle.verdict.specs.Orderly.{Orderly}
 use Rattle.verdict.proofs.Twice.{first-alone, rest-alone}
 use Rattle.verdict.proofs.Order.{Order, better-order}
 use Rattle.verdict.proofs.Choose.{Chosen, numbered, tied-same}

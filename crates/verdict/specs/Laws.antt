@@ -5,20 +5,14 @@ use mathlib.Core.Bool.{Bool, true, false}
 use mathlib.Core.List.{List·Permᴰ}
 use mathlib.Core.Option.{Option, none, some}
 use lib.ListN.{getElem?}
-use Rattle.text.specs.Test.{_∈_, twice}
+use Rattle.text.specs.Test.{_∈_}
 use Rattle.text.specs.String.{Str}
 use Rattle.path.specs.Path.{Path}
 use Rattle.path.specs.Faults.{keyTwice}
 use Rattle.table.specs.Table.{Rule, Table}
-use Rattle.table.specs.Refusal.{sameId}
 use Rattle.verdict.specs.Cover.{covers}
 use Rattle.verdict.specs.Order.{better, earlier, Numbered}
 use Rattle.verdict.specs.Verdict.{Request, at, matches, decider, permits, opposes, Tree, ALL, NONE, MIXED, tree}
-
--- what every accepted table has: no rule id twice, and no key twice in an element
-pub record Orderly (t : Table) : Type 0 where
-  pub ids : twice sameId (t .rules) ≡ false
-  pub keys : (r : Rule) → r ∈ t .rules → keyTwice (r .path) ≡ false
 
 -- ---- the single-path verdict
 

@@ -4,4 +4,5 @@ pub mod Pair
 pub mod Order
 pub mod Rank
 pub mod Verdict
+pub mod Orderly
 pub mod Laws

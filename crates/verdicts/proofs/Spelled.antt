@@ -9,7 +9,7 @@ use borrow.Author.Tests.{ne-eqb, le-leb}
 use lib.Dec.{leb}
 use lib.ListN.{length, take, length-append}
 use lib.Seq.{take-at}
-use Rattle.limits.specs.Limits.{maxPathBytes}
+use Rattle.limits.specs.Sizes.{maxPathBytes}
 use Rattle.text.specs.Test.{_or_, if_then_else_}
 use Rattle.text.specs.String.{Str}
 use Rattle.text.specs.Fill.{put}

@@ -9,7 +9,7 @@ use Rattle.table.specs.Table.{Table}
 use Rattle.table.specs.Group.{lists}
 use Rattle.table.specs.declared.Checked.the-variants.{Accepted}
 use Rattle.verdict.specs.Verdict.{decider, tree}
-use Rattle.verdict.specs.Laws.{Orderly}
+use Rattle.verdict.specs.Orderly.{Orderly}
 use Rattle.judge.specs.Rules.{ruleIn, rulesIn}
 use Rattle.membership.specs.Set.{hasOf}
 use Rattle.verdict_text.specs.Calls.{requestRefusal, request, pathAnswer, treeAnswer}

@@ -6,7 +6,7 @@ use mathlib.Core.Bool.{true}
 use lib.ListN.{length-take, length-replicate}
 use lib.Seq.{length-take-le}
 use Prim.Native.Nat.{ℕ}
-use Rattle.limits.specs.Limits.{maxPathText}
+use Rattle.limits.specs.Sizes.{maxPathText}
 use Rattle.path_text.proofs.Answers.{unfit, filled}
 use Rattle.path_write.proofs.Texts.{text-good, text-fits}
 use Rattle.path_write.proofs.write_apart.Statement.{statement}

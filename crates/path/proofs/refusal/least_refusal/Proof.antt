@@ -1,6 +1,6 @@
 -- `leastRefusal` equals its definition.
 use Rattle.text.specs.Test.{if_then_else_}
-use Rattle.path.specs.Faults.{leastRefusal}
+use Rattle.path.specs.Walk.{leastRefusal}
 use Rattle.path.proofs.refusal.least_refusal.Statement.{statement}
 use Rattle.path.proofs.refusal.least_refusal.Tie as tie
 

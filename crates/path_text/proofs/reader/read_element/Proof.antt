@@ -2,7 +2,7 @@
 use borrow.Author.Needs.{needs}
 use native.Mathlib.Omega.{arith}
 use mathlib.Core.Path.{refl}
-use Rattle.limits.specs.Limits.{maxStringBytes, maxKeysBytes}
+use Rattle.limits.specs.Sizes.{maxStringBytes, maxKeysBytes}
 use Rattle.path.specs.Walk.{nameRefusal, good}
 use Rattle.path_text.specs.Steps.{nothing}
 use Rattle.path_text.proofs.Storing.{stored-to, stored-not, string-longer, room-less, room-end, room-then}

@@ -1,7 +1,8 @@
 -- `read_elements` stores the elements, and then their count.
 use borrow.Author.Needs.{needs}
 use native.Mathlib.Omega.{arith}
-use Rattle.limits.specs.Limits.{maxElements, maxElemBytes, maxPathBytes}
+use Rattle.limits.specs.Limits.{maxElements}
+use Rattle.limits.specs.Sizes.{maxElemBytes, maxPathBytes}
 use Rattle.path_text.specs.Steps.{maxGrowth, goodElement, Within, stores, nothing}
 use Rattle.path_text.proofs.Storing.{Storing, storing-start, storing-long, storing-from, storing-none, storing-done, storing-turn, stored-to, stored-not, within-after, within-less, room-byte, room-end, room-after}
 use Prim.Native.Nat.{_*_, _-_, _≤_}

@@ -2,7 +2,7 @@
 use borrow.Author.Needs.{needs}
 use native.Mathlib.Omega.{arith}
 use mathlib.Core.Path.{refl, sym, _∙_}
-use Rattle.limits.specs.Limits.{maxStringBytes}
+use Rattle.limits.specs.Sizes.{maxStringBytes}
 use Rattle.path_text.specs.Steps.{nothing}
 use Rattle.path_text.proofs.Sound.{inside}
 use Rattle.path_text.proofs.Storing.{stored-to, stored-not, room-less, room-end, room-then}

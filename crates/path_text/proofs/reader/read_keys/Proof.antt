@@ -5,7 +5,8 @@ use mathlib.Core.Path.{sym, ap, _∙_}
 use mathlib.Core.Bool.{not}
 use Prim.Native.Nat.{_+_, _*_, _-_, _≤_}
 use lib.ListN.{length-set}
-use Rattle.limits.specs.Limits.{maxKeys, maxKeyBytes, maxKeysBytes}
+use Rattle.limits.specs.Limits.{maxKeys}
+use Rattle.limits.specs.Sizes.{maxKeyBytes, maxKeysBytes}
 use Rattle.path.specs.Bytes.{keyBytes}
 use Rattle.path_text.specs.TextReader.{each}
 use Rattle.path_text.specs.Steps.{goodKey, distinct, Within, stores, nothing}

@@ -5,7 +5,7 @@ use mathlib.Core.Path.{sym}
 use Prim.Native.Nat.{ℕ}
 use lib.ListN.{length-replicate}
 use lib.Seq.{length-take-le}
-use Rattle.limits.specs.Limits.{maxPathBytes}
+use Rattle.limits.specs.Sizes.{maxPathBytes}
 use Rattle.groups.proofs.Calls.{outcome-kept, front-is, count-requires}
 use Rattle.verdicts.proofs.Spelled.{was-read, path-bytes}
 use Rattle.verdicts.proofs.Holding.{safe}

@@ -1,7 +1,7 @@
 -- `string_end` equals its definition.
 use borrow.Author.Needs.{needs}
 use native.Mathlib.Omega.{arith}
-use Rattle.text.specs.Frame.{endOf}
+use Rattle.text.specs.Steps.{endOf}
 use Rattle.text.proofs.Frames.{string-got, string-unread, string-none}
 use Rattle.text.proofs.frame.string_end.Statement.{statement}
 use Rattle.text.proofs.frame.string_end.Tie as tie
