@@ -9,8 +9,7 @@ use borrow.Author.Tests.{leb-false, eqb-false, ltb-true, ltb-false, eq-eqb, ne-e
 use lib.Dec.{eqb, ltb, leb}
 use lib.ListN.{length, take, drop, getD, set, length-append, length-drop}
 use lib.Seq.{take-at}
-use Rattle.limits.specs.Limits.{maxMembers, maxString}
-use Rattle.limits.specs.Sizes.{maxTableBytes}
+use Rattle.limits.specs.Limits.{maxGroups, maxMembers, maxString}
 use Rattle.text.specs.Test.{_and_, _or_, any, all}
 use Rattle.text.specs.Byte.{isPrint}
 use Rattle.text.specs.String.{Str, same}
@@ -37,8 +36,12 @@ use Rattle.table.specs.Walk.{OfKind, merged, unsizedBy}
 use Rattle.table.proofs.Numbers.{long-is, stray-is, number-four, number-plain, merged-clear}
 use Rattle.table.proofs.Frames.{member-unread, member-userless, member-off, member-read}
 use Rattle.table.proofs.Versions.{refused-unread, refused-read}
-use Rattle.keep.specs.Held.{memberPlaces, firstMemberPlace, memberKeys, membersIn, memberBytes, bytesOf, memberPlace, InSet, MemberKept}
+use Rattle.keep.specs.Held.{memberPlaces, firstMemberPlace, memberKeys, membersIn, memberBytes, bytesOf, memberPlace, MemberReady, MemberKept}
 use Rattle.keep.proofs.Names.{new-span, new-inside}
+
+-- a string that stands at a position ends at t
+abbrev StringAt : List ℕ → ℕ → ℕ → Type 0
+StringAt f at t = (string f at ≡ got (part f (at + 1) t) t) × (at + 1 ≤ t) × (t ≤ length f)
 
 -- ---- members as bytes
 
@@ -107,114 +110,174 @@ listed-is name groups p n e l h = let k : p ≡ n → ⊥ = eqb-false _ _ h in o
 pub place-small : (name : Str) (f starts : List ℕ) (n p : ℕ) → p ≡ place name (stringsIn f starts n 0) → p ≤ n
 place-small name f starts n p e = omega (arith, place-le name (stringsIn f starts n 0), strings-length f starts n)
 
--- ---- the frame
+-- ---- the frame does not read
 
-module _ (f : Str) (pre : OfKind kindMember f) (r : End) (i : r ≡ endOf (string f 1)) where
-  pub member-short : (b : Earlier) → r ≡ Unread → 3 ≡ refusal b (framed (entryOf f))
-  member-short b g = refused-unread b f (member-unread f (pre .0) (pre .1) (string-misses f 1 r i g))
+module _ (f : Str) (kind : OfKind kindMember f) (b : Earlier) where
+  pub member-short : {r : End} → r ≡ endOf (string f 1) → r ≡ Unread → 3 ≡ refusal b (framed (entryOf f))
+  member-short i g = refused-unread b f (member-unread f (kind .0) (kind .1) (string-misses f 1 _ i g))
 
-  module _ (m : ℕ) (g : r ≡ At m) (s : End) (c : s ≡ endOf (string f m)) where
-    pub member-half : (b : Earlier) → s ≡ Unread → 3 ≡ refusal b (framed (entryOf f))
-    member-half b e = refused-unread b f (member-userless f (pre .0) (pre .1) _ m (string-ends f 1 r i m g .0) (string-misses f m s c e))
+  module _ {m : ℕ} (group : StringAt f 1 m) where
+    pub member-half : {r : End} → r ≡ endOf (string f m) → r ≡ Unread → 3 ≡ refusal b (framed (entryOf f))
+    member-half i g = refused-unread b f (member-userless f (kind .0) (kind .1) _ m (group .0) (string-misses f m _ i g))
 
-    module _ (t : ℕ) (e : s ≡ At t) where
-      pub member-long : (b : Earlier) → (t ≡ length f → ⊥) → 3 ≡ refusal b (framed (entryOf f))
-      member-long b n = refused-unread b f (member-off f (pre .0) (pre .1) _ m (string-ends f 1 r i m g .0) _ t (string-ends f m s c t e .0) n)
+    pub member-long : {t : ℕ} → StringAt f m t → (t ≡ length f → ⊥) → 3 ≡ refusal b (framed (entryOf f))
+    member-long user n = refused-unread b f (member-off f (kind .0) (kind .1) _ m (group .0) _ _ (user .0) n)
 
-      module _ (n : t ≡ length f) where
-        abbrev name : Str
-        name = part f 2 m
+-- ---- the frame reads
 
-        abbrev user : Str
-        user = part f (m + 1) t
+-- what is known then: the group's string ends at `middle`, the user's at `end`
+pub record Read : Type 0 where
+  pub old : List ℕ
+  pub f : List ℕ
+  pub starts : List ℕ
+  pub names : List ℕ
+  pub count : ℕ
+  pub users : List ℕ
+  pub owners : List ℕ
+  pub keys : List ℕ
+  pub n : ℕ
+  pub ready : MemberReady old f starts names count users owners keys n
+  pub middle : ℕ
+  pub end : ℕ
+  pub group : StringAt f 1 middle
+  pub user : StringAt f middle end
+  pub whole : end ≡ length f
 
-        abbrev this : Member
-        this = record { group = name; user = user }
+module _ (R : Read) where
+  abbrev name : Str
+  name = part (R .f) 2 (R .middle)
 
-        pub member-reads : entryOf f ≡ some (member this)
-        member-reads = member-read f (pre .0) (pre .1) _ m (string-ends f 1 r i m g .0) _ t (string-ends f m s c t e .0) n
+  abbrev user : Str
+  user = part (R .f) (R .middle + 1) (R .end)
 
-        module _ (o : Bool) (last : ℕ) (q : o ≡ outOfOrder last kindMember) where
-          order : (b : Earlier) → b .kind ≡ last → o ≡ outOfOrder (b .kind) (kindOf (member this))
-          unfolding kindOf
-          order b w = rw w q
+  abbrev key : Str
+  key = part (R .f) 1 (R .end)
 
-          pub member-four : (b : Earlier) → b .kind ≡ last → o ≡ true → 4 ≡ refusal b (framed (entryOf f))
-          member-four b w h = refused-read b f _ 4 member-reads (number-four b _ (sym (order b w) ∙ h))
+  abbrev this : Member
+  this = record { group = name; user = user }
 
-          module _ (h : o ≡ false) (old starts : List ℕ) (count : ℕ) (users owners keys : List ℕ) (k : ℕ)
-              (small : length old + length f ≤ maxTableBytes) (long : length keys ≡ memberKeys)
-              (H : InSet old starts count users owners keys k)
-              (p place′ hash : ℕ) (u v x y : Bool) (z : Found)
-              (uu : u ≡ unsizedBy maxString (length name)) (vv : v ≡ unsizedBy maxString (length user)) (xx : x ≡ all isPrint name) (yy : y ≡ all isPrint user)
-              (pp : place′ ≡ place name (stringsIn old starts count 0)) (hh : hash ≡ hashOf (part f 1 t))
-              (zz : Met old keys maxMembers (firstMemberPlace + hash % memberPlaces) (part f 1 t) z)
-              (mm : p ≡ merged clear ((u || v) || leb maxMembers k) (not x || not y) (z .again) (eqb place′ count)) where
-            -- the bytes after the kind byte
-            key-is : part f 1 t ≡ memberBytes this
-            unfolding memberBytes
-            key-is = part-took f 1 t _ (took-both f 1 m t _ _ (string-took f 1 name m (string-ends f 1 r i m g .0)) (string-took f m user t (string-ends f m s c t e .0)))
+  abbrev groups : List Str
+  groups = stringsIn (R .old) (R .starts) (R .count) 0
 
-            spot : firstMemberPlace + hash % memberPlaces ≡ memberPlace (part f 1 t)
-            spot = place-is-told (part f 1 t) hash (firstMemberPlace + hash % memberPlaces) hh refl
+  abbrev members : List Member
+  members = membersIn groups (R .owners) (R .old) (R .users) (R .n)
 
-            met : Met old keys maxMembers (memberPlace (part f 1 t)) (part f 1 t) z
-            met = rw spot at zz
+  abbrev five : ℕ → Bool
+  five k = (unsized name or unsized user) or leb maxMembers k
 
-            again-is : z .again ≡ any (sameMember this) (membersIn (stringsIn old starts count 0) owners old users k)
-            again-is = met .told ∙ sym (H .told (part f 1 t)) ∙ ap (λ (l : Str). any (same l) (bytesOf (membersIn (stringsIn old starts count 0) owners old users k))) key-is ∙ sym (any-bytes this _)
+  abbrev six : Bool
+  six = stray name or stray user
 
-            count-is : length (bytesOf (membersIn (stringsIn old starts count 0) owners old users k)) ≡ k
-            unfolding membersIn
-            count-is = bytes-length _ ∙ rows-length _ k 0
+  member-reads : entryOf (R .f) ≡ some (member this)
+  member-reads = let kind = R .ready .kind in member-read (R .f) (kind .0) (kind .1) _ (R .middle) (R .group .0) _ (R .end) (R .user .0) (R .whole)
 
-            pub spot-fits : firstMemberPlace + hash % memberPlaces < length keys
-            spot-fits = omega arith
+  order : (b : Earlier) (last : ℕ) (o : Bool) → b .kind ≡ last → outOfOrder last kindMember ≡ o → outOfOrder (b .kind) (kindOf (member this)) ≡ o
+  unfolding kindOf
+  order b last o w q = rw w q
 
-            pub fits-is : z .at ≤ getD keys maxMembers 0
-            fits-is = met .fits
+  pub member-four : {last : ℕ} → outOfOrder last kindMember ≡ true → (b : Earlier) → b .kind ≡ last → 4 ≡ refusal b (framed (entryOf (R .f)))
+  member-four h b w = refused-read b (R .f) _ 4 member-reads (number-four b _ (order b _ _ w h))
 
-            pub member-graded : (b : Earlier) → b .kind ≡ last → b .groups ≡ stringsIn old starts count 0 → b .members ≡ membersIn (b .groups) owners old users k
-                → p ≡ refusal b (framed (entryOf f))
-            unfolding pastLimit strays misplaces repeats unlisted membersIn
-            member-graded b w gg bb =
-                let members : b .members ≡ membersIn (stringsIn old starts count 0) owners old users k = bb ∙ ap (λ (l : List Str). membersIn l owners old users k) gg in
-                let long : length (b .members) ≡ k = ap length members ∙ rows-length _ k 0 in
-                let five : ((u || v) || leb maxMembers k) ≡ ((unsized name or unsized user) or leb maxMembers (length (b .members))) =
-                rw (long, uu, vv, long-is name (length name) refl, long-is user (length user) refl, or-is (unsized name) (unsized user)) (or-is (unsized name or unsized user) (leb maxMembers k)) in
-                let six : (not x || not y) ≡ (stray name or stray user) = rw (stray-is name x xx, stray-is user y yy) (or-is (stray name) (stray user)) in
-                let eight : z .again ≡ any (sameMember this) (b .members) = again-is ∙ ap (any (sameMember this)) (sym members) in
-                let nine : eqb place′ count ≡ not (listed (b .groups) name) = unlisted-is name (stringsIn old starts count 0) place′ count pp (sym (strings-length old starts count)) ∙ ap (λ (l : List Str). not (listed l name)) (sym gg) in
-                refused-read b f _ p member-reads (number-plain b _ (sym (order b w) ∙ h) p _ _ _ _ mm five six refl eight nine)
+  -- the bytes after the kind byte
+  key-is : key ≡ memberBytes this
+  unfolding memberBytes
+  key-is =
+      part-took (R .f) 1 (R .end) _
+      (took-both (R .f) 1 (R .middle) (R .end) _ _ (string-took (R .f) 1 name (R .middle) (R .group .0)) (string-took (R .f) (R .middle) user (R .end) (R .user .0)))
 
-            module _ (fine : p ≡ clear) where
-              clear-is : (((u || v) || leb maxMembers k) ≡ false) × (eqb place′ count ≡ false) × (z .again ≡ false)
-              clear-is = merged-clear clear ((u || v) || leb maxMembers k) (not x || not y) (z .again) (eqb place′ count) (sym mm ∙ fine)
+  count-is : length (bytesOf members) ≡ R .n
+  unfolding membersIn
+  count-is = bytes-length _ ∙ rows-length _ (R .n) 0
 
-              pub member-room : k < maxMembers
-              member-room = leb-false maxMembers k (or-false-r (u || v) _ (sym (or-is (u || v) (leb maxMembers k)) ∙ clear-is .0))
+  -- the number, once the calls told of both strings
+  pub number-told : (u v x y : Bool) (p owner : ℕ) (z : Found)
+      → u ≡ unsizedBy maxString (length name) → v ≡ unsizedBy maxString (length user) → x ≡ all isPrint name → y ≡ all isPrint user
+      → p ≡ merged clear ((u || v) || leb maxMembers (R .n)) (not x || not y) (z .again) (eqb owner (R .count))
+      → p ≡ merged clear (five (R .n)) six (z .again) (eqb owner (R .count))
+  number-told u v x y p owner z uu vv xx yy e =
+      let isFive : ((u || v) || leb maxMembers (R .n)) ≡ five (R .n) =
+      rw (uu, vv, long-is name (length name) refl, long-is user (length user) refl, or-is (unsized name) (unsized user)) (or-is (unsized name or unsized user) (leb maxMembers (R .n))) in
+      let isSix : (not x || not y) ≡ six = rw (stray-is name x xx, stray-is user y yy) (or-is (stray name) (stray user)) in
+      e ∙ ap₂ (λ (s t : Bool). merged clear s t (z .again) (eqb owner (R .count))) isFive isSix
 
-              pub sorted-room : getD keys maxMembers 0 < maxMembers
-              sorted-room = omega (arith, H .few, count-is, member-room)
+-- ---- and it is judged
 
-              pub member-kept : (keys′ : List ℕ) → keys′ ≡ added keys maxMembers (firstMemberPlace + hash % memberPlaces) (z .at) (spanOf (length old + 1) (length old + t))
-                  → MemberKept (stringsIn old starts count 0) old f users owners k (set users k (length old + m)) (set owners k place′) keys′
-              member-kept keys′ q =
-                  let w = string-ends f m s c t e in
-                  let a : 1 ≤ t = omega (arith, w .1) in
-                  record {
-                    group = name;
-                    user = user;
-                    at = m;
-                    reads = member-reads;
-                    stands = w .0 ∙ ap (λ (j : ℕ). got user j) n;
-                    room = member-room;
-                    listed = listed-is name (stringsIn old starts count 0) place′ count pp (sym (strings-length old starts count)) (clear-is .1);
-                    users-set = refl;
-                    owners-set = ap (set owners k) pp;
-                    keys-long = ap length q ∙ added-long keys maxMembers (firstMemberPlace + hash % memberPlaces) (z .at) _ (met .fits) (omega (arith, sorted-room)) ∙ long;
-                    held =
-                        rw (q, spot, ← key-is)
-                        (holds-grows f (λ y. (place-far y .0, omega (arith, place-far y .1))) H (part f 1 t) z met (clear-is .2) (spanOf (length old + 1) (length old + t))
-                        (new-span old f 1 t a (w .2) (omega arith)) (new-inside old f 1 t a (w .2) (omega arith)) (omega arith) (omega (arith, count-is, member-room)));
-                  }
+-- what the calls told then
+pub record Judged : Type 0 where
+  pub read : Read
+  pub last : ℕ
+  pub ordered : outOfOrder last kindMember ≡ false
+  pub owner : ℕ
+  pub owner-is : owner ≡ place (name read) (groups read)
+  pub hash : ℕ
+  pub hash-is : hash ≡ hashOf (key read)
+  pub found : Found
+  pub found-is : Met (read .old) (read .keys) maxMembers (firstMemberPlace + hash % memberPlaces) (key read) found
+  pub number : ℕ
+  pub number-is : number ≡ merged clear (five read (read .n)) (six read) (found .again) (eqb owner (read .count))
+
+module _ (J : Judged) where
+  abbrev R : Read
+  R = J .read
+
+  spot : firstMemberPlace + J .hash % memberPlaces ≡ memberPlace (key R)
+  spot = place-is-told (key R) (J .hash) (firstMemberPlace + J .hash % memberPlaces) (J .hash-is) refl
+
+  met : Met (R .old) (R .keys) maxMembers (memberPlace (key R)) (key R) (J .found)
+  met = rw spot at (J .found-is)
+
+  again-is : J .found .again ≡ any (sameMember (this R)) (members R)
+  again-is = met .told ∙ sym (R .ready .held .told (key R)) ∙ ap (λ (l : Str). any (same l) (bytesOf (members R))) (key-is R) ∙ sym (any-bytes (this R) _)
+
+  pub owner-small : J .owner ≤ maxGroups
+  owner-small = omega (arith, place-small _ _ _ _ _ (J .owner-is), R .ready .few)
+
+  pub member-graded : (b : Earlier) → b .kind ≡ J .last → b .groups ≡ groups R → b .members ≡ membersIn (b .groups) (R .owners) (R .old) (R .users) (R .n)
+      → J .number ≡ refusal b (framed (entryOf (R .f)))
+  unfolding pastLimit strays misplaces repeats unlisted membersIn
+  member-graded b w gg bb =
+      let held : b .members ≡ members R = bb ∙ ap (λ (l : List Str). membersIn l (R .owners) (R .old) (R .users) (R .n)) gg in
+      let long : length (b .members) ≡ R .n = ap length held ∙ rows-length _ (R .n) 0 in
+      let eight : J .found .again ≡ any (sameMember (this R)) (b .members) = again-is ∙ ap (any (sameMember (this R))) (sym held) in
+      let nine : eqb (J .owner) (R .count) ≡ not (listed (b .groups) (name R)) =
+      unlisted-is (name R) (groups R) (J .owner) (R .count) (J .owner-is) (sym (strings-length (R .old) (R .starts) (R .count))) ∙ ap (λ (l : List Str). not (listed l (name R))) (sym gg) in
+      refused-read b (R .f) _ (J .number) (member-reads R)
+      (number-plain b _ (order R b _ _ w (J .ordered)) (J .number) _ _ _ _ (J .number-is) (ap (five R) (sym long)) refl refl eight nine)
+
+  module _ (fine : J .number ≡ clear) where
+    clear-is : (five R (R .n) ≡ false) × (eqb (J .owner) (R .count) ≡ false) × (J .found .again ≡ false)
+    clear-is = merged-clear clear (five R (R .n)) (six R) (J .found .again) (eqb (J .owner) (R .count)) (sym (J .number-is) ∙ fine)
+
+    -- there is room for the member
+    pub member-room : R .n < maxMembers
+    member-room = leb-false maxMembers (R .n) (or-false-r (unsized (name R) or unsized (user R)) _ (clear-is .0))
+
+    sorted-room : getD (R .keys) maxMembers 0 < maxMembers
+    sorted-room = omega (arith, R .ready .held .few, count-is R, member-room)
+
+    -- and in the set
+    pub set-room : (J .found .at ≤ getD (R .keys) maxMembers 0) × (getD (R .keys) maxMembers 0 < maxMembers) × (firstMemberPlace + J .hash % memberPlaces < length (R .keys))
+    set-room = (met .fits, sorted-room, omega (arith, R .ready .long))
+
+    pub member-kept : (keys′ : List ℕ) → keys′ ≡ added (R .keys) maxMembers (firstMemberPlace + J .hash % memberPlaces) (J .found .at) (spanOf (length (R .old) + 1) (length (R .old) + R .end))
+        → MemberKept (groups R) (R .old) (R .f) (R .users) (R .owners) (R .n) (set (R .users) (R .n) (length (R .old) + R .middle)) (set (R .owners) (R .n) (J .owner)) keys′
+    member-kept keys′ q =
+        let w = R .user in
+        let a : 1 ≤ R .end = omega (arith, w .1) in
+        let small = R .ready .room in
+        record {
+          group = name R;
+          user = user R;
+          at = R .middle;
+          reads = member-reads R;
+          stands = w .0 ∙ ap (λ (j : ℕ). got (user R) j) (R .whole);
+          room = member-room;
+          listed = listed-is (name R) (groups R) (J .owner) (R .count) (J .owner-is) (sym (strings-length (R .old) (R .starts) (R .count))) (clear-is .1);
+          users-set = refl;
+          owners-set = ap (set (R .owners) (R .n)) (J .owner-is);
+          keys-long = ap length q ∙ added-long (R .keys) maxMembers (firstMemberPlace + J .hash % memberPlaces) (J .found .at) _ (met .fits) (omega (arith, sorted-room, R .ready .long)) ∙ R .ready .long;
+          held =
+              rw (q, spot, ← key-is R)
+              (holds-grows (R .f) (λ y. (place-far y .0, omega (arith, place-far y .1, R .ready .long))) (R .ready .held) (key R) (J .found) met (clear-is .2) (spanOf (length (R .old) + 1) (length (R .old) + R .end))
+              (new-span (R .old) (R .f) 1 (R .end) a (w .2) (omega (arith, small))) (new-inside (R .old) (R .f) 1 (R .end) a (w .2) (omega (arith, small))) (omega arith) (omega (arith, count-is R, member-room)));
+        }

@@ -1,5 +1,5 @@
 -- Each way out of take_rule: its answer is the frame's number, and what is kept.
-use mathlib.Core.Path.{_≡_, refl, sym, ap, _∙_}
+use mathlib.Core.Path.{_≡_, refl, sym, ap, ap₂, _∙_, subst}
 use mathlib.Core.Bool.{Bool, true, false, not, _||_, _&&_}
 use mathlib.Core.List.{List, [], _∷_, _++_}
 use mathlib.Core.Option.{some}
@@ -8,8 +8,7 @@ use native.Mathlib.Omega.{arith}
 use borrow.Author.Tests.{leb-false}
 use lib.Dec.{eqb, ltb, leb}
 use lib.ListN.{length, getD, set}
-use Rattle.limits.specs.Limits.{maxRules, maxString, maxShortString}
-use Rattle.limits.specs.Sizes.{maxTableBytes}
+use Rattle.limits.specs.Limits.{maxGroups, maxRules, maxString, maxShortString}
 use Rattle.text.specs.Test.{_and_, _or_, if_then_else_, any, all}
 use Rattle.text.specs.Byte.{isPrint}
 use Rattle.text.specs.String.{Str, same}
@@ -19,7 +18,7 @@ use Rattle.text.proofs.Tests.{clash, or-false-r, or-is}
 use Rattle.path.specs.Faults.{unsized, overLimit, strayByte, keyTwice}
 use Rattle.sorted.specs.Spans.{spanOf}
 use Rattle.sorted.specs.declared.Found.{Found}
-use Rattle.hash_set.specs.Set.{Met, added}
+use Rattle.hash_set.specs.Set.{Holds, Met, added}
 use Rattle.hash_set.proofs.Sets.{holds-grows, added-long}
 use Rattle.rows.specs.Strings.{stringsIn, place, hashOf}
 use Rattle.rows.proofs.Grow.{strings-length, place-at}
@@ -27,14 +26,14 @@ use Rattle.table.specs.Table.{Rule}
 use Rattle.table.specs.Layout.{kindRule, frameSubjectKind, frameSubjectName}
 use Rattle.table.specs.Frame.{rule, entryOf}
 use Rattle.table.specs.Refusal.{Earlier, reads, framed, outOfOrder, kindOf, unsizedShort, pastLimit, strays, stray, sameId, repeats, listed, unlisted, refusal}
-use Rattle.table.specs.Walk.{OfKind, merged, unsizedBy, RuleAt, RuleRead}
+use Rattle.table.specs.Walk.{merged, unsizedBy, RuleAt, RuleRead}
 use Rattle.table.specs.declared.frame.RuleFrame.{RuleFrame}
 use Rattle.table.specs.declared.frame.RuleFrame.the-variants.{Is, Unread}
 use Rattle.table.proofs.Numbers.{long-is, short-is, stray-is, number-four, number-rule, merged-clear}
 use Rattle.table.proofs.Frames.{rule-read}
 use Rattle.table.proofs.Rules.{rule-told, rule-untold}
 use Rattle.table.proofs.Versions.{refused-unread, refused-read}
-use Rattle.keep_rule.specs.Kept.{idsOf, idPlaces, firstIdPlace, idKeys, idPlace, Ids, RuleKept}
+use Rattle.keep_rule.specs.Kept.{idsOf, idPlaces, firstIdPlace, idKeys, idPlace, Ids, RuleReady, RuleKept}
 use Rattle.keep.proofs.Names.{new-span, new-inside}
 use Rattle.keep.proofs.Members.{unlisted-is, listed-is, place-small}
 
@@ -51,7 +50,7 @@ unfolding if_then_else_
 held-is true name groups g count e l n t = let h : place name groups < length groups = listed-is name groups g count e l n in rw e (h, place-at name groups h)
 held-is false name groups g count e l n t = clash t refl
 
-pub holder-small : (bg : Bool) (name : Str) (f starts : List ℕ) (g count : ℕ) → g ≡ (if bg then place name (stringsIn f starts count 0) else 0) → g ≤ count
+holder-small : (bg : Bool) (name : Str) (f starts : List ℕ) (g count : ℕ) → g ≡ (if bg then place name (stringsIn f starts count 0) else 0) → g ≤ count
 unfolding if_then_else_
 holder-small true name f starts g count e = place-small name f starts count g e
 holder-small false name f starts g count e = omega arith
@@ -83,110 +82,189 @@ id-spot : (y : Str) (h : ℕ) → h ≡ hashOf y → firstIdPlace + h % idPlaces
 unfolding idPlace
 id-spot y h e = rw e
 
--- ---- the frame
+-- ---- the parts of a rule's number
 
-module _ (f : Str) (pre : OfKind kindRule f) (r : RuleFrame) (read : RuleRead f r) where
-  pub rule-short : (b : Earlier) → r ≡ Unread → 3 ≡ refusal b (framed (entryOf f))
-  rule-short b e = refused-unread b f (rule-untold f r read e)
+abbrev five : Rule → ℕ → Bool
+five r k = (unsized (r .subject) or unsizedShort (r .id)) or (ltb maxShortString (length (r .origin)) or leb maxRules k)
 
-  module _ (s i o p : ℕ) (is : r ≡ Is s i o p) where
-    at : RuleAt f s i o p
-    at = rule-told f r read s i o p is
+abbrev six : Rule → Bool
+six r = stray (r .subject) or (stray (r .id) or stray (r .origin))
 
-    pub rule-long : (frameSubjectName ≤ s) × (s + 1 ≤ i) × (i + 1 ≤ o) × (o ≤ length f)
-    rule-long = at .long
+module _ (r : Rule) (subject id origin : Str) (s : r .subject ≡ subject) (i : r .id ≡ id) (o : r .origin ≡ origin) where
+  five-is : (u v : Bool) (k : ℕ) → u ≡ unsizedBy maxString (length subject) → v ≡ unsizedBy maxShortString (length id)
+      → ((u || v) || (ltb maxShortString (length origin) || leb maxRules k)) ≡ five r k
+  five-is u v k uu vv =
+      rw (
+        s,
+        i,
+        o,
+        uu,
+        vv,
+        long-is subject (length subject) refl,
+        short-is id (length id) refl,
+        or-is (unsized subject) (unsizedShort id),
+        or-is (ltb maxShortString (length origin)) (leb maxRules k),
+      )
+      (or-is (unsized subject or unsizedShort id) (ltb maxShortString (length origin) or leb maxRules k))
 
-    reading : entryOf f ≡ some (rule (at .rule))
-    reading = rule-read f (pre .0) (pre .1) (at .rule) (length f) (at .body) refl
+  six-is : (x y z : Bool) → x ≡ all isPrint subject → y ≡ all isPrint id → z ≡ all isPrint origin → (not x || (not y || not z)) ≡ six r
+  six-is x y z xx yy zz =
+      rw (s, i, o, stray-is subject x xx, stray-is id y yy, stray-is origin z zz, or-is (stray id) (stray origin)) (or-is (stray subject) (stray id or stray origin))
 
-    module _ (t : Bool) (last : ℕ) (q : t ≡ outOfOrder last kindRule) where
-      order : (b : Earlier) → b .kind ≡ last → t ≡ outOfOrder (b .kind) kindRule
-      order b w = rw w q
+nine-is : (r : Rule) (bg : Bool) (name : Str) (groups l : List Str) (g count : ℕ) → r .byGroup ≡ bg → r .subject ≡ name → l ≡ groups
+    → g ≡ (if bg then place name groups else 0) → count ≡ length groups → (bg && eqb g count) ≡ (r .byGroup and not (listed l (r .subject)))
+nine-is r bg name groups l g count x y z e c = rw (x, y, z) (holder-is bg name groups g count e c)
 
-      pub rule-four : (b : Earlier) → b .kind ≡ last → t ≡ true → 4 ≡ refusal b (framed (entryOf f))
-      unfolding kindOf
-      rule-four b w h = refused-read b f _ 4 reading (number-four b (rule (at .rule)) (sym (order b w) ∙ h))
+-- ---- the frame does not read
 
-      module _ (h : t ≡ false) (old starts : List ℕ) (count : ℕ) (keys : List ℕ) (k : ℕ) (small : length old + length f ≤ maxTableBytes) (long : length keys ≡ idKeys)
-          (before : List Str) (I : Ids old keys k before)
-          (m g hash : ℕ) (u v x y z : Bool) (q′ : Found)
-          (uu : u ≡ unsizedBy maxString (length (part f frameSubjectName s))) (vv : v ≡ unsizedBy maxShortString (length (part f (s + 1) i)))
-          (xx : x ≡ all isPrint (part f frameSubjectName s)) (yy : y ≡ all isPrint (part f (s + 1) i)) (zz : z ≡ all isPrint (part f (i + 1) o))
-          (gg : g ≡ (if eqb (getD f frameSubjectKind 0) 1 then place (part f frameSubjectName s) (stringsIn old starts count 0) else 0)) (hh : hash ≡ hashOf (part f (s + 1) i))
-          (qq : Met old keys maxRules (firstIdPlace + hash % idPlaces) (part f (s + 1) i) q′)
-          (mm : m ≡ merged p ((u || v) || (ltb maxShortString (length (part f (i + 1) o)) || leb maxRules k)) (not x || (not y || not z)) (q′ .again) (eqb (getD f frameSubjectKind 0) 1 && eqb g count)) where
-        met : Met old keys maxRules (idPlace (part f (s + 1) i)) (part f (s + 1) i) q′
-        met = rw (id-spot (part f (s + 1) i) hash hh) at qq
+pub rule-short : (f : Str) (r : RuleFrame) → RuleRead f r → (b : Earlier) → r ≡ Unread → 3 ≡ refusal b (framed (entryOf f))
+rule-short f r read b e = refused-unread b f (rule-untold f r read e)
 
-        again-is : (b : Earlier) → Ids old keys k (idsOf (b .rules)) → q′ .again ≡ any (sameId (at .rule)) (b .rules)
-        again-is b d = met .told ∙ sym (d .held .told (part f (s + 1) i)) ∙ ap (λ (l : Str). any (same l) (idsOf (b .rules))) (sym (at .id)) ∙ any-ids (at .rule) (b .rules)
+-- ---- the frame reads
 
-        pub rule-graded : (b : Earlier) → b .kind ≡ last → b .groups ≡ stringsIn old starts count 0 → Ids old keys k (idsOf (b .rules)) → m ≡ refusal b (framed (entryOf f))
-        unfolding pastLimit strays repeats unlisted
-        rule-graded b w e d =
-            let a = at in
-            let long : length (b .rules) ≡ k = sym (ids-length (b .rules)) ∙ d .counted in
-            let five : ((u || v) || (ltb maxShortString (length (part f (i + 1) o)) || leb maxRules k))
-            ≡ ((unsized (a .rule .subject) or unsizedShort (a .rule .id)) or (ltb maxShortString (length (a .rule .origin)) or leb maxRules (length (b .rules)))) =
-            rw (
-              long,
-              a .subject,
-              a .id,
-              a .origin,
-              uu,
-              vv,
-              long-is (part f frameSubjectName s) (length (part f frameSubjectName s)) refl,
-              short-is (part f (s + 1) i) (length (part f (s + 1) i)) refl,
-              or-is (unsized (part f frameSubjectName s)) (unsizedShort (part f (s + 1) i)),
-              or-is (ltb maxShortString (length (part f (i + 1) o))) (leb maxRules k),
-            )
-            (or-is (unsized (part f frameSubjectName s) or unsizedShort (part f (s + 1) i)) (ltb maxShortString (length (part f (i + 1) o)) or leb maxRules k)) in
-            let six : (not x || (not y || not z)) ≡ (stray (a .rule .subject) or (stray (a .rule .id) or stray (a .rule .origin))) =
-            rw (a .subject, a .id, a .origin, stray-is (part f frameSubjectName s) x xx, stray-is (part f (s + 1) i) y yy, stray-is (part f (i + 1) o) z zz, or-is (stray (part f (s + 1) i)) (stray (part f (i + 1) o)))
-            (or-is (stray (part f frameSubjectName s)) (stray (part f (s + 1) i) or stray (part f (i + 1) o))) in
-            let eight : q′ .again ≡ any (sameId (a .rule)) (b .rules) = again-is b d in
-            let nine : (eqb (getD f frameSubjectKind 0) 1 && eqb g count) ≡ (a .rule .byGroup and not (listed (b .groups) (a .rule .subject))) =
-            rw (a .byGroup, a .subject, e) (holder-is (eqb (getD f frameSubjectKind 0) 1) (part f frameSubjectName s) (stringsIn old starts count 0) g count gg (sym (strings-length old starts count))) in
-            refused-read b f _ m reading
-            (number-rule b (a .rule) (sym (order b w) ∙ h) m p _ _ (q′ .again) _ mm (a .path)
-            (ap (λ (l : Bool). l or overLimit (a .rule .path)) five) (ap (λ (l : Bool). l or strayByte (a .rule .path)) six) (ap (λ (l : Bool). l or keyTwice (a .rule .path)) eight) nine)
+-- what is known then: where its subject, id and origin end, and the number of its path
+pub record Read : Type 0 where
+  pub old : List ℕ
+  pub f : List ℕ
+  pub starts : List ℕ
+  pub names : List ℕ
+  pub count : ℕ
+  pub keys : List ℕ
+  pub n : ℕ
+  pub ready : RuleReady old f starts names count keys n
+  pub subject-end : ℕ
+  pub id-end : ℕ
+  pub origin-end : ℕ
+  pub fault : ℕ
+  pub at : RuleAt f subject-end id-end origin-end fault
 
-        module _ (fine : m ≡ clear) where
-          clear-is : (((u || v) || (ltb maxShortString (length (part f (i + 1) o)) || leb maxRules k)) ≡ false) × ((eqb (getD f frameSubjectKind 0) 1 && eqb g count) ≡ false) × (q′ .again ≡ false)
-          clear-is = merged-clear p ((u || v) || (ltb maxShortString (length (part f (i + 1) o)) || leb maxRules k)) (not x || (not y || not z)) (q′ .again) (eqb (getD f frameSubjectKind 0) 1 && eqb g count) (sym mm ∙ fine)
+module _ (R : Read) where
+  abbrev subject : Str
+  subject = part (R .f) frameSubjectName (R .subject-end)
 
-          rule-room : k < maxRules
-          rule-room =
-              let l = ltb maxShortString (length (part f (i + 1) o)) in
-              let a : ((u || v) or (l || leb maxRules k)) ≡ false = sym (or-is (u || v) (l || leb maxRules k)) ∙ clear-is .0 in
-              leb-false maxRules k (or-false-r l _ (sym (or-is l (leb maxRules k)) ∙ or-false-r (u || v) _ a))
+  abbrev id : Str
+  id = part (R .f) (R .subject-end + 1) (R .id-end)
 
-          id-sorted-room : getD keys maxRules 0 < maxRules
-          id-sorted-room = omega (arith, I .held .few, I .counted, rule-room)
+  abbrev origin : Str
+  origin = part (R .f) (R .id-end + 1) (R .origin-end)
 
-          -- there is room for the rule, and for its id
-          pub rule-ready : (q′ .at ≤ getD keys maxRules 0) × (getD keys maxRules 0 < maxRules) × (firstIdPlace + hash % idPlaces < length keys) × (k < maxRules)
-          rule-ready = (met .fits, id-sorted-room, omega arith, rule-room)
+  abbrev byGroup : Bool
+  byGroup = eqb (getD (R .f) frameSubjectKind 0) 1
 
-          pub rule-kept : (tops holders tops′ holders′ keys′ : List ℕ) → (tops′ ≡ set tops k (length old + 1)) × (holders′ ≡ set holders k g)
-              → keys′ ≡ added keys maxRules (firstIdPlace + hash % idPlaces) (q′ .at) (spanOf (length old + (s + 1)) (length old + i))
-              → RuleKept (stringsIn old starts count 0) old f tops holders keys k tops′ holders′ keys′
-          rule-kept tops holders tops′ holders′ keys′ stored e =
-              let a = at in
-              let w = at .long in
-              let d : i ≤ length f = omega (arith, w .2, w .3) in
-              record {
-                kept = a .rule;
-                holder = g;
-                reads = reading;
-                body = a .body;
-                room = rule-room;
-                held = λ e. rw (a .subject) (held-is (eqb (getD f frameSubjectKind 0) 1) (part f frameSubjectName s) (stringsIn old starts count 0) g count gg (sym (strings-length old starts count)) (clear-is .1) (sym (a .byGroup) ∙ e));
-                starts-set = stored .0;
-                holders-set = stored .1;
-                keys-long = ap length e ∙ added-long keys maxRules (firstIdPlace + hash % idPlaces) (q′ .at) _ (met .fits) (omega (arith, id-sorted-room)) ∙ long;
-                ids-held = λ before J.
-                    rw (e, id-spot (part f (s + 1) i) hash hh, a .id)
-                    (holds-grows f (λ y. (id-far y .0, omega (arith, id-far y .1))) (J .held) (part f (s + 1) i) q′ met (clear-is .2) (spanOf (length old + (s + 1)) (length old + i))
-                    (new-span old f (s + 1) i (w .1) d (omega arith)) (new-inside old f (s + 1) i (w .1) d (omega arith)) (omega arith) (omega (arith, J .counted, rule-room)));
-              }
+  abbrev groups : List Str
+  groups = stringsIn (R .old) (R .starts) (R .count) 0
+
+  reading : entryOf (R .f) ≡ some (rule (R .at .rule))
+  reading = let kind = R .ready .kind in rule-read (R .f) (kind .0) (kind .1) (R .at .rule) (length (R .f)) (R .at .body) refl
+
+  order : (b : Earlier) (last : ℕ) (o : Bool) → b .kind ≡ last → outOfOrder last kindRule ≡ o → outOfOrder (b .kind) kindRule ≡ o
+  order b last o w q = rw w q
+
+  pub rule-four : {last : ℕ} → outOfOrder last kindRule ≡ true → (b : Earlier) → b .kind ≡ last → 4 ≡ refusal b (framed (entryOf (R .f)))
+  unfolding kindOf
+  rule-four h b w = refused-read b (R .f) _ 4 reading (number-four b (rule (R .at .rule)) (order b _ _ w h))
+
+  -- the number, once the calls told of the three strings
+  pub number-told : (u v x y z : Bool) (m g : ℕ) (q : Found)
+      → u ≡ unsizedBy maxString (length subject) → v ≡ unsizedBy maxShortString (length id)
+      → x ≡ all isPrint subject → y ≡ all isPrint id → z ≡ all isPrint origin
+      → m ≡ merged (R .fault) ((u || v) || (ltb maxShortString (length origin) || leb maxRules (R .n))) (not x || (not y || not z)) (q .again) (byGroup && eqb g (R .count))
+      → m ≡ merged (R .fault) (five (R .at .rule) (R .n)) (six (R .at .rule)) (q .again) (byGroup && eqb g (R .count))
+  number-told u v x y z m g q uu vv xx yy zz e =
+      let a = R .at in
+      e ∙ ap₂ (λ (s t : Bool). merged (R .fault) s t (q .again) (byGroup && eqb g (R .count)))
+      (five-is (a .rule) subject id origin (a .subject) (a .id) (a .origin) u v (R .n) uu vv)
+      (six-is (a .rule) subject id origin (a .subject) (a .id) (a .origin) x y z xx yy zz)
+
+-- ---- and it is judged
+
+-- what the calls told then
+pub record Judged : Type 0 where
+  pub read : Read
+  pub last : ℕ
+  pub ordered : outOfOrder last kindRule ≡ false
+  pub holder : ℕ
+  pub holder-told : holder ≡ (if byGroup read then place (subject read) (groups read) else 0)
+  pub hash : ℕ
+  pub hash-is : hash ≡ hashOf (id read)
+  pub found : Found
+  pub found-is : Met (read .old) (read .keys) maxRules (firstIdPlace + hash % idPlaces) (id read) found
+  pub number : ℕ
+  pub number-is : number ≡ merged (read .fault) (five (read .at .rule) (read .n)) (six (read .at .rule)) (found .again) (byGroup read && eqb holder (read .count))
+
+module _ (J : Judged) where
+  abbrev R : Read
+  R = J .read
+
+  abbrev this : Rule
+  this = R .at .rule
+
+  abbrev nine : Bool
+  nine = byGroup R && eqb (J .holder) (R .count)
+
+  counted : R .count ≡ length (groups R)
+  counted = sym (strings-length (R .old) (R .starts) (R .count))
+
+  pub holder-few : J .holder ≤ maxGroups
+  holder-few = omega (arith, holder-small _ _ _ _ _ _ (J .holder-told), R .ready .few)
+
+  met : Met (R .old) (R .keys) maxRules (idPlace (id R)) (id R) (J .found)
+  met = rw (id-spot (id R) (J .hash) (J .hash-is)) at (J .found-is)
+
+  again-is : (b : Earlier) → Ids (R .old) (R .keys) (R .n) (idsOf (b .rules)) → J .found .again ≡ any (sameId this) (b .rules)
+  again-is b d = met .told ∙ sym (d .held .told (id R)) ∙ ap (λ (l : Str). any (same l) (idsOf (b .rules))) (sym (R .at .id)) ∙ any-ids this (b .rules)
+
+  pub rule-graded : (b : Earlier) → b .kind ≡ J .last → b .groups ≡ groups R → Ids (R .old) (R .keys) (R .n) (idsOf (b .rules)) → J .number ≡ refusal b (framed (entryOf (R .f)))
+  unfolding pastLimit strays repeats unlisted
+  rule-graded b w e d =
+      let long : length (b .rules) ≡ R .n = sym (ids-length (b .rules)) ∙ d .counted in
+      refused-read b (R .f) _ (J .number) (reading R)
+      (number-rule b this (order R b _ _ w (J .ordered)) (J .number) (R .fault) _ _ (J .found .again) _ (J .number-is) (R .at .path)
+      (ap (λ (k : ℕ). five this k or overLimit (this .path)) (sym long)) refl
+      (ap (λ (l : Bool). l or keyTwice (this .path)) (again-is b d))
+      (nine-is this (byGroup R) (subject R) (groups R) (b .groups) (J .holder) (R .count) (R .at .byGroup) (R .at .subject) e (J .holder-told) counted))
+
+  module _ (fine : J .number ≡ clear) where
+    clear-is : (five this (R .n) ≡ false) × (nine ≡ false) × (J .found .again ≡ false)
+    clear-is = merged-clear (R .fault) (five this (R .n)) (six this) (J .found .again) nine (sym (J .number-is) ∙ fine)
+
+    rule-room : R .n < maxRules
+    rule-room =
+        leb-false maxRules (R .n) (or-false-r (ltb maxShortString (length (this .origin))) _ (or-false-r (unsized (this .subject) or unsizedShort (this .id)) _ (clear-is .0)))
+
+    id-sorted-room : getD (R .keys) maxRules 0 < maxRules
+    id-sorted-room = omega (arith, R .ready .ids .held .few, R .ready .ids .counted, rule-room)
+
+    -- there is room for the rule, and for its id
+    pub rule-ready : (J .found .at ≤ getD (R .keys) maxRules 0) × (getD (R .keys) maxRules 0 < maxRules) × (firstIdPlace + J .hash % idPlaces < length (R .keys)) × (R .n < maxRules)
+    rule-ready = (met .fits, id-sorted-room, omega (arith, R .ready .long), rule-room)
+
+    pub rule-kept : (tops holders tops′ holders′ keys′ : List ℕ) → (tops′ ≡ set tops (R .n) (length (R .old) + 1)) × (holders′ ≡ set holders (R .n) (J .holder))
+        → keys′ ≡ added (R .keys) maxRules (firstIdPlace + J .hash % idPlaces) (J .found .at) (spanOf (length (R .old) + (R .subject-end + 1)) (length (R .old) + R .id-end))
+        → RuleKept (groups R) (R .old) (R .f) tops holders (R .keys) (R .n) tops′ holders′ keys′
+    rule-kept tops holders tops′ holders′ keys′ stored e =
+        let a = R .at in
+        let w = a .long in
+        let small = R .ready .room in
+        let d : R .id-end ≤ length (R .f) = omega (arith, w .2, w .3) in
+        let span = spanOf (length (R .old) + (R .subject-end + 1)) (length (R .old) + R .id-end) in
+        record {
+          kept = this;
+          holder = J .holder;
+          reads = reading R;
+          body = a .body;
+          room = rule-room;
+          held = λ e.
+              let h = held-is (byGroup R) (subject R) (groups R) (J .holder) (R .count) (J .holder-told) counted (clear-is .1) (sym (a .byGroup) ∙ e) in
+              (h .0, h .1 ∙ sym (a .subject));
+          starts-set = stored .0;
+          holders-set = stored .1;
+          keys-long =
+              ap length e ∙ added-long (R .keys) maxRules (firstIdPlace + J .hash % idPlaces) (J .found .at) _ (met .fits) (omega (arith, id-sorted-room, R .ready .long)) ∙ R .ready .long;
+          ids-held = λ before I.
+              subst (λ (x : Str). Holds idPlace (R .old ++ R .f) keys′ maxRules (before ++ (x ∷ []))) (sym (a .id))
+              (rw (e, id-spot (id R) (J .hash) (J .hash-is))
+              (holds-grows (R .f) (λ y. (id-far y .0, omega (arith, id-far y .1, R .ready .long))) (I .held) (id R) (J .found) met (clear-is .2) span
+              (new-span (R .old) (R .f) (R .subject-end + 1) (R .id-end) (w .1) d (omega (arith, small))) (new-inside (R .old) (R .f) (R .subject-end + 1) (R .id-end) (w .1) d (omega (arith, small)))
+              (omega arith) (omega (arith, I .counted, rule-room))));
+        }

@@ -1,8 +1,8 @@
 -- `check_table` equals its definition.
 use borrow.Author.Needs.{needs}
 use Rattle.groups.proofs.Calls.{outcome-refused, outcome-accepted}
-use Rattle.groups.proofs.check_table.Statement.{statement}
-use Rattle.groups.proofs.check_table.Tie as tie
+use Rattle.groups.proofs.check.check_table.Statement.{statement}
+use Rattle.groups.proofs.check.check_table.Tie as tie
 
 returns : tie.Need-returns
 returns c = let at-load = c .before .before .before in

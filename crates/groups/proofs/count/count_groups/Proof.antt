@@ -3,8 +3,8 @@ use borrow.Author.Needs.{needs}
 use native.Mathlib.Omega.{arith}
 use mathlib.Core.Path.{sym, _∙_}
 use Rattle.groups.proofs.Calls.{outcome-declined, outcome-kept, outcome-counted, count-requires, front-is}
-use Rattle.groups.proofs.count_groups.Statement.{statement}
-use Rattle.groups.proofs.count_groups.Tie as tie
+use Rattle.groups.proofs.count.count_groups.Statement.{statement}
+use Rattle.groups.proofs.count.count_groups.Tie as tie
 
 returns : tie.Need-returns
 returns c = let at-load = c .before .before .before .before in

@@ -1,8 +1,8 @@
 -- `declined` equals its definition.
 use borrow.Author.Needs.{needs}
 use Rattle.groups.specs.Declined.{declinedBy}
-use Rattle.groups.proofs.declined.Statement.{statement}
-use Rattle.groups.proofs.declined.Tie as tie
+use Rattle.groups.proofs.count.declined.Statement.{statement}
+use Rattle.groups.proofs.count.declined.Tie as tie
 
 returns : tie.Need-returns
 unfolding declinedBy
