@@ -142,7 +142,6 @@ a store of {STORE_LENGTH} bytes for its policy
 END
 
 says docs/DECISIONS.md <<'END'
-Its limits ({MAX_STRING} bytes, {MAX_KEYS} keys, {MAX_ELEMENTS} elements)
 the longest path's {MAX_PATH_BYTES} otherwise
 no path result is longer than {MAX_PATH_TEXT}.
 The buffer has {MAX_HEADER_LINES} bytes
@@ -182,6 +181,7 @@ others() {
 2,731           header lines that fit: the size of an array
 131,072         what the command line takes of a file
 1,528 2,353     measured: names that found their place taken
+19,840          what the arrays of a loaded table take
 END
 }
 
@@ -211,7 +211,9 @@ Puts 16                 a creation time has 16 digits
 then 16                 the same
 refusal(r, n, 16)       a refusal number
 return 32               the same
-512 + 65536             MIXED, 2 from bit 8 of the answer word on
+512 + (rule             MIXED, 2 from bit 8 of the answer word on
+STARTS: usize = 16384   a place's number has the start of its string in 14 bits: the layout of a word
+starts = 16384          the same
 word_at(b, 16)          where the record's fifth number stands
 slot, 256)              a number's second byte, in the record's file; and so for each of its numbers
 kind, 256)

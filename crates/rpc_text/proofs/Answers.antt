@@ -14,6 +14,8 @@ use Rattle.rfc8259.specs.Json.{Json}
 use Rattle.json.specs.Scan.{whiteAt}
 use Rattle.json_tree.specs.Tree.{treeAt}
 use Rattle.policy.specs.Policy.{Policy, member, items, ruleIn, policyIn, judgement, policyOf}
+use Rattle.policy.specs.Depth.{rulesDepth}
+use Rattle.limits.specs.Limits.{maxDepth}
 use Rattle.policy_text.specs.Place.{placed}
 use Rattle.policy_text.specs.Answer.{checkOf}
 use Rattle.policy_text.specs.declared.check.Check.the-variants as check
@@ -47,12 +49,12 @@ module _ (r : Request) (j : Json) where
   unfolding verdict policyIn
   verdict-open = refl
 
-  module _ (s : Str) (d : ℕ) (m : member (bytes "deny_rules") j ≡ placed 15 s d) (f : First) (q : f ≡ firstOf (firstFrom 0 (ruleMatches r) (map ruleIn (items (placed 15 s d))))) where
+  module _ (s : Str) (d : ℕ) (m : member (bytes "deny_rules") j ≡ placed rulesDepth s d) (f : First) (q : f ≡ firstOf (firstFrom 0 (ruleMatches r) (map ruleIn (items (placed rulesDepth s d))))) where
     pub verdict-denied : (n : ℕ) → f ≡ first.At n → Denied n ≡ verdict (policyIn j) r
     unfolding decided
     verdict-denied n e = sym (verdict-open ∙ ap (λ (o : Option ℕ). decided o (rulesFirst (member (bytes "allow_rules") j))) (ap rulesFirst m ∙ first-at _ n (sym q ∙ e)))
 
-    module _ (z : f ≡ first.Nothing) (a : ℕ) (k : member (bytes "allow_rules") j ≡ placed 15 s a) (g : First) (p : g ≡ firstOf (firstFrom 0 (ruleMatches r) (map ruleIn (items (placed 15 s a))))) where
+    module _ (z : f ≡ first.Nothing) (a : ℕ) (k : member (bytes "allow_rules") j ≡ placed rulesDepth s a) (g : First) (p : g ≡ firstOf (firstFrom 0 (ruleMatches r) (map ruleIn (items (placed rulesDepth s a))))) where
       pub verdict-permitted : (n : ℕ) → g ≡ first.At n → Permitted n ≡ verdict (policyIn j) r
       unfolding decided allowed
       verdict-permitted n e = sym (verdict-open ∙ ap₂ (λ (x y : Option ℕ). decided x y) (ap rulesFirst m ∙ first-nothing _ (sym q ∙ z)) (ap rulesFirst k ∙ first-at _ n (sym p ∙ e)))
@@ -87,7 +89,7 @@ module _ (policy identity path headers : Str) where
     pub request-refused : (n : ℕ) → n ≡ requestFault identity path headers → (n ≡ clear → ⊥) → Refused n ≡ rpcVerdict policy identity path headers
     request-refused n e z = ap Refused e ∙ sym (call-open ∙ unless-clear _ _ c ∙ unless-refused _ _ (λ x. z (e ∙ x)))
 
-    pub request-judged : (i : ℕ) → i ≡ whiteAt policy 0 → requestFault identity path headers ≡ clear → (v : Verdict) → v ≡ verdict (policyIn (treeAt 16 policy i)) (request identity path headers) → v ≡ rpcVerdict policy identity path headers
+    pub request-judged : (i : ℕ) → i ≡ whiteAt policy 0 → requestFault identity path headers ≡ clear → (v : Verdict) → v ≡ verdict (policyIn (treeAt maxDepth policy i)) (request identity path headers) → v ≡ rpcVerdict policy identity path headers
     request-judged i w f v e = e ∙ sym (call-open ∙ unless-clear _ _ c ∙ unless-clear _ _ f ∙ ap (λ (o : Option Policy). verdictBy o (request identity path headers)) (policy-is policy c i w) ∙ by-policy _ _)
 
 pub headers-good : (identity path headers : Str) → requestFault identity path headers ≡ clear → badHeaders headers ≡ false

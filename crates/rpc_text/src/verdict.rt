@@ -1,6 +1,7 @@
 // The RPC verdict on a policy text and a request, with every refusal.
 ghost use mathlib.Core.Path.{_≡_};
 ghost use mathlib.Core.Bool.{false};
+ghost use Rattle.limits.specs.Limits.{maxDepth};
 ghost use Rattle.json_tree.specs.Tree.{treeAt, Stands};
 ghost use Rattle.policy.specs.Policy.{policyIn};
 ghost use Rattle.rpc.specs.Request.{badHeaders};
@@ -12,20 +13,20 @@ use rpc::verdict::Verdict;
 
 // The policy at i: deny rules first, then allow rules.
 fn verdict_at(s: &[u8], i: usize, identity: &[u8], path: &[u8], headers: &[u8]) -> Verdict
-    requires { ⌜ Stands 16 (now s) i × (badHeaders (now headers) ≡ false) ⌝ }
-    ensures { λ r. ⌜ r ≡ verdict (policyIn (treeAt 16 (now (s .entry)) i))
+    requires { ⌜ Stands maxDepth (now s) i × (badHeaders (now headers) ≡ false) ⌝ }
+    ensures { λ r. ⌜ r ≡ verdict (policyIn (treeAt maxDepth (now (s .entry)) i))
         (request (now (identity .entry)) (now (path .entry)) (now (headers .entry))) ⌝ }
 {
     let mut last = [rpc_request::index::NO_LINE; rpc_request::index::BUCKETS];
     let mut before = [0u16; rpc_request::index::PLACES];
     rpc_request::index::index_lines(headers, &mut last, &mut before);
     let mut out = [0u8; limits::MAX_HEADER_LINES];
-    let d = policy_text::place::member_at(s, i, b"deny_rules", 16);
+    let d = policy_text::place::member_at(s, i, b"deny_rules", limits::MAX_DEPTH);
     let denied = crate::rule::first_rule(s, d, identity, path, headers, &last, &before, &mut out);
     if let First::At(n) = denied {
         return Verdict::Denied(n);
     }
-    let a = policy_text::place::member_at(s, i, b"allow_rules", 16);
+    let a = policy_text::place::member_at(s, i, b"allow_rules", limits::MAX_DEPTH);
     let allowed = crate::rule::first_rule(s, a, identity, path, headers, &last, &before, &mut out);
     if let First::At(n) = allowed {
         return Verdict::Permitted(n);

@@ -49,8 +49,8 @@ fn answer(text: &[u8], letter: u8, rest: &[u8])
     requires { ⌜ length (now rest) ≤ 65536 ⌝ }
 {
     match letter {
-        b'r' => paths::transcribe(true, rest, 13520),
-        b'w' => paths::transcribe(false, rest, 13520),
+        b'r' => paths::transcribe(true, rest, limits::MAX_PATH_TEXT),
+        b'w' => paths::transcribe(false, rest, limits::MAX_PATH_TEXT),
         b'f' => paths::fit(rest),
         b'c' => tables::check(text),
         b'z' => long::table(split::digit(rest)),

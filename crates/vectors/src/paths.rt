@@ -1,6 +1,10 @@
 // Questions about a path. Each line goes up to its LF.
 ghost use Prim.Native.Nat.{_≤_};
 ghost use lib.ListN.{length};
+ghost use Rattle.limits.specs.Limits.{maxPathText};
+
+// As many bytes as the digits of a large buffer (io) make.
+const MAX_BYTES: usize = 65536 / 2;
 
 // Prints the text of path bytes, or the refusal.
 fn write(bytes: &[u8], out: &mut [u8]) {
@@ -22,7 +26,7 @@ fn read(text: &[u8], out: &mut [u8]) {
     let n = crate::word::filled(answer, out);
     show::hex(&out[..n]);
     show::space();
-    let mut back = [0u8; 13520];
+    let mut back = [0u8; limits::MAX_PATH_TEXT];
     write(&out[..n], &mut back);
 }
 
@@ -30,16 +34,16 @@ fn read(text: &[u8], out: &mut [u8]) {
 fn write_hex(line: &[u8], out: &mut [u8])
     requires { ⌜ length (now line) ≤ 65536 ⌝ }
 {
-    let mut bytes = [0u8; 32768];
+    let mut bytes = [0u8; MAX_BYTES];
     line::read_line(line, 0, &mut bytes, 0);
     write(&bytes[0..line.len() / 2], out);
 }
 
 // `PATH`, or `HEX`: path text to path bytes and back, or path bytes to path text, by a lent buffer of `room` bytes.
 pub fn transcribe(is_text: bool, line: &[u8], room: usize)
-    requires { ⌜ (length (now line) ≤ 65536) × (room ≤ 13520) ⌝ }
+    requires { ⌜ (length (now line) ≤ 65536) × (room ≤ maxPathText) ⌝ }
 {
-    let mut out = [0u8; 13520];
+    let mut out = [0u8; limits::MAX_PATH_TEXT];
     if !is_text {
         write_hex(line, &mut out[0..room]);
         return;

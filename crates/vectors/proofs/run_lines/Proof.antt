@@ -9,6 +9,7 @@ use native.Mathlib.Omega.{arith}
 use Rattle.vectors.proofs.run_lines.Statement.{statement}
 use Rattle.vectors.proofs.run_lines.Tie as tie
 
+-- what was kept of a table lies before `at`, which is within the text
 abbrev Inv-loop : tie.InvT-loop
 Inv-loop text t₀ at₀ t at = (t .start ≤ t .end) × (t .end ≤ at) × (at ≤ length text)
 

@@ -6,6 +6,7 @@ use lib.ListN.{length, length-set}
 use Rattle.vectors.proofs.policies.header_lines.Statement.{statement}
 use Rattle.vectors.proofs.policies.header_lines.Tie as tie
 
+-- the buffer keeps its length
 abbrev Inv-loop : tie.InvT-loop
 Inv-loop s out₀ i₀ out i = length out ≡ length out₀
 
