@@ -17,9 +17,9 @@ use Rattle.text.specs.Refusal.{clear}
 use Rattle.text.specs.Frame.{got, string, stringBytes, part}
 use Rattle.text.specs.Steps.{endOf}
 use Rattle.text.specs.declared.frame.End.{End}
-use Rattle.text.specs.declared.frame.End.the-variants.{At, Unread}
+use Rattle.text.specs.declared.frame.End.the-variants.{Unread}
 use Rattle.text.proofs.Tests.{by, bool-ext, and-l, and-r, both, same→≡, ≡→same, or-false-r, or-is}
-use Rattle.text.proofs.Frames.{string-ends, string-misses}
+use Rattle.text.proofs.Frames.{string-misses}
 use Rattle.text.proofs.Codec.{Took, took-both, string-took, string-gives}
 use Rattle.path.specs.Faults.{unsized}
 use Rattle.sorted.specs.Spans.{spanOf}

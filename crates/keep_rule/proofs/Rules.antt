@@ -15,7 +15,7 @@ use Rattle.text.specs.String.{Str, same}
 use Rattle.text.specs.Refusal.{clear}
 use Rattle.text.specs.Frame.{part}
 use Rattle.text.proofs.Tests.{clash, or-false-r, or-is}
-use Rattle.path.specs.Faults.{unsized, overLimit, strayByte, keyTwice}
+use Rattle.path.specs.Faults.{unsized, overLimit, keyTwice}
 use Rattle.sorted.specs.Spans.{spanOf}
 use Rattle.sorted.specs.declared.Found.{Found}
 use Rattle.hash_set.specs.Set.{Holds, Met, added}
@@ -28,10 +28,10 @@ use Rattle.table.specs.Frame.{rule, entryOf}
 use Rattle.table.specs.Refusal.{Earlier, reads, framed, outOfOrder, kindOf, unsizedShort, pastLimit, strays, stray, sameId, repeats, listed, unlisted, refusal}
 use Rattle.table.specs.Walk.{merged, unsizedBy, RuleAt, RuleRead}
 use Rattle.table.specs.declared.frame.RuleFrame.{RuleFrame}
-use Rattle.table.specs.declared.frame.RuleFrame.the-variants.{Is, Unread}
+use Rattle.table.specs.declared.frame.RuleFrame.the-variants.{Unread}
 use Rattle.table.proofs.Numbers.{long-is, short-is, stray-is, number-four, number-rule, merged-clear}
 use Rattle.table.proofs.Frames.{rule-read}
-use Rattle.table.proofs.Rules.{rule-told, rule-untold}
+use Rattle.table.proofs.Rules.{rule-untold}
 use Rattle.table.proofs.Versions.{refused-unread, refused-read}
 use Rattle.keep_rule.specs.Kept.{idsOf, idPlaces, firstIdPlace, idKeys, idPlace, Ids, RuleReady, RuleKept}
 use Rattle.keep.proofs.Names.{new-span, new-inside}

@@ -1,7 +1,7 @@
 // Questions about a path. Each line goes up to its LF.
 ghost use Prim.Native.Nat.{_≤_};
 ghost use lib.ListN.{length};
-ghost use Rattle.limits.specs.Limits.{maxPathText};
+ghost use Rattle.limits.specs.Sizes.{maxPathText};
 
 // As many bytes as the digits of a large buffer (io) make.
 const MAX_BYTES: usize = 65536 / 2;
