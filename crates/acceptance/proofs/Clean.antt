@@ -2,6 +2,7 @@
 use mathlib.Core.Path.{_≡_, refl, ap}
 use mathlib.Core.Bool.{Bool, true, false}
 use mathlib.Core.List.{List, [], _∷_, filterMap, List·Memᴰ·head, List·Memᴰ·tail, List·Memᴰ·not-nil}
+use mathlib.Core.Option.{Option·elim}
 use Prim.Native.Nat.{ℕ, _+_}
 use native.Mathlib.Omega.{arith}
 use borrow.Author.Tests.{eqb-true}
@@ -12,9 +13,13 @@ use Rattle.text.specs.Refusal.{clear}
 use Rattle.text.proofs.Tests.{clash, by, and-l, and-r, both, on-cons}
 use Rattle.table.specs.Frame.{Entry}
 use Rattle.table.specs.Refusal.{Line, notHex, unreadable, reads, lineOf, Earlier, refusal, after, with}
-use Rattle.table.specs.Text.{judge, unless, entries}
+use Rattle.table.specs.Text.{judge, unless}
 use Rattle.table.specs.declared.Checked.the-variants.{Accepted}
-use Rattle.table.proofs.Entries.{entries-cons}
+use Rattle.acceptance.specs.Reordering.{read, entries}
+
+entries-cons : (l : Str) (ls : List Str) (e : Entry) → lineOf l ≡ reads e → entries (l ∷ ls) ≡ e ∷ entries ls
+unfolding entries filterMap Option·elim read
+entries-cons l ls e i = rw i
 
 -- no line gets a number
 unfoldable pub clean : Earlier → List Str → Bool

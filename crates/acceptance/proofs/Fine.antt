@@ -2,8 +2,8 @@
 use mathlib.Core.Path.{_≡_, refl, sym, subst}
 use mathlib.Core.Bool.{Bool, true, false, not}
 use mathlib.Core.List.{List, [], _∷_, _++_, filterMap, append-assoc, append-nil, List·Memᴰ·head, List·Memᴰ·tail, List·Memᴰ·not-nil}
-use mathlib.Core.Option.{Option, Option·elim}
-use Prim.Native.Nat.{ℕ, _+_, _≤_, _<_}
+use mathlib.Core.Option.{Option, none, some, Option·elim}
+use Prim.Native.Nat.{ℕ, _≤_, _<_}
 use native.Mathlib.Omega.{arith}
 use borrow.Author.Tests.{eqb-true, leb-false, lt-leb, lt-ltb, not-true, not-false, ne-eqb}
 use lib.Dec.{eqb, ltb}
@@ -17,7 +17,6 @@ use Rattle.path.specs.Faults.{unsized, overLimit, keyTwice}
 use Rattle.table.specs.Table.{Member, Rule}
 use Rattle.table.specs.Frame.{Entry, version, group, member, rule}
 use Rattle.table.specs.Refusal.{reads, Earlier, kindOf, outOfOrder, unsizedShort, pastLimit, strays, misplaces, sameMember, sameId, repeats, listed, unlisted, refusal, with}
-use Rattle.table.specs.Text.{asGroup, asMember, asRule}
 use Rattle.verdict.proofs.Choose.{same-id-turned}
 use Rattle.verdict.proofs.Twice.{first-alone, rest-alone, twice-append}
 use Rattle.acceptance.proofs.Clean.{cleanEntries}
@@ -91,6 +90,24 @@ ordered last (e ∷ es) = not (outOfOrder last (kindOf e)) and ordered (kindOf e
 
 -- ---- all the groups, members and rules, with those before
 
+unfoldable pub asGroup : Entry → Option Str
+asGroup (version v t) = none
+asGroup (group n) = some n
+asGroup (member m) = none
+asGroup (rule r) = none
+
+unfoldable pub asMember : Entry → Option Member
+asMember (version v t) = none
+asMember (group n) = none
+asMember (member m) = some m
+asMember (rule r) = none
+
+unfoldable pub asRule : Entry → Option Rule
+asRule (version v t) = none
+asRule (group n) = none
+asRule (member m) = none
+asRule (rule r) = some r
+
 abbrev pub groupsIn : List Entry → List Str
 groupsIn es = filterMap asGroup es
 
@@ -101,7 +118,7 @@ abbrev pub rulesIn : List Entry → List Rule
 rulesIn es = filterMap asRule es
 
 module _ (b : Earlier) (e : Entry) (es : List Entry) where
-  groups-turn : with b e .groups ++ groupsIn es ≡ b .groups ++ groupsIn (e ∷ es)
+  pub groups-turn : with b e .groups ++ groupsIn es ≡ b .groups ++ groupsIn (e ∷ es)
   groups-turn = go e
     where
       go : (x : Entry) → with b x .groups ++ groupsIn es ≡ b .groups ++ groupsIn (x ∷ es)
@@ -110,7 +127,7 @@ module _ (b : Earlier) (e : Entry) (es : List Entry) where
       go (member m) = unfold with filterMap Option·elim asGroup in refl
       go (rule r) = unfold with filterMap Option·elim asGroup in refl
 
-  members-turn : with b e .members ++ membersIn es ≡ b .members ++ membersIn (e ∷ es)
+  pub members-turn : with b e .members ++ membersIn es ≡ b .members ++ membersIn (e ∷ es)
   members-turn = go e
     where
       go : (x : Entry) → with b x .members ++ membersIn es ≡ b .members ++ membersIn (x ∷ es)
@@ -119,7 +136,7 @@ module _ (b : Earlier) (e : Entry) (es : List Entry) where
       go (member m) = unfold with filterMap Option·elim asMember in append-assoc (b .members) (m ∷ []) (membersIn es)
       go (rule r) = unfold with filterMap Option·elim asMember in refl
 
-  rules-turn : with b e .rules ++ rulesIn es ≡ b .rules ++ rulesIn (e ∷ es)
+  pub rules-turn : with b e .rules ++ rulesIn es ≡ b .rules ++ rulesIn (e ∷ es)
   rules-turn = go e
     where
       go : (x : Entry) → with b x .rules ++ rulesIn es ≡ b .rules ++ rulesIn (x ∷ es)

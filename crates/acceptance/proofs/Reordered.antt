@@ -2,7 +2,7 @@
 -- and rules in another order.
 use mathlib.Core.Path.{_≡_, refl, sym, ap, _∙_}
 use mathlib.Core.Bool.{Bool, true, false, not}
-use mathlib.Core.List.{List, [], _∷_, filterMap, List·Memᴰ·head, List·Memᴰ·tail, List·Memᴰ·not-nil, List·Permᴰ, Permᴰ·symm}
+use mathlib.Core.List.{List, [], _∷_, _++_, append-nil, filterMap, List·Memᴰ·head, List·Memᴰ·tail, List·Memᴰ·not-nil, List·Permᴰ, Permᴰ·symm}
 use mathlib.Core.Option.{Option, none, some, Option·elim}
 use Prim.Native.Nat.{ℕ, suc, _≤_}
 use native.Mathlib.Omega.{arith}
@@ -16,18 +16,18 @@ use Rattle.limits.specs.Limits.{maxTableText}
 use Rattle.line.specs.Lines.{lines, onto}
 use Rattle.table.specs.Table.{Rule}
 use Rattle.table.specs.Frame.{Entry, version, group, member, rule}
-use Rattle.table.specs.Refusal.{lineOf, kindOf, outOfOrder, listed, first, sameMember, sameId}
-use Rattle.table.specs.Text.{check, read, entries, asGroup, asMember, asRule, table, tableOf}
+use Rattle.table.specs.Refusal.{Line, notHex, unreadable, reads, lineOf, Earlier, with, after, kindOf, outOfOrder, listed, first, sameMember, sameId}
+use Rattle.table.specs.Text.{check, allTold, table, tableOf}
 use Rattle.table.specs.declared.Checked.the-variants.{Accepted}
 use Rattle.path.specs.Faults.{keyTwice}
 use Rattle.verdict.specs.Laws.{Reordered}
 use Rattle.verdict.specs.Orderly.{Orderly}
 use Rattle.verdict.proofs.Choose.{same-id-turned}
 use Rattle.verdict.proofs.Reorder.{perm-mem, perm-any, perm-twice}
-use Rattle.acceptance.specs.Reordering.{rising, ReorderedLines}
+use Rattle.acceptance.specs.Reordering.{read, entries, rising, ReorderedLines}
 use Rattle.acceptance.proofs.Permutations.{perm-length, perm-filterMap, perm-joined}
 use Rattle.acceptance.proofs.Clean.{clean, judge-clean, clean-judge, Readable, clean-readable, clean-entries}
-use Rattle.acceptance.proofs.Fine.{ownTwice, Own, Whole, Fine, ordered, rulesIn, astray, fine, unfaulted, same-turned, member-turned}
+use Rattle.acceptance.proofs.Fine.{ownTwice, Own, Whole, Fine, ordered, asGroup, asMember, asRule, groupsIn, membersIn, rulesIn, groups-turn, members-turn, rules-turn, astray, fine, unfaulted, same-turned, member-turned}
 
 -- ---- the kinds
 
@@ -196,11 +196,39 @@ accepted-again x y e p =
     let l = as-long x y (p .same) in
     check-closes y (ap (ltb maxTableText) (sym l) ∙ o .0) (ap (λ (n : ℕ). eqb n 0) (sym l) ∙ o .1) (lines-again (p .same) (p .kinds) (o .2))
 
+-- all that lines tell is what their entries hold, each apart
+abbrev ToldBy : List Entry → Earlier → Earlier → Type 0
+ToldBy es b end = (end .groups ≡ b .groups ++ groupsIn es) × (end .members ≡ b .members ++ membersIn es) × (end .rules ≡ b .rules ++ rulesIn es)
+
+told-line : (b : Earlier) (x : Line) (ls : List Str) → ((c : Earlier) → ToldBy (entries ls) c (allTold c ls))
+    → ToldBy (Option·elim (read x) (entries ls) (λ e. e ∷ entries ls)) b (allTold (after b x) ls)
+unfolding after read Option·elim
+told-line b notHex ls h = h b
+told-line b unreadable ls h = h b
+told-line b (reads e) ls h =
+    let t = h (with b e) in
+    (t .0 ∙ groups-turn b e (entries ls), t .1 ∙ members-turn b e (entries ls), t .2 ∙ rules-turn b e (entries ls))
+
+told : (b : Earlier) (ls : List Str) → ToldBy (entries ls) b (allTold b ls)
+unfolding allTold entries filterMap
+told b [] = (sym (append-nil (b .groups)), sym (append-nil (b .members)), sym (append-nil (b .rules)))
+told b (l ∷ ls) = told-line b (lineOf l) ls (λ c. told c ls)
+
+told-table : (s : Str) → (tableOf s .groups ≡ groupsIn (entries (lines s))) × (tableOf s .members ≡ membersIn (entries (lines s))) × (tableOf s .rules ≡ rulesIn (entries (lines s)))
+unfolding tableOf table first
+told-table s = told first (lines s)
+
 pub tables-reordered : (x y : Str) → ReorderedLines x y → Reordered (tableOf x) (tableOf y)
-unfolding tableOf table entries
+unfolding entries
 tables-reordered x y p =
     let q = perm-filterMap (λ (l : Str). read (lineOf l)) (p .same) in
-    record { groups = perm-filterMap asGroup q; members = perm-filterMap asMember q; rules = perm-filterMap asRule q }
+    let t = told-table x in
+    let u = told-table y in
+    record {
+      groups = rw (t .0, u .0) (perm-filterMap asGroup q);
+      members = rw (t .1, u .1) (perm-filterMap asMember q);
+      rules = rw (t .2, u .2) (perm-filterMap asRule q);
+    }
 
 -- what every accepted table is: no rule id twice, and no key twice in an element
 
@@ -217,9 +245,10 @@ keys-once (member n ∷ es) h = keys-once es (λ e m. h e (List·Memᴰ·tail m)
 keys-once (rule r ∷ es) h = on-cons (λ (x : Rule). keyTwice (x .path) ≡ false) (keys-of r (h (rule r) (List·Memᴰ·head refl))) (keys-once es (λ e m. h e (List·Memᴰ·tail m)))
 
 pub accepted-orderly : (x : Str) → check x ≡ Accepted → Orderly (tableOf x)
-unfolding tableOf table first
+unfolding first
 accepted-orderly x e =
+    let t = told-table x .2 in
     let o = check-opens x e in
     let a = clean-readable first (lines x) (o .2) in
     let f = fine first (entries (lines x)) nothing-before (sym (clean-entries first (lines x) a) ∙ o .2) in
-    record { ids = f .whole .new-ids; keys = keys-once (entries (lines x)) (f .own) }
+    record { ids = rw t (f .whole .new-ids); keys = rw t (keys-once (entries (lines x)) (f .own)) }

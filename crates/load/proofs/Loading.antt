@@ -1,12 +1,12 @@
 -- A turn of `load`, and each way out of it.
 use mathlib.Core.Path.{_≡_, refl, sym, ap, _∙_}
-use mathlib.Core.List.{List, [], _∷_, _++_, filterMap, append-nil}
-use mathlib.Core.Option.{Option, none, some, Option·elim}
+use mathlib.Core.List.{List, [], _∷_, _++_}
+use mathlib.Core.Option.{none, some}
 use Prim.Native.Nat.{ℕ, _+_, _-_, _/_, _≤_, _<_}
 use native.Mathlib.Omega.{arith}
 use borrow.Author.Tests.{eq-eqb, ne-eqb, le-ltb, lt-ltb}
 use lib.ListN.{length, take, drop, getD, drop-of-length-le}
-use lib.Seq.{length-take-le, take-at, drop-at, take-add, getD-take, getD-drop, append-snoc}
+use lib.Seq.{length-take-le, take-at, drop-at, take-add, getD-take, getD-drop}
 use Rattle.limits.specs.Limits.{maxTableText, maxMembers, maxRules}
 use Rattle.limits.specs.Sizes.{maxTableBytes}
 use Rattle.text.specs.Test.{if_then_else_, any, twice}
@@ -20,11 +20,9 @@ use Rattle.line.specs.Decoding.{digits, firstLine}
 use Rattle.line.specs.declared.Line as lined
 use Rattle.line.specs.declared.Line.the-variants as hexed
 use Rattle.line.proofs.FirstLine.{Read, line-read, line-unhex}
-use Rattle.table.specs.Table.{Member, Rule}
-use Rattle.table.specs.Frame.{Entry, version, group, member, rule, entryOf}
+use Rattle.table.specs.Frame.{Entry, entryOf}
 use Rattle.table.specs.Refusal.{Line, notHex, reads, framed, decoded, lineOf, Earlier, first, with, after, refusal}
-use Rattle.table.specs.Text.{unless, judge, check, entries, asGroup, asMember, asRule, table, tableOf}
-use Rattle.table.proofs.Entries.{entries-cons}
+use Rattle.table.specs.Text.{unless, judge, check, allTold, table, tableOf}
 use Rattle.table.specs.declared.Checked.{Checked}
 use Rattle.table.specs.declared.Checked.the-variants as checked
 use Rattle.load.specs.declared.row.Counts.{Counts}
@@ -79,52 +77,15 @@ framed-some : (f : Str) (e : Entry) → entryOf f ≡ some e → framed (entryOf
 unfolding framed
 framed-some f e i = rw i
 
--- ---- what an entry adds
-
--- one more, if there is one
-abbrev filterMap-one : {A : Type 0} → Option A → List A → List A
-filterMap-one x xs = Option·elim x xs (λ y. y ∷ xs)
-
-filterMap-cons : {A : Type 0} (f : Entry → Option A) (e : Entry) (es : List Entry) → filterMap f (e ∷ es) ≡ filterMap-one (f e) (filterMap f es)
-unfolding filterMap
-filterMap-cons f e es = refl
-
-with-groups : (b : Earlier) (e : Entry) (rest : List Str) → b .groups ++ filterMap-one (asGroup e) rest ≡ with b e .groups ++ rest
-unfolding Option·elim asGroup with
-with-groups b (version v t) rest = refl
-with-groups b (group n) rest = sym (append-snoc (b .groups) n rest)
-with-groups b (member m) rest = refl
-with-groups b (rule r) rest = refl
-
-with-members : (b : Earlier) (e : Entry) (rest : List Member) → b .members ++ filterMap-one (asMember e) rest ≡ with b e .members ++ rest
-unfolding Option·elim asMember with
-with-members b (version v t) rest = refl
-with-members b (group n) rest = refl
-with-members b (member m) rest = sym (append-snoc (b .members) m rest)
-with-members b (rule r) rest = refl
-
-with-rules : (b : Earlier) (e : Entry) (rest : List Rule) → b .rules ++ filterMap-one (asRule e) rest ≡ with b e .rules ++ rest
-unfolding Option·elim asRule with
-with-rules b (version v t) rest = refl
-with-rules b (group n) rest = refl
-with-rules b (member m) rest = refl
-with-rules b (rule r) rest = sym (append-snoc (b .rules) r rest)
-
 -- ---- the invariant
 
 pub record Going (text buf : List ℕ) (c : Counts) (groups users owners starts holders names ms is : List ℕ) (from used number : ℕ) : Type 0 where
   pub b : Earlier
   pub judged : check text ≡ judge number b (lines (drop from text))
   pub held : Held b (take used buf) c groups users owners starts holders names ms is
-  pub groups-left : tableOf text .groups ≡ b .groups ++ filterMap asGroup (entries (lines (drop from text)))
-  pub members-left : tableOf text .members ≡ b .members ++ filterMap asMember (entries (lines (drop from text)))
-  pub rules-left : tableOf text .rules ≡ b .rules ++ filterMap asRule (entries (lines (drop from text)))
+  pub told-left : allTold first (lines text) ≡ allTold b (lines (drop from text))
   pub paced : used + used + number ≡ from + 1
   pub within : (from ≤ length text) × (length text ≤ maxTableText) × (maxTableBytes ≤ length buf)
-
-start-table : (text : List ℕ) → (tableOf text .groups ≡ [] ++ filterMap asGroup (entries (lines (drop 0 text)))) × (tableOf text .members ≡ [] ++ filterMap asMember (entries (lines (drop 0 text)))) × (tableOf text .rules ≡ [] ++ filterMap asRule (entries (lines (drop 0 text))))
-unfolding tableOf table
-start-table text = (refl, refl, refl)
 
 module _ (text : List ℕ) where
   pub over : maxTableText < length text → check text ≡ checked.Refused 1 0
@@ -147,7 +108,6 @@ module _ (text : List ℕ) where
         → Going text buf (record { kind = 0; groups = 0; members = 0; rules = 0 }) groups users owners starts holders names ms is 0 0 1
     unfolding first stringsIn membersIn rowsOf idsOf RulesAt HoldersAt twice any bytesOf
     load-start h buf groups users owners starts holders names ms is room long sets ms-none is-none =
-        let t = start-table text in
         record {
           b = first;
           judged = check-judges h;
@@ -171,9 +131,7 @@ module _ (text : List ℕ) where
             ids-set = holds-none idPlace [] is maxRules is-none;
             sets-long = sets;
           };
-          groups-left = t .0;
-          members-left = t .1;
-          rules-left = t .2;
+          told-left = refl;
           paced = refl;
           within = (omega arith, fits, room);
         }
@@ -189,16 +147,14 @@ module _ {text buf : List ℕ} {c : Counts} {groups users owners starts holders 
   number-room = omega (arith, G .paced, G .within)
 
   pub load-end : length text ≤ from → Outcome text (Table used c) buf groups users owners starts holders
-  unfolding Outcome judge lines entries filterMap
+  unfolding Outcome judge lines allTold table tableOf
   load-end h =
       let n : drop from text ≡ [] = drop-of-length-le text h in
-      let g : tableOf text .groups ≡ G .b .groups = G .groups-left ∙ rw n (append-nil (G .b .groups)) in
-      let m : tableOf text .members ≡ G .b .members = G .members-left ∙ rw n (append-nil (G .b .members)) in
-      let r : tableOf text .rules ≡ G .b .rules = G .rules-left ∙ rw n (append-nil (G .b .rules)) in
+      let t : allTold first (lines text) ≡ G .b = G .told-left ∙ rw n in
       record {
         accepts = G .judged ∙ rw n;
         within = (omega (arith, G .paced, G .within), omega (arith, G .paced, G .within));
-        holds = rw (g, m, r) (G .held .holds);
+        holds = rw t (G .held .holds);
       }
 
   -- ---- a line that is no hex line
@@ -263,11 +219,8 @@ module _ {text buf : List ℕ} {c : Counts} {groups users owners starts holders 
         reads-this : framed (entryOf (part buf′ used (used + len))) ≡ reads (W .this)
         reads-this = framed-some (part buf′ used (used + len)) (W .this) (W .reads)
 
-        entries-here : entries (lines (drop from text)) ≡ W .this ∷ entries (lines (drop next text))
-        entries-here = ap entries (R .first) ∙ entries-cons (R .line) (lines (drop next text)) (W .this) (line-is ∙ reads-this)
-
         pub load-again : (c′ : Counts) → c′ ≡ counted c (getD buf′ used 0) → Going text buf′ c′ groups′ users′ owners′ starts′ holders′ names′ ms′ is′ next (used + len) (number + 1)
-        unfolding after
+        unfolding after allTold
         load-again c′ p =
             let q = ens (G .b) held-again .0 in
             let l : len ≡ used + len - used = omega arith in
@@ -281,9 +234,10 @@ module _ {text buf : List ℕ} {c : Counts} {groups users owners starts holders 
                   ∙ unless-clear m number _ fine
                   ∙ ap (λ (x : Line). judge (number + 1) (after (G .b) x) (lines (drop next text))) reads-this;
               held = rw (t, k) (W .held);
-              groups-left = G .groups-left ∙ ap (λ (x : List Entry). G .b .groups ++ filterMap asGroup x) entries-here ∙ ap (λ (x : List Str). G .b .groups ++ x) (filterMap-cons asGroup (W .this) (entries (lines (drop next text)))) ∙ with-groups (G .b) (W .this) _;
-              members-left = G .members-left ∙ ap (λ (x : List Entry). G .b .members ++ filterMap asMember x) entries-here ∙ ap (λ (x : List Member). G .b .members ++ x) (filterMap-cons asMember (W .this) (entries (lines (drop next text)))) ∙ with-members (G .b) (W .this) _;
-              rules-left = G .rules-left ∙ ap (λ (x : List Entry). G .b .rules ++ filterMap asRule x) entries-here ∙ ap (λ (x : List Rule). G .b .rules ++ x) (filterMap-cons asRule (W .this) (entries (lines (drop next text)))) ∙ with-rules (G .b) (W .this) _;
+              told-left =
+                  G .told-left
+                  ∙ ap (allTold (G .b)) (R .first)
+                  ∙ ap (λ (x : Line). allTold (after (G .b) x) (lines (drop next text))) (line-is ∙ reads-this);
               paced = omega (arith, G .paced, R .goes);
               within = (R .ends, G .within .1, omega (arith, same-long, G .within .2));
             }

@@ -1,8 +1,7 @@
 -- The marked examples A to L, by computation.
 use mathlib.Core.Path.{_≡_, refl}
 use mathlib.Core.Bool.{xor}
-use mathlib.Core.List.{map, filterMap}
-use mathlib.Core.Option.{Option·elim}
+use mathlib.Core.List.{map}
 use Rattle.text.specs.Test.{_and_, _or_, if_then_else_, all, any, only, twice}
 use Rattle.text.specs.String.{same, more, before}
 use Rattle.text.specs.Frame.{_>>=_, ret, byte, run, string, times}
@@ -17,7 +16,7 @@ use Rattle.line.specs.Lines.{onto, lines, pair, pairs, nonempty, frame}
 use Rattle.table.specs.Frame.{unknown, code, versionBody, groupBody, memberBody, ruleBody, ruleEntry, body, entry, entryOf}
 use Rattle.table.specs.Frame as table-line
 use Rattle.table.specs.Refusal.{framed, decoded, lineOf, kindOf, outOfOrder, unsizedShort, pastLimit, stray, strays, misplaces, sameMember, sameId, repeats, listed, unlisted, refusal, first, with, after}
-use Rattle.table.specs.Text.{unless, judge, check, read, entries, asGroup, asMember, asRule, table, tableOf}
+use Rattle.table.specs.Text.{unless, judge, check, allTold, table, tableOf}
 use Rattle.table.specs.Group.{lists, badUser}
 use Rattle.verdict.specs.Cover.{wild, definite, holds, meets, covers}
 use Rattle.verdict.specs.Join.{conflict, clashes, agrees, agree, meld, join}
@@ -35,7 +34,7 @@ unfolding xor _and_ _or_ if_then_else_ all any only twice same more before _>>=_
     each elements readText reader.key reader.element onto lines pair pairs nonempty frame unknown code versionBody
     groupBody memberBody ruleBody ruleEntry body entry entryOf table-line.whole framed decoded lineOf kindOf outOfOrder
     unsizedShort pastLimit stray strays misplaces sameMember sameId repeats listed unlisted refusal first with after
-    unless judge check filterMap Option·elim read entries asGroup asMember asRule table tableOf lists
+    unless judge check allTold table tableOf lists
     badUser wild definite holds meets covers conflict clashes agrees agree meld join definites better earlier prefer
     candidate choose concerns applies matches decider action permits fits opposes word answer tree badMode badOrigin
     unspelled requestRefusal spelled request decidedBy pathAnswer pathVerdict spread treeAnswer treeVerdict empty begins ends pattern.matches examples

@@ -1,7 +1,6 @@
 -- Texts of rule tables with their answers, by computation.
 use mathlib.Core.Path.{_≡_, refl}
-use mathlib.Core.List.{List, [], _∷_, _++_, filterMap}
-use mathlib.Core.Option.{Option·elim}
+use mathlib.Core.List.{List, [], _∷_, _++_}
 use Prim.Native.Nat.{ℕ, _+_, _*_}
 use Prim.Native.String.{String}
 use Rattle.text.specs.Test.{_and_, _or_, if_then_else_, all, any, twice}
@@ -12,7 +11,7 @@ use Rattle.path.specs.Faults.{unsized, keyOver, elemOver, overLimit, outsideNam
 use Rattle.line.specs.Lines.{onto, lines, pair, pairs, nonempty, frame}
 use Rattle.table.specs.Frame.{unknown, code, versionBody, groupBody, memberBody, ruleBody, ruleEntry, body, entry, whole, entryOf}
 use Rattle.table.specs.Refusal.{framed, decoded, lineOf, kindOf, outOfOrder, unsizedShort, pastLimit, stray, strays, misplaces, sameMember, sameId, repeats, listed, unlisted, refusal, first, with, after}
-use Rattle.table.specs.Text.{unless, judge, check, read, entries, asGroup, asMember, asRule, table, tableOf}
+use Rattle.table.specs.Text.{unless, judge, check, allTold, table, tableOf}
 use Rattle.table.specs.Group.{lists, numbered, memberships, groupsOf, counted, badUser, countFor, groupCount}
 use Rattle.table.specs.declared.Checked.{Checked}
 use Rattle.table.specs.declared.Checked.the-variants.{Accepted, Refused}
@@ -103,6 +102,6 @@ unfolding count counts _and_ _or_ if_then_else_ all any twice same _>>=_ ret byt
     elemMisplaced misplaced keyTwice onto lines pair pairs nonempty frame unknown code versionBody groupBody memberBody
     ruleBody ruleEntry body entry whole entryOf framed decoded lineOf kindOf outOfOrder unsizedShort pastLimit stray
     strays misplaces sameMember sameId repeats listed unlisted refusal first with after unless judge check checkWord
-    filterMap Option·elim read entries asGroup asMember asRule table tableOf lists numbered memberships
+    allTold table tableOf lists numbered memberships
     groupsOf counted badUser countFor groupCount countWord
 counted-right = refl

@@ -3,6 +3,5 @@ pub mod Frames
 pub mod Rules
 pub mod Versions
 pub mod Inside
-pub mod Entries
 pub mod Examples
 pub mod Users

@@ -1,8 +1,7 @@
 -- A whole rule table text: refused at its first faulty line, or the table that it holds.
 use Prim.Native.Nat.{ℕ, _+_}
 use mathlib.Core.Bool.{Bool, true, false}
-use mathlib.Core.List.{List, [], _∷_, filterMap}
-use mathlib.Core.Option.{Option, none, some}
+use mathlib.Core.List.{List, [], _∷_}
 use lib.Dec.{eqb, ltb}
 use lib.ListN.{length}
 use Rattle.limits.specs.Limits.{maxTableText}
@@ -10,9 +9,8 @@ use Rattle.text.specs.Test.{if_then_else_}
 use Rattle.text.specs.String.{Str}
 use Rattle.text.specs.Refusal.{clear}
 use Rattle.line.specs.Lines.{lines}
-use Rattle.table.specs.Table.{Member, Rule, Table}
-use Rattle.table.specs.Frame.{Entry, version, group, member, rule}
-use Rattle.table.specs.Refusal.{Line, notHex, unreadable, reads, lineOf, Earlier, refusal, first, after}
+use Rattle.table.specs.Table.{Table}
+use Rattle.table.specs.Refusal.{lineOf, Earlier, refusal, first, after}
 use Rattle.table.specs.declared.Checked.{Checked}
 use Rattle.table.specs.declared.Checked.the-variants.{Accepted, Refused}
 
@@ -40,39 +38,15 @@ isAccepted (Refused n l) = false
 
 -- ---- the table
 
--- what a line holds
-unfoldable pub read : Line → Option Entry
-read notHex = none
-read unreadable = none
-read (reads e) = some e
-
--- what the lines hold, in order
-unfoldable pub entries : List Str → List Entry
-entries ls = filterMap (λ (l : Str). read (lineOf l)) ls
-
--- the groups, members and rules of the entries, each apart
-unfoldable pub asGroup : Entry → Option Str
-asGroup (version v t) = none
-asGroup (group n) = some n
-asGroup (member m) = none
-asGroup (rule r) = none
-
-unfoldable pub asMember : Entry → Option Member
-asMember (version v t) = none
-asMember (group n) = none
-asMember (member m) = some m
-asMember (rule r) = none
-
-unfoldable pub asRule : Entry → Option Rule
-asRule (version v t) = none
-asRule (group n) = none
-asRule (member m) = none
-asRule (rule r) = some r
+-- what all the lines tell, after what b tells
+unfoldable pub allTold : Earlier → List Str → Earlier
+allTold b [] = b
+allTold b (l ∷ ls) = allTold (after b (lineOf l)) ls
 
 -- "Rules and groups are numbered from 0 in text order."
-unfoldable pub table : List Entry → Table
-table es = record { groups = filterMap asGroup es; members = filterMap asMember es; rules = filterMap asRule es }
+unfoldable pub table : Earlier → Table
+table b = record { groups = b .groups; members = b .members; rules = b .rules }
 
 -- the table that an accepted text holds
 unfoldable pub tableOf : Str → Table
-tableOf text = table (entries (lines text))
+tableOf text = table (allTold first (lines text))
