@@ -91,7 +91,6 @@ fn list(text: &[u8], user: &[u8], mode: u32, origin: &[u8], path: &[u8]) {
     let mut groups = [0u16; limits::MAX_GROUPS];
     let mut users = [0u16; limits::MAX_MEMBERS];
     let mut owners = [0u8; limits::MAX_MEMBERS];
-    let mut ids = [0u16; limits::MAX_RULES];
     let mut starts = [0u16; limits::MAX_RULES];
     let mut holders = [0u8; limits::MAX_RULES];
     let l = load::load(
@@ -100,7 +99,6 @@ fn list(text: &[u8], user: &[u8], mode: u32, origin: &[u8], path: &[u8]) {
         &mut groups,
         &mut users,
         &mut owners,
-        &mut ids,
         &mut starts,
         &mut holders,
     );

@@ -14,39 +14,39 @@ use Rattle.table_commands.proofs.explanation.list.Tie as tie
 
 array-share-prefix-buf : tie.Need-array-share-prefix-buf
 array-share-prefix-buf c = let at-load = c .before .before .before .before in
-    let k = (outcome-kept _ _ _ _ _ _ _ _ _ (at-load .load .ensures) _ _ (c .before .l .given .1)) .within in omega (arith, k .0, k .1)
+    let k = (outcome-kept _ _ _ _ _ _ _ _ (at-load .load .ensures) _ _ (c .before .l .given .1)) .within in omega (arith, k .0, k .1)
 
 slice-aggregate-f : tie.Need-slice-aggregate-f
 slice-aggregate-f c = let at-load = c .before .before .before .before .before in
-    front-is (outcome-kept _ _ _ _ _ _ _ _ _ (at-load .load .ensures) _ _ (c .before .before .l .given .1))
+    front-is (outcome-kept _ _ _ _ _ _ _ _ (at-load .load .ensures) _ _ (c .before .before .l .given .1))
 
 slice-aggregate-memberships : tie.Need-slice-aggregate-memberships
 slice-aggregate-memberships c = let at-l = c .before .before .before in let at-load = at-l .before .before .before in
-    sym ((outcome-kept _ _ _ _ _ _ _ _ _ (at-load .load .ensures) _ _ (at-l .l .given .1)) .holds .long .1)
+    sym ((outcome-kept _ _ _ _ _ _ _ _ (at-load .load .ensures) _ _ (at-l .l .given .1)) .holds .long .of-users)
 
 slice-aggregate-memberships-2 : tie.Need-slice-aggregate-memberships-2
 slice-aggregate-memberships-2 c = let at-l = c .before .before .before .before in
     let at-load = at-l .before .before .before in
-    sym ((outcome-kept _ _ _ _ _ _ _ _ _ (at-load .load .ensures) _ _ (at-l .l .given .1)) .holds .long .2)
+    sym ((outcome-kept _ _ _ _ _ _ _ _ (at-load .load .ensures) _ _ (at-l .l .given .1)) .holds .long .of-owners)
 
 memberships-requires : tie.Need-memberships-requires
 memberships-requires c κs = let at-l = c .before .before .before .before in
     let at-load = at-l .before .before .before in
-    count-requires (outcome-kept _ _ _ _ _ _ _ _ _ (at-load .load .ensures) _ _ (at-l .l .given .1))
+    count-requires (outcome-kept _ _ _ _ _ _ _ _ (at-load .load .ensures) _ _ (at-l .l .given .1))
 
 slice-aggregate-rank-rules : tie.Need-slice-aggregate-rank-rules
 slice-aggregate-rank-rules c = let at-l = c .before .before .before .before .before .before in
     let at-load = at-l .before .before .before in
-    sym ((outcome-kept _ _ _ _ _ _ _ _ _ (at-load .load .ensures) _ _ (at-l .l .given .1)) .holds .long .4)
+    sym ((outcome-kept _ _ _ _ _ _ _ _ (at-load .load .ensures) _ _ (at-l .l .given .1)) .holds .long .of-starts)
 
 slice-aggregate-rank-rules-2 : tie.Need-slice-aggregate-rank-rules-2
 slice-aggregate-rank-rules-2 c = let at-l = c .before .before .before .before .before .before .before in
     let at-load = at-l .before .before .before in
-    sym ((outcome-kept _ _ _ _ _ _ _ _ _ (at-load .load .ensures) _ _ (at-l .l .given .1)) .holds .long .5)
+    sym ((outcome-kept _ _ _ _ _ _ _ _ (at-load .load .ensures) _ _ (at-l .l .given .1)) .holds .long .of-holders)
 
 array-share-prefix-bytes : tie.Need-array-share-prefix-bytes
 array-share-prefix-bytes c =
-    let at-filled = c .before .before .before .before .before .before .before .before .before .before .before .before .before .before .before .before .before .before .before in
+    let at-filled = c .before .before .before .before .before .before .before .before .before .before .before .before .before .before .before .before .before .before in
     let at-read-text = at-filled .before .before .before in
     let at-start = at-read-text .before .before .before .before .before .before in
     (was-read (at-start .args .path .now) _ (at-read-text .read-text .last .1 .0)
@@ -55,7 +55,7 @@ array-share-prefix-bytes c =
 
 slice-aggregate-rank-rules-3 : tie.Need-slice-aggregate-rank-rules-3
 slice-aggregate-rank-rules-3 c =
-    let at-filled = c .before .before .before .before .before .before .before .before .before .before .before .before .before .before .before .before .before .before .before .before in
+    let at-filled = c .before .before .before .before .before .before .before .before .before .before .before .before .before .before .before .before .before .before .before in
     let at-read-text = at-filled .before .before .before in
     let at-start = at-read-text .before .before .before .before .before .before in
     sym (length-take-le _ _ ((was-read (at-start .args .path .now) _ (at-read-text .read-text .last .1 .0)
@@ -65,10 +65,10 @@ slice-aggregate-rank-rules-3 c =
 rank-rules-requires : tie.Need-rank-rules-requires
 rank-rules-requires c κs = let at-l = c .before .before .before .before .before .before .before .before .before in
     let at-load = at-l .before .before .before in
-    let at-filled = at-load .before .before .before .before .before .before .before .before .before in
+    let at-filled = at-load .before .before .before .before .before .before .before .before in
     let at-read-text = at-filled .before .before .before in
     let at-start = at-read-text .before .before .before .before .before .before in
-    let K = outcome-kept _ _ _ _ _ _ _ _ _ (at-load .load .ensures) _ _ (at-l .l .given .1) in
+    let K = outcome-kept _ _ _ _ _ _ _ _ (at-load .load .ensures) _ _ (at-l .l .given .1) in
     let few = K .holds .few .2 in
     let r = was-read (at-start .args .path .now) _ (at-read-text .read-text .last .1 .0)
     (omega (arith, length-replicate {A = ℕ} maxPathBytes 0)) _ (at-read-text .read-text .ensures .0)
@@ -79,13 +79,13 @@ slice-aggregate-ranked : tie.Need-slice-aggregate-ranked
 slice-aggregate-ranked c =
     let at-l = c .before .before .before .before .before .before .before .before .before .before .before .before in
     let at-load = at-l .before .before .before in
-    sym ((outcome-kept _ _ _ _ _ _ _ _ _ (at-load .load .ensures) _ _ (at-l .l .given .1)) .holds .long .4)
+    sym ((outcome-kept _ _ _ _ _ _ _ _ (at-load .load .ensures) _ _ (at-l .l .given .1)) .holds .long .of-starts)
 
 ranked-requires : tie.Need-ranked-requires
 ranked-requires c κs = let at-rank-rules = c .before .before .before in
     let at-l = at-rank-rules .before .before .before .before .before .before .before .before .before .before in
     let at-load = at-l .before .before .before in
-    let K = outcome-kept _ _ _ _ _ _ _ _ _ (at-load .load .ensures) _ _ (at-l .l .given .1) in
+    let K = outcome-kept _ _ _ _ _ _ _ _ (at-load .load .ensures) _ _ (at-l .l .given .1) in
     let few = K .holds .few .2 in
     (safe K .rules, at-rank-rules .rank-rules .ensures .0, omega arith)
 
