@@ -20,8 +20,13 @@
 extern "C" {
 #endif
 
-/* The version of this header and its library; CHANGELOG.md says what changed. */
-#define BURGEE_VERSION "0.1.0"
+/* ---- The version --------------------------------------------------------------- */
+
+/* Of this header and its library; CHANGELOG.md says what changed. */
+#define BURGEE_VERSION_STRING "0.1.0"
+
+/* As one number, which grows with the version: major * 10000 + minor * 100 + patch. */
+#define BURGEE_VERSION 100
 
 /* ---- The answer ---------------------------------------------------------------- */
 

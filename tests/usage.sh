@@ -72,8 +72,13 @@ misused rpc - '' / -
 answer help
 answer --help
 answer -h
-answer --version
-misused --version more
+version="burgee $(sed -n 's/^#define BURGEE_VERSION_STRING "\(.*\)"$/\1/p' include/burgee.h)"
+for command in version --version; do
+    answer $command
+    [ "$(cat "$work/written")" = "$version" ] || fail "$command: not the version of the header"
+    misused $command more
+done
+answer help version
 
 # Where the answer cannot be written.
 if [ -w /dev/full ]; then

@@ -14,11 +14,18 @@ if [ "$found" != "$pinned" ]; then
     status=1
 fi
 
-header=$(sed -n 's/^#define BURGEE_VERSION "\(.*\)"$/\1/p' include/burgee.h)
+header=$(sed -n 's/^#define BURGEE_VERSION_STRING "\(.*\)"$/\1/p' include/burgee.h)
 changelog=$(sed -n 's/^## \[\([0-9][0-9.]*\)\].*/\1/p' CHANGELOG.md | head -n 1)
 rust=$(sed -n 's/^version = "\(.*\)"$/\1/p' rust/Cargo.toml)
 if [ -z "$header" ] || [ "$header" != "$changelog" ] || [ "$header" != "$rust" ]; then
     echo "the version is $header in include/burgee.h, $changelog in CHANGELOG.md, $rust in rust/Cargo.toml"
+    status=1
+fi
+
+number=$(sed -n 's/^#define BURGEE_VERSION \([0-9]*\)$/\1/p' include/burgee.h)
+IFS=. read -r major minor patch <<<"$header"
+if [ "$number" != $((major * 10000 + minor * 100 + patch)) ]; then
+    echo "include/burgee.h: BURGEE_VERSION is $number, and BURGEE_VERSION_STRING $header"
     status=1
 fi
 

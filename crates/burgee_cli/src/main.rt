@@ -4,20 +4,65 @@ use table_commands::explanation;
 use table_commands::paths;
 use table_commands::tables;
 
-// Commands are numbered as in `main`.
-fn on_text(command: usize, text: &[u8]) {
+enum Command {
+    Table,
+    Show,
+    Pack,
+    Policy,
+    Groups,
+    Path,
+    Verdict,
+    Tree,
+    Explain,
+    Rpc,
+    Rotate,
+    Version,
+    Help,
+    Unknown,
+}
+
+// The command of that name.
+fn named(word: &[u8]) -> Command {
+    let place = console::lines::place(
+        b"table\nshow\npack\npolicy\ngroups\npath\nverdict\ntree\nexplain\nrpc\nrotate\nversion\n--version\nhelp\n--help\n-h\n",
+        word,
+    );
+    match place {
+        0 => Command::Unknown,
+        1 => Command::Table,
+        2 => Command::Show,
+        3 => Command::Pack,
+        4 => Command::Policy,
+        5 => Command::Groups,
+        6 => Command::Path,
+        7 => Command::Verdict,
+        8 => Command::Tree,
+        9 => Command::Explain,
+        10 => Command::Rpc,
+        11 => Command::Rotate,
+        12 | 13 => Command::Version,
+        _ => Command::Help,
+    }
+}
+
+// One byte more than the longest text that a command takes, a readable one of 131,072 bytes, so that a longer one is told from it.
+const TEXT_ROOM: usize = 131073;
+
+// As many as a large buffer (io) has. What stands after the argument is LF, which ends a line of digits.
+const DIGITS_ROOM: usize = 65536;
+
+fn on_text(command: Command, text: &[u8]) {
     match command {
-        1 => tables::check(text),
-        2 => readable_commands::show_table(text),
-        3 => readable_commands::pack_table(text),
+        Command::Table => tables::check(text),
+        Command::Show => readable_commands::show_table(text),
+        Command::Pack => readable_commands::pack_table(text),
         _ => policy_commands::check(text),
     }
 }
 
 // burgee table|show|pack|policy FILE
-fn read_text(command: usize) {
-    // A readable text has at most 131,072 bytes, every other text less.
-    let mut text = [0u8; 131073];
+fn read_text(command: Command) {
+    let mut text = [0u8; TEXT_ROOM];
     let got = input::file(2, &mut text);
     let n = got.count;
     if got.is_good {
@@ -58,16 +103,16 @@ fn groups() {
     }
 }
 
-fn judge(command: usize, text: &mut [u8], user: &[u8], mode: u32, origin: &[u8], path: &[u8]) {
+fn judge(command: Command, text: &mut [u8], user: &[u8], mode: u32, origin: &[u8], path: &[u8]) {
     match command {
-        7 => tables::verdict(text, user, mode, origin, path),
-        8 => tables::tree(text, user, mode, origin, path),
+        Command::Verdict => tables::verdict(text, user, mode, origin, path),
+        Command::Tree => tables::tree(text, user, mode, origin, path),
         _ => explanation::all(text, user, mode, origin, path),
     }
 }
 
 // burgee verdict|tree|explain FILE USER read|write ORIGIN PATH
-fn verdict(command: usize, page: &[u8]) {
+fn verdict(command: Command, page: &[u8]) {
     let mode = input::mode(4, page);
     if mode == 0 {
         return;
@@ -97,8 +142,7 @@ fn verdict(command: usize, page: &[u8]) {
 // burgee path write BYTES
 fn path() {
     let mode = input::mode(2, b"path");
-    // What stands after the argument is LF, which ends a line of digits.
-    let mut given = [10u8; 65536];
+    let mut given = [b'\n'; DIGITS_ROOM];
     let n = input::word(3, &mut given);
     if mode == 1 {
         paths::read(&given[..n]);
@@ -125,26 +169,29 @@ fn explain_use() {
 }
 
 // Whether a command takes that many words; how many a rotation takes, its step says.
-fn takes(command: usize, words: usize) -> bool {
+fn takes(command: Command, words: usize) -> bool {
     match command {
-        1 | 2 | 3 | 4 => words == 3,
-        5 | 6 => words == 4,
-        7 | 8 | 9 => words == 7,
-        10 => (words == 5) | (words == 6),
-        11 => 2 < words,
+        Command::Table | Command::Show | Command::Pack | Command::Policy => words == 3,
+        Command::Groups | Command::Path => words == 4,
+        Command::Verdict | Command::Tree | Command::Explain => words == 7,
+        Command::Rpc => (words == 5) | (words == 6),
+        Command::Rotate => 2 < words,
+        Command::Version => words == 2,
         _ => words < 4,
     }
 }
 
-fn run(command: usize, name: &[u8], words: usize) {
+fn run(command: Command, name: &[u8], words: usize) {
     match command {
-        1 | 2 | 3 | 4 => read_text(command),
-        5 => groups(),
-        6 => path(),
-        7 | 8 | 9 => verdict(command, name),
-        10 => rpc(words),
-        11 => rotate(words),
-        _ => explain_use(),
+        Command::Table | Command::Show | Command::Pack | Command::Policy => read_text(command),
+        Command::Groups => groups(),
+        Command::Path => path(),
+        Command::Verdict | Command::Tree | Command::Explain => verdict(command, name),
+        Command::Rpc => rpc(words),
+        Command::Rotate => rotate(words),
+        Command::Version => help::version(),
+        Command::Help => explain_use(),
+        Command::Unknown => console::say::usage(b"no such command: ", name, b""),
     }
 }
 
@@ -152,14 +199,11 @@ fn main() {
     let mut word = io::buffer();
     let w = input::word(1, &mut word);
     let n = os::arg_count();
-    let command = console::lines::place(
-        b"table\nshow\npack\npolicy\ngroups\npath\nverdict\ntree\nexplain\nrpc\nrotate\nhelp\n--help\n-h\n",
-        &word[..w],
-    );
+    let command = named(&word[..w]);
     if n < 2 {
         console::say::usage(b"no command is named", b"", b"");
-    } else if command == 0 {
-        console::say::usage(b"no such command: ", &word[..w], b"");
+    } else if let Command::Unknown = command {
+        run(command, &word[..w], n);
     } else if takes(command, n) {
         run(command, &word[..w], n);
     } else {

@@ -17,6 +17,7 @@ pub fn all() {
         burgee rpc FILE IDENTITY PATH [HEADERS-FILE]       whether a client may make a call\n\
         burgee rotate STEP RECORD STORE ..                 a rotation, tried by hand\n\
         burgee help [COMMAND]                              this page, or one command's\n\
+        burgee version                                     the version of this program\n\
         \n\
         A FILE named - is standard input. Each line of an answer is one fact.\n\
         The exit status is 0 for an answer, 1 for a refusal, 2 for a call that is not understood\n\
@@ -262,10 +263,15 @@ fn rotate() {
     );
 }
 
+// The version of the product, as include/burgee.h has it.
+pub fn version() {
+    io::write_all(1, b"burgee 0.1.0\n");
+}
+
 // One command's help, or all of it; false where there is no such command.
 pub fn on(command: &[u8]) -> bool {
     let page = console::lines::place(
-        b"table\nshow\npack\ngroups\nverdict\ntree\nexplain\npath\npolicy\nrpc\nrotate\nhelp\n\n",
+        b"table\nshow\npack\ngroups\nverdict\ntree\nexplain\npath\npolicy\nrpc\nrotate\nhelp\nversion\n\n",
         command,
     );
     match page {

@@ -5,7 +5,7 @@ use line::Line;
 use path_text::Filled;
 
 // As many bytes as the digits of a large buffer (io) make.
-const MAX_BYTES: usize = 32768;
+const MAX_BYTES: usize = 65536 / 2;
 
 // Prints the bytes of a path text, in hex.
 pub fn read(text: &[u8]) {

@@ -8,6 +8,7 @@ use Rattle.rpc_request.proofs.Lines.{Judging, judging-start, judging-un
 use Rattle.rpc_request.proofs.headers.are_lines.Statement.{statement}
 use Rattle.rpc_request.proofs.headers.are_lines.Tie as tie
 
+-- whether h is lines is whether what stands from i on is
 abbrev Inv-loop : tie.InvT-loop
 Inv-loop h n i₀ i = Judging h i
 

@@ -10,6 +10,7 @@ use Rattle.rpc_request.proofs.Lines.{cut-pass, cut-found, cut-over}
 use Rattle.rpc_request.proofs.headers.byte_from.Statement.{statement}
 use Rattle.rpc_request.proofs.headers.byte_from.Tie as tie
 
+-- i is within h, and where the first byte b from i on stands, there it stands from `at` on
 abbrev Inv-loop : tie.InvT-loop
 Inv-loop h at b i₀ i = (i ≤ length h) × (at ≤ i) × ((e : ℕ) → i ≤ e → cutAt b (drop i h) ≡ cutHere h i e → cutAt b (drop at h) ≡ cutHere h at e)
 
