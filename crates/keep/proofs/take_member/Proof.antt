@@ -47,8 +47,7 @@ sub-group c = let at-a = c .before .before .before .before .before .before .befo
     string-ends _ _ _ (at-a .before .before .string-end .ensures) _ (at-a .a .given .1) .1
 
 part-group-start : tie.Need-part-group-start
-part-group-start c = let at-a = c .before .before .before .before .before .before .before .before in
-    string-ends _ _ _ (at-a .before .before .string-end .ensures) _ (at-a .a .given .1) .1
+part-group-start c = sub-group c
 
 part-group-end : tie.Need-part-group-end
 part-group-end c = let at-a = c .before .before .before .before .before .before .before .before in
@@ -59,8 +58,7 @@ sub-user c = let at-z = c .before .before .before .before .before in
     string-ends _ _ _ (at-z .before .before .string-end2 .ensures) _ (at-z .z .given .1) .1
 
 part-user-start : tie.Need-part-user-start
-part-user-start c = let at-z = c .before .before .before .before .before in
-    string-ends _ _ _ (at-z .before .before .string-end2 .ensures) _ (at-z .z .given .1) .1
+part-user-start c = sub-user c
 
 part-user-end : tie.Need-part-user-end
 part-user-end c = let at-z = c .before .before .before .before .before in
@@ -71,12 +69,10 @@ sub-key c = let at-z = c .before .before .before .before .before .before in
     let h = string-ends _ _ _ (at-z .before .before .string-end2 .ensures) _ (at-z .z .given .1) in omega (arith, h .1)
 
 part-key-start : tie.Need-part-key-start
-part-key-start c = let at-z = c .before .before .before .before .before .before in
-    let h = string-ends _ _ _ (at-z .before .before .string-end2 .ensures) _ (at-z .z .given .1) in omega (arith, h .1)
+part-key-start c = sub-key c
 
 part-key-end : tie.Need-part-key-end
-part-key-end c = let at-z = c .before .before .before .before .before .before in
-    string-ends _ _ _ (at-z .before .before .string-end2 .ensures) _ (at-z .z .given .1) .2
+part-key-end c = part-user-end (c .before)
 
 number-of-requires : tie.Need-number-of-requires
 number-of-requires c κs =
@@ -154,19 +150,7 @@ cast-owners c = let at-number-of = c .before .before .before .before .before .be
     let h = place-small _ _ _ _ _ (at-number-of .number-of .ensures) in omega (arith, h, at-start .pre .few)
 
 element-write-owners : tie.Need-element-write-owners
-element-write-owners c = let at-all-print = c .before .before .before in
-    let at-find = at-all-print .before .before .before in let at-hash = at-find .before .before .before in
-    let at-if2 = at-hash .before .before .before .before .before .before .before .before in
-    let at-z = at-if2 .before .before .before .before in let at-a = at-z .before .before .before .before in
-    let at-start = at-a .before .before .before .before .before in
-    member-room _ (at-start .pre .kind) _ (at-a .before .before .string-end .ensures) _ (at-a .a .given .1) _
-    (at-z .before .before .string-end2 .ensures) _ (at-z .z .given .1) (at-if2 .before .before .if1 .left) _ _
-    (at-if2 .before .is-out-of-order .ensures) (at-if2 .if2 .left) (at-start .args .old .now)
-    (at-start .args .groups .now) _ (at-start .args .users .now) (at-start .args .owners .now)
-    (at-start .args .keys .now) _ (at-start .pre .room) (at-start .pre .long) (at-start .pre .held) _ _ _ _ _ _ _ _
-    (at-all-print .before .before .is-unsized .ensures) (at-all-print .before .is-unsized2 .ensures)
-    (at-all-print .all-print .ensures) (c .before .before .all-print2 .ensures)
-    (at-hash .before .number-of .ensures) (at-hash .hash .ensures) (at-find .find .ensures) (c .before .number .ensures) (c .if3 .left)
+element-write-owners c = element-write-users c
 
 add-begin : tie.Need-add-begin
 add-begin c =
