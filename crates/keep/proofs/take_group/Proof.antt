@@ -35,8 +35,7 @@ sub-name c = let at-e = c .before .before .before .before in
     string-ends _ _ _ (at-e .before .before .string-end .ensures) _ (at-e .e .given .1) .1
 
 part-name-start : tie.Need-part-name-start
-part-name-start c = let at-e = c .before .before .before .before in
-    string-ends _ _ _ (at-e .before .before .string-end .ensures) _ (at-e .e .given .1) .1
+part-name-start c = sub-name c
 
 part-name-end : tie.Need-part-name-end
 part-name-end c = let at-e = c .before .before .before .before in
