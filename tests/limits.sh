@@ -181,7 +181,6 @@ others() {
 2,731           header lines that fit: the size of an array
 131,072         what the command line takes of a file
 1,528 2,353     measured: names that found their place taken
-19,840          what the arrays of a loaded table take
 END
 }
 

@@ -25,6 +25,7 @@ record Best-so-far (f starts on : List ℕ) (n : ℕ) (p : Path) (b : Best) (i :
   best : (app : Rule → Bool) → Marked app f starts on n
       → choose better (matching app p) 0 (rulesIn f starts n 0) ≡ prefer better (held f b) (choose better (matching app p) i (rulesIn f starts (n - i) i))
 
+-- b is the best of the rules before i
 abbrev Inv-loop : tie.InvT-loop
 Inv-loop f starts on n g p k b₀ i₀ b i = Best-so-far f starts on n (elemsIn k g p) b i
 

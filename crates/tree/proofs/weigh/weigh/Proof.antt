@@ -26,6 +26,7 @@ record Weighed-so-far (f starts on : List ℕ) (n : ℕ) (p : Path) (weights₀ 
   packed : (j : ℕ) → j < i → Packed (getD weights j 0) j
   weights-are : (app : Rule → Bool) → Marked app f starts on n → Weights (fitting app p) f starts weights i
 
+-- weights and paths of the rules before i are stored, and the arrays are as long as they were
 abbrev Inv-loop : tie.InvT-loop
 Inv-loop f starts on n g p k weights₀ paths₀ i₀ weights paths i = Weighed-so-far f starts on n (elemsIn k g p) weights₀ paths₀ weights paths i
 

@@ -27,6 +27,7 @@ record Witness-so-far (f starts weights : List ℕ) (n : ℕ) (p : Path) (v : Bo
       → choose earlier (opposing test (rulesIn f starts n 0) p v) 0 (rulesIn f starts n 0)
       ≡ prefer earlier (held f b) (choose earlier (opposing test (rulesIn f starts n 0) p v) i (rulesIn f starts (n - i) i))
 
+-- b is, of the rules before i that fit and oppose, the one with the smallest id
 abbrev Inv-loop : tie.InvT-loop
 Inv-loop f starts weights paths next filters n first v g p k b₀ i₀ b i = Witness-so-far f starts weights n (elemsIn k g p) v b i
 
