@@ -16,14 +16,14 @@ use crate::verdict::{PathVerdict, TreeVerdict};
 
 /// What the program prints for these words and this standard input.
 pub fn burgee(words: &[&[u8]], input: &[u8]) -> String {
-    let program = PathBuf::from(env!("CARGO_MANIFEST_DIR")).join("../target/bin/burgee_cli");
+    let program = PathBuf::from(env!("CARGO_MANIFEST_DIR")).join("../target/bin/cli");
     let mut child = Command::new(program)
         .args(words.iter().map(|word| OsStr::from_bytes(word)))
         .stdin(Stdio::piped())
         .stdout(Stdio::piped())
         .stderr(Stdio::piped())
         .spawn()
-        .expect("target/bin/burgee_cli, which bin/burgee builds");
+        .expect("target/bin/cli, which bin/burgee builds");
     // It may end before it has read all.
     let _ = child.stdin.take().expect("piped").write_all(input);
     let output = child.wait_with_output().expect("an end");

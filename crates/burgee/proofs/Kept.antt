@@ -6,7 +6,7 @@ use Rattle.table.specs.declared.Checked.{Checked}
 use Rattle.table.specs.declared.Checked.the-variants.{Accepted, Refused}
 use Rattle.rotation.specs.Calls.{stepped, start, upload, finalize, close}
 use Rattle.rotation.specs.declared.Record.{Record}
-use Rattle.upload.specs.Offered.{offeredCheck}
+use Rattle.rotation_upload.specs.Offered.{offeredCheck}
 use Rattle.burgee.specs.Record.{answered}
 use Rattle.burgee.specs.Word.{checkedWord}
 

@@ -1,21 +1,21 @@
 -- The answer word: one 64-bit number for each answer of a call.
 use Prim.Native.Nat.{ℕ, _+_, _*_, _%_, _^_}
-use Rattle.path_text.specs.declared.Filled.{Filled}
-use Rattle.path_text.specs.declared.Filled.the-variants as filled
+use Rattle.path_read.specs.declared.Filled.{Filled}
+use Rattle.path_read.specs.declared.Filled.the-variants as filled
 use Rattle.table.specs.declared.Checked.{Checked}
 use Rattle.table.specs.declared.Checked.the-variants as checked
 use Rattle.table.specs.declared.Counted.{Counted}
 use Rattle.table.specs.declared.Counted.the-variants as counted
-use Rattle.verdict_text.specs.declared.PathAnswer.{PathAnswer}
-use Rattle.verdict_text.specs.declared.PathAnswer.the-variants as path
-use Rattle.verdict_text.specs.declared.TreeAnswer.{TreeAnswer}
-use Rattle.verdict_text.specs.declared.TreeAnswer.the-variants as trees
-use Rattle.policy_text.specs.declared.check.Check.{Check}
-use Rattle.policy_text.specs.declared.check.Check.the-variants as policy
+use Rattle.verdict_request.specs.declared.PathAnswer.{PathAnswer}
+use Rattle.verdict_request.specs.declared.PathAnswer.the-variants as path
+use Rattle.verdict_request.specs.declared.TreeAnswer.{TreeAnswer}
+use Rattle.verdict_request.specs.declared.TreeAnswer.the-variants as trees
+use Rattle.policy_check.specs.declared.check.Check.{Check}
+use Rattle.policy_check.specs.declared.check.Check.the-variants as policy
 use Rattle.rpc.specs.declared.verdict.Verdict.{Verdict}
 use Rattle.rpc.specs.declared.verdict.Verdict.the-variants as rpc
-use Rattle.probe.specs.declared.rpcs.RpcAnswer.{RpcAnswer}
-use Rattle.probe.specs.declared.rpcs.RpcAnswer.the-variants as probe
+use Rattle.rotation_probe.specs.declared.rpcs.RpcAnswer.{RpcAnswer}
+use Rattle.rotation_probe.specs.declared.rpcs.RpcAnswer.the-variants as probe
 
 -- bits 8 to 39
 abbrev pub upper : ℕ → ℕ

@@ -5,10 +5,10 @@ mod records;
 mod word;
 
 ghost use mathlib.Core.Path.{_≡_};
-ghost use Rattle.path_text.specs.Calls.{bytesFor, textFor, answer, lent};
+ghost use Rattle.path_read.specs.Calls.{bytesFor, textFor, answer, lent};
 ghost use Rattle.table.specs.Text.{check};
 ghost use Rattle.table.specs.Group.{groupCount};
-ghost use Rattle.verdict_text.specs.Calls.{pathVerdict, treeVerdict};
+ghost use Rattle.verdict_request.specs.Calls.{pathVerdict, treeVerdict};
 ghost use Rattle.burgee.specs.Word.{filledWord, checkedWord, countedWord, pathWord, treeWord};
 
 // Path text to path bytes.
@@ -17,7 +17,7 @@ pub extern "C" fn burgee_path_read(text: &[u8], out: &mut [u8]) -> u64
     ensures { λ r. ⌜ (r ≡ filledWord (answer (now (out .entry)) (bytesFor (now (text .entry)))))
         × (now (out .exit) ≡ lent (now (out .entry)) (bytesFor (now (text .entry)))) ⌝ }
 {
-    word::of_filled(path_text::reader::read_text(text, out))
+    word::of_filled(path_read::reader::read_text(text, out))
 }
 
 // Path bytes to path text.
@@ -34,7 +34,7 @@ pub extern "C" fn burgee_path_write(bytes: &[u8], out: &mut [u8]) -> u64
 pub extern "C" fn burgee_table_check(table: &[u8]) -> u64
     ensures { λ r. ⌜ r ≡ checkedWord (check (now (table .entry))) ⌝ }
 {
-    word::of_checked(groups::check_table(table))
+    word::of_checked(table_check::check_table(table))
 }
 
 // How many groups of the table list the user, and the first of them.
@@ -42,7 +42,7 @@ pub extern "C" fn burgee_table_check(table: &[u8]) -> u64
 pub extern "C" fn burgee_group_count(table: &[u8], user: &[u8]) -> u64
     ensures { λ r. ⌜ r ≡ countedWord (groupCount (now (table .entry)) (now (user .entry))) ⌝ }
 {
-    word::of_counted(groups::count_groups(table, user))
+    word::of_counted(table_check::count_groups(table, user))
 }
 
 // The action for one path, and the deciding rule.
@@ -56,7 +56,7 @@ pub extern "C" fn burgee_path_verdict(
 ) -> u64
     ensures { λ r. ⌜ r ≡ pathWord (pathVerdict (now (table .entry)) (now (user .entry)) mode (now (origin .entry)) (now (path .entry))) ⌝ }
 {
-    word::of_path(verdicts::path_verdict(table, user, mode, origin, path))
+    word::of_path(verdict_call::path_verdict(table, user, mode, origin, path))
 }
 
 // ALL, NONE or MIXED for the paths at or beneath, and the rule that MIXED names.
@@ -70,5 +70,5 @@ pub extern "C" fn burgee_tree_verdict(
 ) -> u64
     ensures { λ r. ⌜ r ≡ treeWord (treeVerdict (now (table .entry)) (now (user .entry)) mode (now (origin .entry)) (now (path .entry))) ⌝ }
 {
-    word::of_tree(verdicts::tree_verdict(table, user, mode, origin, path))
+    word::of_tree(verdict_call::tree_verdict(table, user, mode, origin, path))
 }

@@ -1,7 +1,7 @@
 // The C boundary of RPC policies.
 ghost use mathlib.Core.Path.{_≡_};
 ghost use Rattle.policy.specs.Policy.{judgement};
-ghost use Rattle.policy_text.specs.Answer.{checkOf};
+ghost use Rattle.policy_check.specs.Answer.{checkOf};
 ghost use Rattle.rpc.specs.Call.{rpcVerdict};
 ghost use Rattle.burgee.specs.Word.{policyWord, rpcWord};
 
@@ -10,7 +10,7 @@ ghost use Rattle.burgee.specs.Word.{policyWord, rpcWord};
 pub extern "C" fn burgee_policy_check(policy: &[u8]) -> u64
     ensures { λ r. ⌜ r ≡ policyWord (checkOf (judgement (now (policy .entry)))) ⌝ }
 {
-    crate::word::of_policy(policy_text::check::check_policy(policy))
+    crate::word::of_policy(policy_check::check::check_policy(policy))
 }
 
 // The action for one RPC, and the rule that decides.
@@ -23,5 +23,5 @@ pub extern "C" fn burgee_rpc_verdict(
 ) -> u64
     ensures { λ r. ⌜ r ≡ rpcWord (rpcVerdict (now (policy .entry)) (now (identity .entry)) (now (path .entry)) (now (headers .entry))) ⌝ }
 {
-    crate::word::of_rpc(rpc_text::verdict::rpc_verdict(policy, identity, path, headers))
+    crate::word::of_rpc(rpc_call::verdict::rpc_verdict(policy, identity, path, headers))
 }

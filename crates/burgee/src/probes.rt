@@ -1,7 +1,7 @@
 // The C boundary of the probes, which judge a request on what is in force: a record's five numbers, the store, and a request.
 ghost use mathlib.Core.Path.{_≡_};
-ghost use Rattle.probe.specs.Probe.{probePath, probeTree};
-ghost use Rattle.probe.specs.Rpc.{probeRpc};
+ghost use Rattle.rotation_probe.specs.Probe.{probePath, probeTree};
+ghost use Rattle.rotation_probe.specs.Rpc.{probeRpc};
 ghost use Rattle.burgee.specs.Word.{pathWord, treeWord, rpcProbeWord};
 ghost use Rattle.burgee.specs.Record.{recordOf};
 use rotation::Record;
@@ -36,7 +36,7 @@ pub extern "C" fn burgee_probe_path(
         (now (store .entry)) (now (user .entry)) mode (now (origin .entry)) (now (path .entry))) ⌝ }
 {
     let r = record_of(kind, live_slot, live_len, rotating, candidate_len);
-    crate::word::of_path(probe::probe_path(r, store, user, mode, origin, path))
+    crate::word::of_path(rotation_probe::probe_path(r, store, user, mode, origin, path))
 }
 
 // ALL, NONE or MIXED for the paths at or beneath, and the rule that MIXED names.
@@ -57,7 +57,7 @@ pub extern "C" fn burgee_probe_tree(
         (now (store .entry)) (now (user .entry)) mode (now (origin .entry)) (now (path .entry))) ⌝ }
 {
     let r = record_of(kind, live_slot, live_len, rotating, candidate_len);
-    crate::word::of_tree(probe::probe_tree(r, store, user, mode, origin, path))
+    crate::word::of_tree(rotation_probe::probe_tree(r, store, user, mode, origin, path))
 }
 
 // The action for one RPC, and the rule that decides.
@@ -77,5 +77,5 @@ pub extern "C" fn burgee_probe_rpc(
         (now (store .entry)) (now (identity .entry)) (now (path .entry)) (now (headers .entry))) ⌝ }
 {
     let r = record_of(kind, live_slot, live_len, rotating, candidate_len);
-    crate::word::of_rpc_probe(probe::rpcs::probe_rpc(r, store, identity, path, headers))
+    crate::word::of_rpc_probe(rotation_probe::rpcs::probe_rpc(r, store, identity, path, headers))
 }

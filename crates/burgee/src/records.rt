@@ -2,7 +2,7 @@
 ghost use mathlib.Core.Path.{_≡_};
 ghost use lib.ListN.{length};
 ghost use Rattle.rotation.specs.Calls.{start, upload, uploadStore, finalize, close};
-ghost use Rattle.upload.specs.Offered.{offeredCheck};
+ghost use Rattle.rotation_upload.specs.Offered.{offeredCheck};
 ghost use Rattle.burgee.specs.Record.{answered};
 use rotation::Record;
 use rotation::Stepped;
@@ -48,7 +48,7 @@ pub fn upload_step(r: Record, store: &mut [u8], text: &[u8]) -> Answered
     ensures { λ a. ⌜ (a ≡ answered (upload offeredCheck r (length (now (store .entry))) (now (text .entry))))
         × (now (store .exit) ≡ uploadStore offeredCheck r (now (store .entry)) (now (text .entry))) ⌝ }
 {
-    of_stepped(upload::upload(r, store, text))
+    of_stepped(rotation_upload::upload(r, store, text))
 }
 
 // A rotation begins.

@@ -2,14 +2,14 @@
 // number of the rule or the group, plus 1.
 ghost use mathlib.Core.Path.{_≡_};
 ghost use Rattle.burgee.specs.Word.{refusalWord, filledWord, checkedWord, countedWord, pathWord, treeWord, policyWord, rpcWord, rpcProbeWord};
-use path_text::Filled;
-use policy_text::check::Check;
-use probe::rpcs::RpcAnswer;
+use path_read::Filled;
+use policy_check::check::Check;
+use rotation_probe::rpcs::RpcAnswer;
 use rpc::verdict::Verdict;
 use table::Checked;
 use table::Counted;
-use verdict_text::PathAnswer;
-use verdict_text::TreeAnswer;
+use verdict_request::PathAnswer;
+use verdict_request::TreeAnswer;
 
 fn of_refusal(number: u8, line: usize) -> u64
     ensures { λ r. ⌜ r ≡ refusalWord number line ⌝ }

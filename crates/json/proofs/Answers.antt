@@ -13,11 +13,11 @@ use Rattle.json.specs.declared.scan.Next.{Next}
 use Rattle.json.specs.declared.scan.Next.the-variants.{At, Bad}
 use Rattle.json.specs.Scan.{whiteAt}
 use Rattle.json.specs.Value.{valueAt, atEnd, isJson}
-use Rattle.rfc8259.specs.Json.{Json}
-use Rattle.rfc8259.specs.Grammar.{white}
-use Rattle.rfc8259.specs.Parser.{_>>=_, skip, readValue, atEnd as atLast, parse}
+use Rattle.json_grammar.specs.Json.{Json}
+use Rattle.json_grammar.specs.Grammar.{white}
+use Rattle.json_grammar.specs.Parser.{_>>=_, skip, readValue, atEnd as atLast, parse}
 use Rattle.text.proofs.Tests.{clash}
-use Rattle.rfc8259.proofs.Basics.{binds, binds-none}
+use Rattle.json_grammar.proofs.Basics.{binds, binds-none}
 use Rattle.json.specs.Meaning.{Same, answered}
 use Rattle.json.proofs.Places.{inside, outside, ws-drop, ws-within}
 use Rattle.json.proofs.Values.{value-same}

@@ -15,10 +15,10 @@ use Rattle.path.specs.Path.{Path}
 use Rattle.path.specs.Bytes.{path}
 use Rattle.path.specs.Spells.{whole, readBytes}
 use Rattle.path.specs.Walk.{isPath, isPathIn}
-use Rattle.path_text.specs.Text.{pathText}
-use Rattle.path_text.specs.Calls.{textFor}
+use Rattle.path_read.specs.Text.{pathText}
+use Rattle.path_read.specs.Calls.{textFor}
 use Rattle.path_write.specs.Steps.{isRead, written}
-use Rattle.path_text.proofs.Longest.{text-length, text-twice}
+use Rattle.path_read.proofs.Longest.{text-length, text-twice}
 
 text-told : (f : Str) (x : Parsed Path) → isPathIn f x ≡ true → (Option·map pathText (whole f x) ≡ some (written pathText x)) × (isRead x ≡ true) × (length (written pathText x) ≤ maxPathText)
 unfolding isPathIn whole if_then_else_

@@ -18,10 +18,10 @@ use Rattle.text.proofs.Frames.{byte-got, byte-unread, string-ends, string-misse
 use Rattle.text.proofs.Filling.{Pending, fill-start, fill-room, fill-put, fill-set, wrote}
 use Rattle.path.specs.Path.{Key, Elem, Path}
 use Rattle.path.specs.Bytes.{key, element, path}
-use Rattle.path_text.specs.Text.{isMark, escaped, keyText, elemText, pathText}
+use Rattle.path_read.specs.Text.{isMark, escaped, keyText, elemText, pathText}
 use Rattle.path_write.specs.Steps.{isRead, written, endAt, Fits, Writes}
 use Rattle.path_write.specs.declared.Place.{Place}
-use Rattle.path_text.proofs.Sound.{escaped-plain, escaped-mark}
+use Rattle.path_read.proofs.Sound.{escaped-plain, escaped-mark}
 
 -- ---- a byte of a value
 

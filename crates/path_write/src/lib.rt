@@ -8,11 +8,11 @@ ghost use Rattle.text.specs.Frame.{times};
 ghost use Rattle.text.specs.Steps.{Wrote};
 ghost use Rattle.path.specs.Bytes.{key, element, path};
 ghost use Rattle.path.specs.Walk.{isPath};
-ghost use Rattle.path_text.specs.Text.{escaped, keyText, elemText, pathText};
-ghost use Rattle.path_text.specs.Calls.{textFor};
-ghost use Rattle.path_text.specs.Steps.{Delivers};
+ghost use Rattle.path_read.specs.Text.{escaped, keyText, elemText, pathText};
+ghost use Rattle.path_read.specs.Calls.{textFor};
+ghost use Rattle.path_read.specs.Steps.{Delivers};
 ghost use Rattle.path_write.specs.Steps.{written, Fits, Writes};
-use path_text::Filled;
+use path_read::Filled;
 use text::frame::End;
 
 // Where reading goes on in the bytes, and storing in the text.

@@ -8,7 +8,7 @@ use lib.ListN.{length}
 use Rattle.text.specs.Test.{if_then_else_}
 use Rattle.text.specs.String.{Str}
 use Rattle.text.proofs.Tests.{by}
-use Rattle.path_text.specs.Calls.{bytesFor, textFor, answer, lent}
+use Rattle.path_read.specs.Calls.{bytesFor, textFor, answer, lent}
 use Rattle.table.specs.declared.Checked.{Checked}
 use Rattle.table.specs.declared.Checked.the-variants.{Accepted, Refused}
 use Rattle.rotation.specs.Calls.{stepped, start, upload, storedBy, uploadStore, finalize, close}

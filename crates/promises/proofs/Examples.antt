@@ -10,9 +10,9 @@ use Rattle.path.specs.Bytes.{key, element, path}
 use Rattle.path.specs.Faults.{unsized, keyOver, elemOver, overLimit, outsideName, outsideValue, keyStray, elemStray, strayByte, halfWild, keyMisplaced, elemMisplaced, misplaced, keyTwice, goodPath}
 use Rattle.path.specs.Walk.{leastRefusal, pathRefusal}
 use Rattle.path.specs.Spells.{whole, readBytes}
-use Rattle.path_text.specs.TextReader.{literal, name, item, value, each, elements, readText}
-use Rattle.path_text.specs.TextReader as reader
-use Rattle.line.specs.Lines.{onto, lines, pair, pairs, nonempty, frame}
+use Rattle.path_read.specs.TextReader.{literal, name, item, value, each, elements, readText}
+use Rattle.path_read.specs.TextReader as reader
+use Rattle.table_line.specs.Lines.{onto, lines, pair, pairs, nonempty, frame}
 use Rattle.table.specs.Frame.{unknown, code, versionBody, groupBody, memberBody, ruleBody, ruleEntry, body, entry, entryOf}
 use Rattle.table.specs.Frame as table-line
 use Rattle.table.specs.Refusal.{framed, decoded, lineOf, kindOf, outOfOrder, unsizedShort, pastLimit, stray, strays, misplaces, sameMember, sameId, repeats, listed, unlisted, refusal, first, with, after}
@@ -22,7 +22,7 @@ use Rattle.verdict.specs.Cover.{wild, definite, holds, meets, covers}
 use Rattle.verdict.specs.Join.{conflict, clashes, agrees, agree, meld, join}
 use Rattle.verdict.specs.Order.{definites, better, earlier, prefer, candidate, choose}
 use Rattle.verdict.specs.Verdict.{concerns, applies, matches, decider, action, permits, fits, opposes, word, answer, tree}
-use Rattle.verdict_text.specs.Calls.{badMode, badOrigin, unspelled, requestRefusal, spelled, request, decidedBy, pathAnswer, pathVerdict, spread, treeAnswer, treeVerdict}
+use Rattle.verdict_request.specs.Calls.{badMode, badOrigin, unspelled, requestRefusal, spelled, request, decidedBy, pathAnswer, pathVerdict, spread, treeAnswer, treeVerdict}
 use Rattle.text_affix.specs.Affix.{empty, begins, ends}
 use Rattle.rpc.specs.Pattern as pattern
 use Rattle.promises.specs.Examples.{Answer, examples}

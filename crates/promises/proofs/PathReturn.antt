@@ -2,10 +2,10 @@
 use Rattle.path.specs.Bytes.{pathBytes}
 use Rattle.path.specs.Spells.{readBytes}
 use Rattle.path.proofs.Bytes.{bytes-reader}
-use Rattle.path_text.specs.Text.{pathText}
-use Rattle.path_text.specs.TextReader.{readText}
-use Rattle.path_text.proofs.RoundTrip.{text-reader, reads-one, read-write, write-read, good-text, good-bytes}
-use Rattle.path_text.proofs.Longest.{text-length, bytes-length}
+use Rattle.path_read.specs.Text.{pathText}
+use Rattle.path_read.specs.TextReader.{readText}
+use Rattle.path_read.proofs.RoundTrip.{text-reader, reads-one, read-write, write-read, good-text, good-bytes}
+use Rattle.path_read.proofs.Longest.{text-length, bytes-length}
 use Rattle.promises.specs.PathReturn.{PathReturn}
 
 pub path-return : PathReturn

@@ -8,9 +8,9 @@ use borrow.Author.Tests.{eq-eqb}
 use Rattle.text.specs.Test.{if_then_else_}
 use Rattle.text.specs.String.{Str}
 use Rattle.text.specs.Refusal.{clear}
-use Rattle.verdict_text.specs.Calls.{requestRefusal, decidedBy, pathAnswer, pathVerdict, spread, treeAnswer, treeVerdict}
-use Rattle.verdict_text.specs.declared.PathAnswer.the-variants.{Default}
-use Rattle.verdict_text.specs.declared.TreeAnswer.the-variants.{None}
+use Rattle.verdict_request.specs.Calls.{requestRefusal, decidedBy, pathAnswer, pathVerdict, spread, treeAnswer, treeVerdict}
+use Rattle.verdict_request.specs.declared.PathAnswer.the-variants.{Default}
+use Rattle.verdict_request.specs.declared.TreeAnswer.the-variants.{None}
 use Rattle.rpc.specs.Request.{requestFault}
 use Rattle.rpc.specs.Call.{rpcVerdict}
 use Rattle.rotation.specs.State.{recordRefusal, textIn, inForce}
@@ -18,9 +18,9 @@ use Rattle.rotation.specs.Calls.{otherKind, probeRefusal}
 use Rattle.rotation.specs.Machine.{Lent, forceText, Whole}
 use Rattle.rotation.specs.declared.InForce.{InForce}
 use Rattle.rotation.specs.declared.InForce.the-variants.{Text, Factory}
-use Rattle.probe.specs.Probe.{probed, pathOn, pathRefused, probePath, treeOn, treeRefused, probeTree}
-use Rattle.probe.specs.Rpc.{rpcRefused, factoryRpc, rpcOn, probeRpc}
-use Rattle.probe.specs.declared.rpcs.RpcAnswer.the-variants.{PermitAll, Judged}
+use Rattle.rotation_probe.specs.Probe.{probed, pathOn, pathRefused, probePath, treeOn, treeRefused, probeTree}
+use Rattle.rotation_probe.specs.Rpc.{rpcRefused, factoryRpc, rpcOn, probeRpc}
+use Rattle.rotation_probe.specs.declared.rpcs.RpcAnswer.the-variants.{PermitAll, Judged}
 use Rattle.promises.specs.Probes.{TableProbePromise, PolicyProbePromise}
 
 -- ---- what is in force is judged

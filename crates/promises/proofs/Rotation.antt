@@ -17,8 +17,8 @@ use Rattle.rotation.specs.Calls.{started, uploaded, finalized, closed, stepped,
 use Rattle.rotation.specs.Machine.{Call, Start, Upload, Finalize, Close, Machine, lacking, machineRefusal, machineNext, Lent, machineOf, Whole, offered, machineAnswer, machineStep, answers, leaves, Follows, end}
 use Rattle.rotation.specs.declared.Record.{Record}
 use Rattle.rotation.proofs.Follows.{stepped-answer, follows, machineEnd, same-end, machineForce, same-force}
-use Rattle.upload.specs.Offered.{offeredCheck}
-use Rattle.upload.proofs.Offered.{never, offered-short}
+use Rattle.rotation_upload.specs.Offered.{offeredCheck}
+use Rattle.rotation_upload.proofs.Offered.{never, offered-short}
 use Rattle.promises.specs.Rotation as promise
 use Rattle.promises.specs.Rotation.{StepPromise, RotationPromise, Trying, live, force}
 

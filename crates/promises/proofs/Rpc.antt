@@ -12,8 +12,8 @@ use Rattle.text.specs.Test.{if_then_else_}
 use Rattle.text.specs.String.{Str}
 use Rattle.text.specs.Refusal.{clear}
 use Rattle.text.proofs.Tests.{by}
-use Rattle.rfc8259.specs.Json.{Json}
-use Rattle.rfc8259.specs.Parser.{parse}
+use Rattle.json_grammar.specs.Json.{Json}
+use Rattle.json_grammar.specs.Parser.{parse}
 use Rattle.policy.specs.Policy.{Policy, treeJudgement, judgement, policyIn, policyOf}
 use Rattle.rpc.specs.Request.{Request, requestFault}
 use Rattle.rpc.specs.Verdict.{ruleMatches, firstFrom, allowed, decided, verdict, permits}

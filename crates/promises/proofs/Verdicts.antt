@@ -10,16 +10,16 @@ use Rattle.text.specs.Refusal.{_when_else_, clear}
 use Rattle.text.proofs.Tests.{clash}
 use Rattle.path.specs.Path.{Path}
 use Rattle.path.specs.Faults.{keyTwice}
-use Rattle.path_text.specs.TextReader.{readText}
-use Rattle.path_text.proofs.RoundTrip.{no-key-twice, text-reader}
+use Rattle.path_read.specs.TextReader.{readText}
+use Rattle.path_read.proofs.RoundTrip.{no-key-twice, text-reader}
 use Rattle.table.specs.Text.{check, tableOf}
 use Rattle.table.specs.Group.{badUser}
 use Rattle.table.specs.declared.Checked.the-variants.{Accepted}
 use Rattle.verdict.specs.Verdict.{decider, tree}
 use Rattle.verdict.proofs.Theorems.{verdict, verdict-unique, tree-verdict, reordered}
-use Rattle.acceptance.specs.Reordering.{ReorderedLines}
-use Rattle.acceptance.proofs.Reordered.{accepted-again, tables-reordered, accepted-orderly}
-use Rattle.verdict_text.specs.Calls.{badMode, badOrigin, unspelled, requestRefusal, spelled, request, pathAnswer, pathVerdict, treeAnswer, treeVerdict, decidedBy, spread}
+use Rattle.verdict_order.specs.Reordering.{ReorderedLines}
+use Rattle.verdict_order.proofs.Reordered.{accepted-again, tables-reordered, accepted-orderly}
+use Rattle.verdict_request.specs.Calls.{badMode, badOrigin, unspelled, requestRefusal, spelled, request, pathAnswer, pathVerdict, treeAnswer, treeVerdict, decidedBy, spread}
 use Rattle.promises.specs.Verdicts.{PathPromise, TreePromise, OrderPromise}
 
 -- ---- an accepted request has a path with no key twice

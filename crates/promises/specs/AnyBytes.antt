@@ -8,19 +8,19 @@ use mathlib.Core.List.{[]}
 use mathlib.Core.Option.{Option, none, some}
 use lib.ListN.{length}
 use Rattle.text.specs.String.{Str}
-use Rattle.path_text.specs.Calls.{bytesFor, textFor, answer, lent}
+use Rattle.path_read.specs.Calls.{bytesFor, textFor, answer, lent}
 use Rattle.table.specs.Text.{check}
 use Rattle.table.specs.Group.{groupCount}
-use Rattle.verdict_text.specs.Calls.{pathVerdict, treeVerdict}
+use Rattle.verdict_request.specs.Calls.{pathVerdict, treeVerdict}
 use Rattle.policy.specs.Policy.{judgement}
-use Rattle.policy_text.specs.Answer.{checkOf}
+use Rattle.policy_check.specs.Answer.{checkOf}
 use Rattle.rpc.specs.Call.{rpcVerdict}
 use Rattle.rotation.specs.Calls.{start, upload, uploadStore, finalize, close}
 use Rattle.rotation.specs.declared.Record.{Record}
 use Rattle.rotation.specs.declared.Stepped.{Stepped}
-use Rattle.upload.specs.Offered.{offeredCheck}
-use Rattle.probe.specs.Probe.{probePath, probeTree}
-use Rattle.probe.specs.Rpc.{probeRpc}
+use Rattle.rotation_upload.specs.Offered.{offeredCheck}
+use Rattle.rotation_probe.specs.Probe.{probePath, probeTree}
+use Rattle.rotation_probe.specs.Rpc.{probeRpc}
 use Rattle.burgee.specs.Word.{filledWord, checkedWord, countedWord, pathWord, treeWord, policyWord, rpcWord, rpcProbeWord}
 
 -- every public call, with what it is given

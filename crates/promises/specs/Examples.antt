@@ -8,11 +8,11 @@ use Rattle.text.specs.String.{Str, bytes}
 use Rattle.path.specs.Path.{Key, Elem, Path}
 use Rattle.table.specs.Table.{Member, Rule, Table}
 use Rattle.verdict.specs.Verdict.{decider}
-use Rattle.verdict_text.specs.Calls.{decidedBy, pathVerdict, treeVerdict}
-use Rattle.verdict_text.specs.declared.PathAnswer.{PathAnswer}
-use Rattle.verdict_text.specs.declared.PathAnswer.the-variants.{Permit, Deny, Default}
-use Rattle.verdict_text.specs.declared.TreeAnswer.{TreeAnswer}
-use Rattle.verdict_text.specs.declared.TreeAnswer.the-variants.{All, None, Mixed}
+use Rattle.verdict_request.specs.Calls.{decidedBy, pathVerdict, treeVerdict}
+use Rattle.verdict_request.specs.declared.PathAnswer.{PathAnswer}
+use Rattle.verdict_request.specs.declared.PathAnswer.the-variants.{Permit, Deny, Default}
+use Rattle.verdict_request.specs.declared.TreeAnswer.{TreeAnswer}
+use Rattle.verdict_request.specs.declared.TreeAnswer.the-variants.{All, None, Mixed}
 use Rattle.rpc.specs.Pattern.{matches}
 
 -- ---- questions and answers

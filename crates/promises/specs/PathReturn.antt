@@ -12,9 +12,9 @@ use Rattle.path.specs.Path.{Path}
 use Rattle.path.specs.Bytes.{pathBytes}
 use Rattle.path.specs.Faults.{goodPath}
 use Rattle.path.specs.Spells.{Spells, Reads, readBytes}
-use Rattle.path_text.specs.Text.{pathText}
-use Rattle.path_text.specs.TextReader.{readText}
-use Rattle.path_text.specs.Calls.{bytesFor, textFor}
+use Rattle.path_read.specs.Text.{pathText}
+use Rattle.path_read.specs.TextReader.{readText}
+use Rattle.path_read.specs.Calls.{bytesFor, textFor}
 
 pub record PathReturn : Type 0 where
   -- text is read exactly where it is a good path's text, and bytes exactly where they are a good path's bytes

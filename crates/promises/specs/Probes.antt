@@ -6,15 +6,15 @@ use mathlib.Core.Path.{_≡_}
 use mathlib.Core.Option.{none, some}
 use Rattle.text.specs.String.{Str}
 use Rattle.text.specs.Refusal.{clear}
-use Rattle.verdict_text.specs.Calls.{requestRefusal, pathVerdict, treeVerdict}
-use Rattle.verdict_text.specs.declared.PathAnswer.the-variants.{Default}
-use Rattle.verdict_text.specs.declared.TreeAnswer.the-variants.{None}
+use Rattle.verdict_request.specs.Calls.{requestRefusal, pathVerdict, treeVerdict}
+use Rattle.verdict_request.specs.declared.PathAnswer.the-variants.{Default}
+use Rattle.verdict_request.specs.declared.TreeAnswer.the-variants.{None}
 use Rattle.rpc.specs.Request.{requestFault}
 use Rattle.rpc.specs.Call.{rpcVerdict}
 use Rattle.rotation.specs.Machine.{Lent, Whole}
-use Rattle.probe.specs.Probe.{probePath, probeTree}
-use Rattle.probe.specs.Rpc.{probeRpc}
-use Rattle.probe.specs.declared.rpcs.RpcAnswer.the-variants.{PermitAll, Judged}
+use Rattle.rotation_probe.specs.Probe.{probePath, probeTree}
+use Rattle.rotation_probe.specs.Rpc.{probeRpc}
+use Rattle.rotation_probe.specs.declared.rpcs.RpcAnswer.the-variants.{PermitAll, Judged}
 use Rattle.promises.specs.Rotation.{force}
 
 -- a record of kind 2, a table's, that neither 11 nor 15 refuses

@@ -13,7 +13,7 @@ use Rattle.table.specs.declared.Checked.the-variants.{Accepted, Refused}
 use Rattle.rotation.specs.State.{slotStart, candidateSlot, inForce}
 use Rattle.rotation.specs.Calls.{started, uploaded, finalized, closed}
 use Rattle.rotation.specs.Machine.{Call, Start, Upload, Finalize, Close, Lent, heldText, forceText, Whole, answers, leaves, Follows, end}
-use Rattle.upload.specs.Offered.{offeredCheck}
+use Rattle.rotation_upload.specs.Offered.{offeredCheck}
 
 -- ---- one step
 

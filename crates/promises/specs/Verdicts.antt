@@ -15,8 +15,8 @@ use Rattle.table.specs.declared.Checked.the-variants.{Accepted}
 use Rattle.verdict.specs.Order.{Numbered}
 use Rattle.verdict.specs.Verdict.{Request, decider, tree}
 use Rattle.verdict.specs.Laws.{Decided, TreeVerdict, SameAnswers}
-use Rattle.acceptance.specs.Reordering.{ReorderedLines}
-use Rattle.verdict_text.specs.Calls.{requestRefusal, request, pathVerdict, treeVerdict, decidedBy, spread}
+use Rattle.verdict_order.specs.Reordering.{ReorderedLines}
+use Rattle.verdict_request.specs.Calls.{requestRefusal, request, pathVerdict, treeVerdict, decidedBy, spread}
 
 -- an accepted table text x, and an accepted request
 module _ (x user : Str) (mode : ℕ) (origin text : Str) (ok : check x ≡ Accepted) (fine : requestRefusal user mode origin text ≡ clear) where

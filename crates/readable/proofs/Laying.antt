@@ -11,8 +11,8 @@ use Rattle.text.specs.String.{Str}
 use Rattle.text.specs.Fill.{put}
 use Rattle.text.specs.Steps.{Wrote}
 use Rattle.text.proofs.Filling.{wrote-long, wrote-more, wrote-nothing}
-use Rattle.line.specs.Lines.{lines}
-use Rattle.path_text.specs.declared.reader.Stored.the-variants.{Unread}
+use Rattle.table_line.specs.Lines.{lines}
+use Rattle.path_read.specs.declared.reader.Stored.the-variants.{Unread}
 use Rattle.readable.specs.Texts.{onward, ending, storing, stored}
 use Rattle.readable.specs.declared.Ended.the-variants as ended
 use Rattle.readable_parts.proofs.Stored.{front}

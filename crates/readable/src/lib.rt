@@ -6,7 +6,7 @@ ghost use lib.ListN.{length};
 ghost use Rattle.limits.specs.Limits.{maxTableText};
 ghost use Rattle.readable_lines.specs.Lines.{lineBy};
 ghost use Rattle.readable.specs.Texts.{Converts, Shows, Makes, Packs};
-use path_text::reader::Stored;
+use path_read::reader::Stored;
 use table::Checked;
 
 // The answer of `show` and of `pack`.
@@ -59,7 +59,7 @@ fn convert_lines(packing: bool, text: &[u8], out: &mut [u8]) -> Ended
 pub fn show(table: &[u8], out: &mut [u8]) -> Converted
     ensures { λ r. ⌜ Shows (now (table .entry)) (now (out .entry)) (now (out .exit)) r ⌝ }
 {
-    let c = groups::check_table(table);
+    let c = table_check::check_table(table);
     if let Checked::Refused { number, line } = c {
         return Converted::Refused {
             number: number,
@@ -78,7 +78,7 @@ pub fn show(table: &[u8], out: &mut [u8]) -> Converted
 fn hand_out(table: &[u8], out: &mut [u8]) -> Converted
     ensures { λ r. ⌜ Makes (now (table .entry)) (now (out .entry)) (now (out .exit)) r ⌝ }
 {
-    let c = groups::check_table(table);
+    let c = table_check::check_table(table);
     if let Checked::Refused { number, line } = c {
         return Converted::Refused {
             number: number,

@@ -22,12 +22,12 @@ use Rattle.path.specs.Path.{Key, Elem, Path}
 use Rattle.path.specs.Bytes.{path, counted, pathBytes}
 use Rattle.path.specs.Faults.{unsized, overLimit, outsideName, outsideValue, keyStray, elemStray, strayByte, misplaced, keyTwice, goodPath}
 use Rattle.path.proofs.Bytes.{path-took}
-use Rattle.path_text.specs.Text.{isMark, escaped, keyText, elemText, pathText}
-use Rattle.path_text.specs.Calls.{textFor}
-use Rattle.path_text.proofs.Complete.{sized}
-use Rattle.path_text.proofs.RoundTrip.{good-bytes, no-stray}
-use Rattle.path_text.proofs.Sound.{escaped-plain, escaped-mark}
-use Rattle.line.specs.Lines.{lines, frame}
+use Rattle.path_read.specs.Text.{isMark, escaped, keyText, elemText, pathText}
+use Rattle.path_read.specs.Calls.{textFor}
+use Rattle.path_read.proofs.Complete.{sized}
+use Rattle.path_read.proofs.RoundTrip.{good-bytes, no-stray}
+use Rattle.path_read.proofs.Sound.{escaped-plain, escaped-mark}
+use Rattle.table_line.specs.Lines.{lines, frame}
 use Rattle.table.specs.Table.{Rule}
 use Rattle.table.specs.Frame.{Entry, version, group, member, rule, unknown, code, versionBody, groupBody, memberBody, ruleBody, ruleEntry, body, entry, whole, entryOf}
 use Rattle.table.specs.Refusal.{reads, framed, decoded, lineOf, Earlier, unsizedShort, pastLimit, stray, strays, misplaces, sameId, repeats, refusal, first, after}

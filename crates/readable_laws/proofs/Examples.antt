@@ -8,9 +8,9 @@ use Rattle.text.specs.Frame.{_>>=_, ret, byte, run, string, times}
 use Rattle.path.specs.Bytes.{key, element, path}
 use Rattle.path.specs.Faults.{unsized, keyOver, elemOver, overLimit, outsideName, outsideValue, keyStray, elemStray, strayByte, halfWild, keyMisplaced, elemMisplaced, misplaced, keyTwice, goodPath}
 use Rattle.path.specs.Spells as spells
-use Rattle.path_text.specs.Text.{escaped, keyText, elemText, pathText}
-use Rattle.path_text.specs.Calls.{textFor}
-use Rattle.line.specs.Lines.{pair, pairs, nonempty, frame}
+use Rattle.path_read.specs.Text.{escaped, keyText, elemText, pathText}
+use Rattle.path_read.specs.Calls.{textFor}
+use Rattle.table_line.specs.Lines.{pair, pairs, nonempty, frame}
 use Rattle.table.specs.Frame.{whole}
 use Rattle.readable_parts.specs.Parts.{partOf, rest, ofRest, quoted, hexPair, hexText, shownString, shownTime, shownPath, shownCode, shownPlain, shown}
 use Rattle.readable_lines.specs.Form.{parts, formBy, printed, shownFrame}

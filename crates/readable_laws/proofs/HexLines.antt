@@ -12,7 +12,7 @@ use Rattle.text.specs.Test.{_and_, if_then_else_}
 use Rattle.text.specs.Byte.{within, isDigit, isHex, hexValue}
 use Rattle.text.specs.String.{Str, joined}
 use Rattle.text.proofs.Tests.{by, and-l, and-r, and-left, and-right}
-use Rattle.line.specs.Lines.{pair, pairs, nonempty, frame}
+use Rattle.table_line.specs.Lines.{pair, pairs, nonempty, frame}
 use Rattle.readable_parts.specs.Parts.{hexDigit, hexPair, hexText}
 
 -- ---- digits

@@ -18,10 +18,10 @@ use Rattle.text.specs.Refusal.{clear}
 use Rattle.text.proofs.Tests.{by, clash, or-false-l, or-false-r}
 use Rattle.path.specs.Faults.{unsized, overLimit}
 use Rattle.text.proofs.Codec.{never-got, then-got, got-move, byte-took, string-took}
-use Rattle.path_text.specs.Text.{escaped}
-use Rattle.path_text.specs.Calls.{textFor}
-use Rattle.path_text.proofs.Longest.{value-length, text-twice}
-use Rattle.line.specs.Lines.{lines, frame}
+use Rattle.path_read.specs.Text.{escaped}
+use Rattle.path_read.specs.Calls.{textFor}
+use Rattle.path_read.proofs.Longest.{value-length, text-twice}
+use Rattle.table_line.specs.Lines.{lines, frame}
 use Rattle.table.specs.Frame.{Entry, version, group, member, rule, unknown, versionBody, groupBody, memberBody, ruleBody, ruleEntry, body, entryOf}
 use Rattle.table.specs.Refusal.{reads, framed, decoded, lineOf, Earlier, kindOf, outOfOrder, unsizedShort, pastLimit, refusal, first, with, after}
 use Rattle.table.specs.Text.{unless, judge, check}

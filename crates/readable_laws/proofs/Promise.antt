@@ -11,7 +11,7 @@ use Rattle.text.specs.Test.{if_then_else_}
 use Rattle.text.specs.String.{Str}
 use Rattle.text.specs.Fill.{put}
 use Rattle.text.proofs.Tests.{by}
-use Rattle.line.specs.Lines.{lines}
+use Rattle.table_line.specs.Lines.{lines}
 use Rattle.table.specs.Text.{check}
 use Rattle.table.specs.declared.Checked.{Checked}
 use Rattle.table.specs.declared.Checked.the-variants as checked

@@ -15,14 +15,14 @@ use Rattle.text.specs.String.{Str, same, joined}
 use Rattle.text.specs.Frame.{got, unread, _>>=_, ret, byte, part, string, stringBytes}
 use Rattle.text.proofs.Tests.{by, and-l, and-r, same→≡, ≡→same}
 use Rattle.text.proofs.Codec.{never-got, then-got, got-move, Took, took-both, took-none, byte-took, string-took, Gives, then-gives, first-byte, byte-gives, string-gives}
-use Rattle.path_text.specs.Text.{escaped}
-use Rattle.path_text.specs.TextReader.{literal, item, value, readText}
+use Rattle.path_read.specs.Text.{escaped}
+use Rattle.path_read.specs.TextReader.{literal, item, value, readText}
 use Rattle.path.specs.Bytes.{path}
 use Rattle.path.specs.Spells.{readBytes, whole}
-use Rattle.path_text.specs.Calls.{bytesFor, textFor}
-use Rattle.path_text.proofs.Sound.{literal-took, value-took, one-took}
-use Rattle.path_text.proofs.Complete.{literal-gives, value-gives}
-use Rattle.path_text.proofs.RoundTrip.{read-write, write-read}
+use Rattle.path_read.specs.Calls.{bytesFor, textFor}
+use Rattle.path_read.proofs.Sound.{literal-took, value-took, one-took}
+use Rattle.path_read.proofs.Complete.{literal-gives, value-gives}
+use Rattle.path_read.proofs.RoundTrip.{read-write, write-read}
 use Rattle.table.specs.Frame.{unknown}
 use Rattle.readable_parts.specs.Parts.{rest, ofRest, quoted, shownString, shownPath, shownCode, shownPlain, packedString, packedPath, standsAt, packedCode, packedPlain}
 use Rattle.readable_laws.proofs.Inverse.{Back, BackLast}

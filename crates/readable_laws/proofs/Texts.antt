@@ -15,7 +15,7 @@ use Rattle.text.specs.Byte.{isPrint}
 use Rattle.text.specs.String.{Str, joined}
 use Rattle.text.specs.Refusal.{clear}
 use Rattle.text.proofs.Tests.{by, and-l, and-r, and-left}
-use Rattle.line.specs.Lines.{lines, onto, frame}
+use Rattle.table_line.specs.Lines.{lines, onto, frame}
 use Rattle.table.specs.Refusal.{decoded, lineOf, Earlier, refusal, first, after}
 use Rattle.table.specs.Text.{unless, judge, check}
 use Rattle.table.specs.declared.Checked.the-variants.{Accepted, Refused}

@@ -14,7 +14,7 @@ use Rattle.text.specs.String.{Str, joined}
 use Rattle.text.specs.Frame.{got}
 use Rattle.text.proofs.Tests.{by}
 use Rattle.text.proofs.Codec.{never-got, got-move, Took, Gives}
-use Rattle.line.specs.Lines.{lines, onto, frame}
+use Rattle.table_line.specs.Lines.{lines, onto, frame}
 use Rattle.readable_parts.specs.Parts.{rest, alone, hexDigit, hexPair, hexText, shownTime, packedTime}
 use Rattle.readable_parts.proofs.Digits.{hex-length}
 use Rattle.readable_laws.proofs.HexLines.{Small, and-more, frame-text, text-frame}

@@ -16,8 +16,8 @@ use Rattle.text.specs.String.{Str, bytes}
 use Rattle.text.specs.Frame.{Parsed, got, unread, andThen, _>>=_, ret}
 use Rattle.text.specs.Steps.{Wrote}
 use Rattle.text.proofs.Filling.{wrote-long, wrote-more, wrote-nothing, wrote-before}
-use Rattle.path_text.specs.declared.reader.Stored.{Stored}
-use Rattle.path_text.specs.declared.reader.Stored.the-variants.{To, Unread}
+use Rattle.path_read.specs.declared.reader.Stored.{Stored}
+use Rattle.path_read.specs.declared.reader.Stored.the-variants.{To, Unread}
 use Rattle.table.specs.Frame.{unknown, whole}
 use Rattle.readable_parts.specs.Parts.{Parts, partOf}
 use Rattle.readable_lines.specs.Form.{parts, formBy, printed, shownFrame, kindBy, packedFrame}

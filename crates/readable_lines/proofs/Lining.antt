@@ -17,13 +17,13 @@ use Rattle.text.specs.Steps.{Wrote}
 use Rattle.text.proofs.Tests.{by}
 use Rattle.text.proofs.Filling.{wrote-long, wrote-more, wrote-byte}
 use Rattle.text_search.specs.Search.{until, is}
-use Rattle.line.specs.Lines.{lines, onto}
-use Rattle.line.specs.Decoding.{digits, firstLine}
-use Rattle.line.specs.declared.Line.{Line}
-use Rattle.line.specs.declared.Line.the-variants.{Frame, Bad}
-use Rattle.line.proofs.FirstLine.{Read, line-read, line-unhex}
-use Rattle.path_text.specs.declared.reader.Stored.{Stored}
-use Rattle.path_text.specs.declared.reader.Stored.the-variants.{To, Unread}
+use Rattle.table_line.specs.Lines.{lines, onto}
+use Rattle.table_line.specs.Decoding.{digits, firstLine}
+use Rattle.table_line.specs.declared.Line.{Line}
+use Rattle.table_line.specs.declared.Line.the-variants.{Frame, Bad}
+use Rattle.table_line.proofs.FirstLine.{Read, line-read, line-unhex}
+use Rattle.path_read.specs.declared.reader.Stored.{Stored}
+use Rattle.path_read.specs.declared.reader.Stored.the-variants.{To, Unread}
 use Rattle.readable_parts.specs.Parts.{hexText}
 use Rattle.readable_lines.specs.Form.{shownFrame, packedFrame}
 use Rattle.readable_lines.specs.Lines.{lined, unlined, shownLine, packedLine}

@@ -7,9 +7,9 @@ use native.Mathlib.Omega.{arith}
 use lib.ListN.{length, drop}
 use Rattle.text.specs.String.{Str}
 use Rattle.text.specs.Steps.{Wrote}
-use Rattle.line.specs.Lines.{lines}
-use Rattle.path_text.specs.declared.reader.Stored.{Stored}
-use Rattle.path_text.specs.declared.reader.Stored.the-variants.{To, Unread}
+use Rattle.table_line.specs.Lines.{lines}
+use Rattle.path_read.specs.declared.reader.Stored.{Stored}
+use Rattle.path_read.specs.declared.reader.Stored.the-variants.{To, Unread}
 use Rattle.readable_lines.specs.Steps.{maxMadeFrame, Fills, fills, nothing, Lays, lays, fails}
 
 pub filled-to : {o : Option Str} {d d′ : List ℕ} {q : Stored} {next end : ℕ} → Fills o d d′ q → q ≡ To next end → (w : Str) × (o ≡ some w) × Wrote d 0 w d′ end × (end ≤ maxMadeFrame)

@@ -7,7 +7,7 @@ use lib.Dec.{eqb}
 use lib.ListN.{length, take, getD}
 use Rattle.text.specs.Test.{if_then_else_}
 use Rattle.text.specs.String.{Str}
-use Rattle.line.specs.Lines.{frame}
+use Rattle.table_line.specs.Lines.{frame}
 use Rattle.readable_parts.specs.Parts.{hexText}
 use Rattle.readable_lines.specs.Form.{shownFrame, packedFrame}
 

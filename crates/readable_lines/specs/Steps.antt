@@ -9,9 +9,9 @@ use Rattle.limits.specs.Sizes.{maxReadableLine}
 use Rattle.text.specs.Test.{if_then_else_}
 use Rattle.text.specs.String.{Str}
 use Rattle.text.specs.Steps.{Wrote}
-use Rattle.line.specs.Lines.{lines}
-use Rattle.path_text.specs.declared.reader.Stored.{Stored}
-use Rattle.path_text.specs.declared.reader.Stored.the-variants as stored
+use Rattle.table_line.specs.Lines.{lines}
+use Rattle.path_read.specs.declared.reader.Stored.{Stored}
+use Rattle.path_read.specs.declared.reader.Stored.the-variants as stored
 use Rattle.readable_parts.specs.Parts.{Parts, shown, packed}
 use Rattle.readable_parts.specs.Steps.{longest}
 

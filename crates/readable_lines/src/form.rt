@@ -7,7 +7,7 @@ ghost use Rattle.readable_parts.specs.Parts.{partOf};
 ghost use Rattle.readable_lines.specs.Form.{parts, formBy, shownFrame, kindBy, packedFrame};
 ghost use Rattle.readable_parts.specs.Steps.{longest, Puts};
 ghost use Rattle.readable_lines.specs.Steps.{maxMadeFrame, partsBy, roomFor, Fills};
-use path_text::reader::Stored;
+use path_read::reader::Stored;
 
 // The part that c names, packed or shown.
 fn convert_part(packing: bool, c: u8, s: &[u8], at: usize, out: &mut [u8], to: usize) -> Stored

@@ -6,8 +6,8 @@ ghost use lib.ListN.{length};
 ghost use Rattle.limits.specs.Limits.{maxTableText};
 ghost use Rattle.readable_lines.specs.Lines.{shownLine, packedLine, lineBy};
 ghost use Rattle.readable_lines.specs.Steps.{maxMadeLine, Lays};
-use line::Line;
-use path_text::reader::Stored;
+use path_read::reader::Stored;
+use table_line::Line;
 
 pub mod form;
 
@@ -22,7 +22,7 @@ fn show_line(text: &[u8], from: usize, out: &mut [u8]) -> Stored
     ensures { λ r. ⌜ Lays shownLine (now (text .entry)) from (now (out .entry)) (now (out .exit)) r ⌝ }
 {
     let mut frame = [0u8; limits::MAX_TABLE_BYTES];
-    let l = line::read_line(text, from, &mut frame, 0);
+    let l = table_line::read_line(text, from, &mut frame, 0);
     let Line::Frame { len, next } = l else {
         return Stored::Unread;
     };

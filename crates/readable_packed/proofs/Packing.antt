@@ -15,16 +15,16 @@ use Rattle.text.specs.Frame.{got, unread, _>>=_, ret, part, stringBytes}
 use Rattle.text.specs.Fill.{put}
 use Rattle.text.proofs.Tests.{and-l}
 use Rattle.text.proofs.Filling.{wrote-byte, wrote-nothing}
-use Rattle.line.specs.Lines.{lines, frame}
-use Rattle.line.specs.Decoding.{digits, firstLine}
-use Rattle.line.specs.declared.Line.{Line}
-use Rattle.line.specs.declared.Line.the-variants.{Frame, Bad}
-use Rattle.line.proofs.FirstLine.{Read, line-read, line-unhex, lines-cons}
-use Rattle.path_text.specs.TextReader.{literal, value}
-use Rattle.path_text.specs.Steps.{Room, Stores, stores, nothing}
-use Rattle.path_text.specs.declared.reader.Stored.{Stored}
-use Rattle.path_text.specs.declared.reader.Stored.the-variants.{To}
-use Rattle.path_text.proofs.Sound.{inside}
+use Rattle.table_line.specs.Lines.{lines, frame}
+use Rattle.table_line.specs.Decoding.{digits, firstLine}
+use Rattle.table_line.specs.declared.Line.{Line}
+use Rattle.table_line.specs.declared.Line.the-variants.{Frame, Bad}
+use Rattle.table_line.proofs.FirstLine.{Read, line-read, line-unhex, lines-cons}
+use Rattle.path_read.specs.TextReader.{literal, value}
+use Rattle.path_read.specs.Steps.{Room, Stores, stores, nothing}
+use Rattle.path_read.specs.declared.reader.Stored.{Stored}
+use Rattle.path_read.specs.declared.reader.Stored.the-variants.{To}
+use Rattle.path_read.proofs.Sound.{inside}
 use Rattle.readable_parts.specs.Parts.{rest, alone, packedString, packedTime, standsAt, packedCode, packedPlain}
 use Rattle.readable_parts.specs.Steps.{Puts, puts, stops}
 use Rattle.readable_parts.proofs.Rest.{tail}

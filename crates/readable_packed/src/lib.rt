@@ -5,8 +5,8 @@ ghost use lib.ListN.{length};
 ghost use Rattle.limits.specs.Sizes.{maxQuoted};
 ghost use Rattle.readable_parts.specs.Parts.{packed, partOf, standsAt, packedString, packedTime, packedCode};
 ghost use Rattle.readable_parts.specs.Steps.{Puts, longest};
-use line::Line;
-use path_text::reader::Stored;
+use path_read::reader::Stored;
+use table_line::Line;
 
 // In brackets.
 fn string(s: &[u8], at: usize, out: &mut [u8], to: usize) -> Stored
@@ -19,7 +19,7 @@ fn string(s: &[u8], at: usize, out: &mut [u8], to: usize) -> Stored
     if s[at] != b'[' {
         return Stored::Unread;
     }
-    path_text::reader::read_value(s, at + 1, out, to)
+    path_read::reader::read_value(s, at + 1, out, to)
 }
 
 // The rest of the line, 16 digits.
@@ -33,7 +33,7 @@ fn time(s: &[u8], at: usize, out: &mut [u8], to: usize) -> Stored
     // the digits with an LF, a hex line
     let mut digits = [b'\n'; 17];
     text::fill::copy(&s[at..], &mut digits, 0);
-    let l = line::read_line(&digits, 0, out, to);
+    let l = table_line::read_line(&digits, 0, out, to);
     let Line::Frame { len, next } = l else {
         return Stored::Unread;
     };

@@ -15,11 +15,11 @@ use Rattle.text.specs.String.{Str}
 use Rattle.text.specs.Frame.{unread}
 use Rattle.text.specs.Fill.{put}
 use Rattle.text.proofs.Tests.{by}
-use Rattle.path_text.specs.Calls.{answer, lent}
-use Rattle.path_text.proofs.Longest.{bytes-bound, text-bound}
-use Rattle.path_text.specs.declared.Filled.{Filled}
-use Rattle.path_text.specs.declared.Filled.the-variants.{Length, Refused}
-use Rattle.path_text.specs.declared.reader.Stored.the-variants.{To}
+use Rattle.path_read.specs.Calls.{answer, lent}
+use Rattle.path_read.proofs.Longest.{bytes-bound, text-bound}
+use Rattle.path_read.specs.declared.Filled.{Filled}
+use Rattle.path_read.specs.declared.Filled.the-variants.{Length, Refused}
+use Rattle.path_read.specs.declared.reader.Stored.the-variants.{To}
 use Rattle.readable_parts.specs.Parts.{rest, ofRest}
 use Rattle.readable_parts.specs.Steps.{Puts, puts, pathFor}
 

@@ -15,10 +15,10 @@ use Rattle.text.specs.declared.frame.End.{End}
 use Rattle.text.specs.declared.frame.End.the-variants as ends
 use Rattle.text.proofs.Frames.{byte-got, byte-unread, string-ends, string-misses}
 use Rattle.text.proofs.Filling.{Pending, fill-start, fill-room, fill-put, fill-set, fill-byte, wrote, wrote-byte}
-use Rattle.path_text.specs.Text.{escaped}
-use Rattle.path_text.specs.declared.reader.Stored.{Stored}
-use Rattle.path_text.specs.declared.reader.Stored.the-variants.{To, Unread}
-use Rattle.path_text.proofs.Longest.{value-length}
+use Rattle.path_read.specs.Text.{escaped}
+use Rattle.path_read.specs.declared.reader.Stored.{Stored}
+use Rattle.path_read.specs.declared.reader.Stored.the-variants.{To, Unread}
+use Rattle.path_read.proofs.Longest.{value-length}
 use Rattle.table.specs.Frame.{unknown}
 use Rattle.readable_parts.specs.Parts.{Parts, partOf, quoted, hexText, shownString, shownTime, shownCode, shownPlain}
 use Rattle.readable_parts.specs.Steps.{longest, Puts, puts}

@@ -9,8 +9,8 @@ use Rattle.text.specs.String.{Str}
 use Rattle.text.specs.Frame.{got, unread, Reader}
 use Rattle.text.specs.Fill.{put}
 use Rattle.text.specs.Steps.{Wrote}
-use Rattle.path_text.specs.declared.reader.Stored.{Stored}
-use Rattle.path_text.specs.declared.reader.Stored.the-variants.{To, Unread}
+use Rattle.path_read.specs.declared.reader.Stored.{Stored}
+use Rattle.path_read.specs.declared.reader.Stored.the-variants.{To, Unread}
 use Rattle.readable_parts.specs.Steps.{Puts, puts, stops}
 
 module _ {most : ℕ} {r : Reader Str} {s : Str} {at : ℕ} {d : List ℕ} {to : ℕ} {d′ : List ℕ} where

@@ -10,10 +10,10 @@ use Rattle.limits.specs.Limits.{maxString}
 use Rattle.text.specs.Test.{_and_, if_then_else_}
 use Rattle.text.specs.String.{Str, bytes, same, joined}
 use Rattle.text.specs.Frame.{Parsed, got, unread, Reader, _>>=_, ret, byte, part, string, stringBytes}
-use Rattle.line.specs.Lines.{lines, frame}
-use Rattle.path_text.specs.Text.{escaped}
-use Rattle.path_text.specs.TextReader.{literal, value}
-use Rattle.path_text.specs.Calls.{bytesFor, textFor}
+use Rattle.table_line.specs.Lines.{lines, frame}
+use Rattle.path_read.specs.Text.{escaped}
+use Rattle.path_read.specs.TextReader.{literal, value}
+use Rattle.path_read.specs.Calls.{bytesFor, textFor}
 use Rattle.table.specs.Frame.{unknown}
 
 -- ---- the parts of a line

@@ -11,9 +11,9 @@ use Rattle.text.specs.Test.{if_then_else_}
 use Rattle.text.specs.String.{Str}
 use Rattle.text.specs.Frame.{got, unread, Reader}
 use Rattle.text.specs.Steps.{Wrote}
-use Rattle.path_text.specs.Calls.{bytesFor, textFor}
-use Rattle.path_text.specs.declared.reader.Stored.{Stored}
-use Rattle.path_text.specs.declared.reader.Stored.the-variants as stored
+use Rattle.path_read.specs.Calls.{bytesFor, textFor}
+use Rattle.path_read.specs.declared.reader.Stored.{Stored}
+use Rattle.path_read.specs.declared.reader.Stored.the-variants as stored
 
 -- the longest that a part can be, as text or in a frame: a string in brackets, escaped; 16 digits; the longest path text; `permit`
 unfoldable pub longest : ℕ → ℕ

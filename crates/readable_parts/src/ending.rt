@@ -2,17 +2,17 @@
 ghost use Prim.Native.Nat.{_+_, _≤_};
 ghost use lib.ListN.{length};
 ghost use Rattle.limits.specs.Sizes.{maxPathText};
-ghost use Rattle.path_text.specs.Steps.{Delivers};
+ghost use Rattle.path_read.specs.Steps.{Delivers};
 ghost use Rattle.readable_parts.specs.Parts.{ofRest};
 ghost use Rattle.readable_parts.specs.Steps.{Puts, pathFor};
-use path_text::Filled;
-use path_text::reader::Stored;
+use path_read::Filled;
+use path_read::reader::Stored;
 
 fn convert(pack: bool, s: &[u8], out: &mut [u8]) -> Filled
     ensures { λ r. ⌜ Delivers (now (out .entry)) (pathFor pack (now (s .entry))) (now (out .exit)) r ⌝ }
 {
     if pack {
-        return path_text::reader::read_text(s, out);
+        return path_read::reader::read_text(s, out);
     }
     path_write::write_text(s, out)
 }

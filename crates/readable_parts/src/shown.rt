@@ -4,7 +4,7 @@ ghost use lib.ListN.{length};
 ghost use Rattle.limits.specs.Sizes.{maxQuoted};
 ghost use Rattle.readable_parts.specs.Parts.{shown, partOf, shownString, shownTime, shownCode};
 ghost use Rattle.readable_parts.specs.Steps.{Puts, longest};
-use path_text::reader::Stored;
+use path_read::reader::Stored;
 use text::frame::End;
 
 // In brackets.

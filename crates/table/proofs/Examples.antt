@@ -8,7 +8,7 @@ use Rattle.text.specs.String.{Str, bytes, same}
 use Rattle.text.specs.Frame.{_>>=_, ret, byte, run, string, times}
 use Rattle.path.specs.Bytes.{key, element, path}
 use Rattle.path.specs.Faults.{unsized, keyOver, elemOver, overLimit, outsideName, outsideValue, keyStray, elemStray, strayByte, halfWild, keyMisplaced, elemMisplaced, misplaced, keyTwice}
-use Rattle.line.specs.Lines.{onto, lines, pair, pairs, nonempty, frame}
+use Rattle.table_line.specs.Lines.{onto, lines, pair, pairs, nonempty, frame}
 use Rattle.table.specs.Frame.{unknown, code, versionBody, groupBody, memberBody, ruleBody, ruleEntry, body, entry, whole, entryOf}
 use Rattle.table.specs.Refusal.{framed, decoded, lineOf, kindOf, outOfOrder, unsizedShort, pastLimit, stray, strays, misplaces, sameMember, sameId, repeats, listed, unlisted, refusal, first, with, after}
 use Rattle.table.specs.Text.{unless, judge, check, allTold, table, tableOf}

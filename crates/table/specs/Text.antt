@@ -8,7 +8,7 @@ use Rattle.limits.specs.Limits.{maxTableText}
 use Rattle.text.specs.Test.{if_then_else_}
 use Rattle.text.specs.String.{Str}
 use Rattle.text.specs.Refusal.{clear}
-use Rattle.line.specs.Lines.{lines}
+use Rattle.table_line.specs.Lines.{lines}
 use Rattle.table.specs.Table.{Table}
 use Rattle.table.specs.Refusal.{lineOf, Earlier, refusal, first, after}
 use Rattle.table.specs.declared.Checked.{Checked}

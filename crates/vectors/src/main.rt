@@ -60,7 +60,7 @@ fn answer(text: &[u8], letter: u8, rest: &[u8])
         b'p' => policies::check(text),
         b'b' => long::policy(split::digit(rest)),
         b'i' => policies::rpc(text, rest),
-        _ => show::line(b"no such question"),
+        _ => cli_show::line(b"no such question"),
     }
 }
 
@@ -69,8 +69,8 @@ fn run_question(text: &[u8], line: &[u8])
     requires { ⌜ length (now line) ≤ 65536 ⌝ }
 {
     let end = split::up_to(line, 0, b'\n');
-    show::word(&line[0..end]);
-    show::word(b": ");
+    cli_show::word(&line[0..end]);
+    cli_show::word(b": ");
     let rest = split::after(line, split::up_to(line, 0, b' '));
     answer(text, split::first(line), &line[rest..]);
 }
@@ -83,7 +83,7 @@ fn run_line(text: &[u8], line: &[u8])
         return;
     }
     if line[0] == b'#' {
-        show::word(line);
+        cli_show::word(line);
         return;
     }
     if is_text(line[0]) {

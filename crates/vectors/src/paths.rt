@@ -13,7 +13,7 @@ fn write(bytes: &[u8], out: &mut [u8]) {
         crate::word::show_refusal(answer);
         return;
     }
-    show::line(&out[..crate::word::filled(answer, out)]);
+    cli_show::line(&out[..crate::word::filled(answer, out)]);
 }
 
 // Prints the path bytes of a text, and the text written from them; or the refusal.
@@ -24,8 +24,8 @@ fn read(text: &[u8], out: &mut [u8]) {
         return;
     }
     let n = crate::word::filled(answer, out);
-    show::hex(&out[..n]);
-    show::space();
+    cli_show::hex(&out[..n]);
+    cli_show::space();
     let mut back = [0u8; limits::MAX_PATH_TEXT];
     write(&out[..n], &mut back);
 }
@@ -35,7 +35,7 @@ fn write_hex(line: &[u8], out: &mut [u8])
     requires { ⌜ length (now line) ≤ 65536 ⌝ }
 {
     let mut bytes = [0u8; MAX_BYTES];
-    line::read_line(line, 0, &mut bytes, 0);
+    table_line::read_line(line, 0, &mut bytes, 0);
     write(&bytes[0..line.len() / 2], out);
 }
 

@@ -7,19 +7,19 @@ pub fn is_refused(word: u64) -> bool {
 
 // The line is 0 where the number carries none.
 pub fn show_refusal(word: u64) {
-    show::word(b"refused ");
-    show::decimal(word % 256);
+    cli_show::word(b"refused ");
+    cli_show::decimal(word % 256);
     let line = word / 256;
     if line != 0 {
-        show::word(b" line ");
-        show::decimal(line);
+        cli_show::word(b" line ");
+        cli_show::decimal(line);
     }
-    show::word(b"\n");
+    cli_show::word(b"\n");
 }
 
 pub fn show_checked(word: u64) {
     if word == 0 {
-        show::line(b"accepted");
+        cli_show::line(b"accepted");
     } else {
         show_refusal(word);
     }
@@ -29,26 +29,26 @@ pub fn show_checked(word: u64) {
 fn show_named(title: &[u8], word: u64) {
     let number = word / 65536;
     if number != 0 {
-        show::word(title);
-        show::decimal(number - 1);
+        cli_show::word(title);
+        cli_show::decimal(number - 1);
     }
-    show::word(b"\n");
+    cli_show::word(b"\n");
 }
 
 // The first number by its name.
 fn show_first(number: u64, is_tree: bool) {
     if is_tree {
         match number {
-            0 => show::word(b"NONE"),
-            1 => show::word(b"ALL"),
-            2 => show::word(b"MIXED"),
-            _ => show::decimal(number),
+            0 => cli_show::word(b"NONE"),
+            1 => cli_show::word(b"ALL"),
+            2 => cli_show::word(b"MIXED"),
+            _ => cli_show::decimal(number),
         }
     } else {
         match number {
-            0 => show::word(b"deny"),
-            1 => show::word(b"permit"),
-            _ => show::decimal(number),
+            0 => cli_show::word(b"deny"),
+            1 => cli_show::word(b"permit"),
+            _ => cli_show::decimal(number),
         }
     }
 }
@@ -67,7 +67,7 @@ pub fn show_groups(word: u64) {
         show_refusal(word);
         return;
     }
-    show::decimal(word / 256 % 256);
+    cli_show::decimal(word / 256 % 256);
     show_named(b", first ", word);
 }
 

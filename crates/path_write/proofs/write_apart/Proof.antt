@@ -7,7 +7,7 @@ use lib.ListN.{length-take, length-replicate}
 use lib.Seq.{length-take-le}
 use Prim.Native.Nat.{ℕ}
 use Rattle.limits.specs.Sizes.{maxPathText}
-use Rattle.path_text.proofs.Answers.{unfit, filled}
+use Rattle.path_read.proofs.Answers.{unfit, filled}
 use Rattle.path_write.proofs.Texts.{text-good, text-fits}
 use Rattle.path_write.proofs.write_apart.Statement.{statement}
 use Rattle.path_write.proofs.write_apart.Tie as tie

@@ -3,7 +3,7 @@ use borrow.Author.Needs.{needs}
 use Rattle.text.specs.String.{joined}
 use Rattle.text.specs.Frame.{times}
 use Rattle.path.specs.Bytes.{element}
-use Rattle.path_text.specs.Text.{elemText}
+use Rattle.path_read.specs.Text.{elemText}
 use Rattle.path_write.specs.Steps.{written, endAt}
 use Rattle.path_write.proofs.Writing.{Writing, writing-start, elems-room, elems-turn, elems-done}
 use Rattle.path_write.proofs.write_elements.Statement.{statement}

@@ -7,7 +7,7 @@ use Rattle.text.specs.Frame.{times}
 use Rattle.text.proofs.Frames.{string-ends, times-turn, times-unread, times-done}
 use Rattle.path.specs.Bytes.{key}
 use Rattle.path_frame.proofs.Walks.{key-got, key-nameless, key-valueless}
-use Rattle.path_text.specs.Text.{keyText}
+use Rattle.path_read.specs.Text.{keyText}
 use Rattle.path_write.specs.Steps.{written, endAt}
 use Rattle.path_write.proofs.Writing.{Writing, writing-start, writing-never, writing-done, writing-room, writing-turn}
 use Rattle.path_write.proofs.write_keys.Statement.{statement}

@@ -3,7 +3,7 @@ use borrow.Author.Needs.{needs}
 use borrow.Author.Tests.{not-true, not-false}
 use native.Mathlib.Omega.{arith}
 use mathlib.Core.Path.{sym, _∙_}
-use Rattle.path_text.proofs.Answers.{refused, stored-there}
+use Rattle.path_read.proofs.Answers.{refused, stored-there}
 use Rattle.path_write.proofs.Texts.{text-bad, text-good, text-fits, text-room}
 use Rattle.path_write.proofs.write_text.Statement.{statement}
 use Rattle.path_write.proofs.write_text.Tie as tie

@@ -5,7 +5,7 @@ use Prim.Native.Nat.{_-_, _≤_}
 use lib.ListN.{length, drop}
 use Rattle.text.specs.String.{joined}
 use Rattle.text.proofs.Filling.{Pending, fill-start}
-use Rattle.path_text.specs.Text.{escaped}
+use Rattle.path_read.specs.Text.{escaped}
 use Rattle.path_write.proofs.Writing.{value-room, value-turn, value-done}
 use Rattle.path_write.proofs.write_value.Statement.{statement}
 use Rattle.path_write.proofs.write_value.Tie as tie

@@ -45,7 +45,7 @@ use denote.Triple.Walked.{says, Stays, stay-ref, stay-none-slice, gave-slice, wa
 use denote.Triple.Clauses.{ensured, lasts}
 use denote.Exit.{yes}
 use Rattle.rotation.specs.Calls.{upload, uploadStore}
-use Rattle.upload.specs.Offered.{offeredCheck}
+use Rattle.rotation_upload.specs.Offered.{offeredCheck}
 use Rattle.burgee.specs.Record.{answered}
 use Rattle.rotation.specs.declared.Record.{Record}
 use Rattle.burgee.specs.declared.records.Answered.{Answered}

@@ -2,7 +2,7 @@
 use borrow.Author.Needs.{needs}
 use native.Mathlib.Omega.{arith}
 use Rattle.text.proofs.Frames.{string-ends}
-use Rattle.path_text.proofs.Reading.{part-length}
+use Rattle.path_read.proofs.Reading.{part-length}
 use Rattle.readable_parts.specs.Steps.{stops}
 use Rattle.readable_parts.proofs.Showing.{string-unshown, long-unshown, string-shown, value-fits, close-room, closed-long, string-puts}
 use Rattle.readable_parts.proofs.shown.string.Statement.{statement}

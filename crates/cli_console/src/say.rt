@@ -1,0 +1,83 @@
+// Facts on standard output, and complaints on standard error.
+ghost use Prim.Native.Nat.{_≤_, _<_};
+ghost use lib.ListN.{length};
+
+// `name n`
+pub fn fact(name: &[u8], n: u64) {
+    cli_show::word(name);
+    cli_show::decimal(n);
+    cli_show::word(b"\n");
+}
+
+pub fn count(name: &[u8], n: usize) {
+    fact(name, n as u64);
+}
+
+// An answer that a rule decides, and the rule's number.
+pub fn decided(answer: &[u8], rule: u64) {
+    cli_show::line(answer);
+    fact(b"rule ", rule);
+}
+
+// Where the bytes from `at` on that print end.
+fn printable_end(s: &[u8], at: usize) -> usize
+    requires { ⌜ at ≤ length (now s) ⌝ }
+    ensures { λ r. ⌜ (at ≤ r) × (r ≤ length (now (s .entry))) ⌝ }
+{
+    let mut i = at;
+    while i < s.len() {
+        if !text::byte::is_print(s[i]) {
+            return i;
+        }
+        i += 1;
+    }
+    i
+}
+
+// Prints the bytes from `at` on that print, and the byte behind them in hex after \x; answers where to go on.
+fn quote_from(s: &[u8], at: usize) -> usize
+    requires { ⌜ at < length (now s) ⌝ }
+    ensures { λ r. ⌜ (at < r) × (r ≤ length (now (s .entry))) ⌝ }
+{
+    let end = printable_end(s, at);
+    cli_show::word(&s[at..end]);
+    if end < s.len() {
+        cli_show::word(b"\\x");
+        cli_show::hex(&[s[end]]);
+        return end + 1;
+    }
+    end
+}
+
+// A line of a file as it stands, but for bytes that do not print: those in hex after \x.
+pub fn quote(s: &[u8]) {
+    let mut at = 0;
+    while at < s.len() {
+        at = quote_from(s, at);
+    }
+    cli_show::word(b"\n");
+}
+
+// What is wrong with how the program was called, the word that it is about, and the page of help to look at, if there is one.
+pub fn usage(what: &[u8], word: &[u8], page: &[u8]) {
+    io::write_all(2, b"burgee: ");
+    io::write_all(2, what);
+    io::write_all(2, word);
+    io::write_all(2, b"\nTry: burgee help");
+    if 0 < page.len() {
+        io::write_all(2, b" ");
+    }
+    io::write_all(2, page);
+    io::write_all(2, b"\n");
+}
+
+// The command was called with arguments that it does not take.
+pub fn misuse(command: &[u8]) {
+    usage(b"not the arguments of ", command, command);
+}
+
+// Why a call of the system failed on the file of that name.
+pub fn failure(name: &[u8]) {
+    io::write_all(2, b"burgee: ");
+    os::fail(name);
+}

@@ -1,0 +1,294 @@
+// Help: what the commands are, and for each what it prints, with an example.
+pub fn all() {
+    io::write_all(
+        1,
+        b"burgee: tries rule tables and policies\n\
+        \n\
+        burgee table FILE                                  checks a rule table\n\
+        burgee show FILE                                   a rule table as readable text\n\
+        burgee pack FILE                                   readable text as a rule table\n\
+        burgee groups FILE USER                            the groups that list a user\n\
+        burgee verdict FILE USER read|write ORIGIN PATH    what a user may do at a path\n\
+        burgee tree FILE USER read|write ORIGIN PATH       and at every path beneath it\n\
+        burgee explain FILE USER read|write ORIGIN PATH    why: the rules that match, the best first\n\
+        burgee path read TEXT                              path text as path bytes\n\
+        burgee path write BYTES                            path bytes as path text\n\
+        burgee policy FILE                                 checks an RPC policy\n\
+        burgee rpc FILE IDENTITY PATH [HEADERS-FILE]       whether a client may make a call\n\
+        burgee rotate STEP RECORD STORE ..                 a rotation, tried by hand\n\
+        burgee help [COMMAND]                              this page, or one command's\n\
+        burgee version                                     the version of this program\n\
+        \n\
+        A FILE named - is standard input. Each line of an answer is one fact.\n\
+        The exit status is 0 for an answer, 1 for a refusal, 2 for a call that is not understood\n\
+        or a file that cannot be read or written.\n",
+    );
+}
+
+fn table() {
+    io::write_all(
+        1,
+        b"burgee table FILE\n\
+        \n\
+        Checks a rule table: accepted, and how many groups, members and rules it has;\n\
+        or the number of the refusal, its line, what it means, and the line itself.\n\
+        \n\
+        $ burgee table examples/files/yard.table\n\
+        accepted\n\
+        groups 2\n\
+        members 3\n\
+        rules 6\n",
+    );
+}
+
+fn conversion() {
+    io::write_all(
+        1,
+        b"burgee show FILE\n\
+        burgee pack FILE\n\
+        \n\
+        A rule table as readable text, one thing a line, and that text back as the table: show and pack undo each other.\n\
+        A line of the readable text is one of these, and ends with LF:\n\
+        \n\
+        version [VERSION] time T\n\
+        group [NAME]\n\
+        member [GROUP] [USER]\n\
+        rule permit|deny read|write user|group [NAME] id [ID] origin [ORIGIN] PATH\n\
+        \n\
+        T is 16 hex digits. In brackets \\ stands before ] and \\. A line of another form is refused at its line, without a number;\n\
+        a text that makes no table is refused by the table's number and line.\n\
+        \n\
+        $ burgee show examples/files/yard.table | head -n 4\n\
+        version [2026-11] time 000000006553f100\n\
+        group [admin]\n\
+        group [engineers]\n\
+        member [admin] [stevie]\n\
+        $ burgee show examples/files/yard.table | burgee pack - | cmp - examples/files/yard.table && echo the same\n\
+        the same\n\
+        $ echo 'group admin' | burgee pack -\n\
+        refused at line 1: not a line of the readable form\n\
+        line: group admin\n",
+    );
+}
+
+fn groups() {
+    io::write_all(
+        1,
+        b"burgee groups FILE USER\n\
+        \n\
+        How many groups of a rule table list the user, and the number and name of each.\n\
+        \n\
+        $ burgee groups examples/files/yard.table stevie\n\
+        groups 2\n\
+        group 0 admin\n\
+        group 1 engineers\n",
+    );
+}
+
+fn verdict() {
+    io::write_all(
+        1,
+        b"burgee verdict FILE USER read|write ORIGIN PATH\n\
+        \n\
+        What the user may do at one path: permit or deny, and the deciding rule's number and id,\n\
+        or default where no rule matches.\n\
+        USER is named as in the table. ORIGIN is the path's origin, mostly empty: ''. PATH is path text, as / or /NAME[KEY=VALUE]/NAME.\n\
+        \n\
+        $ burgee verdict examples/files/yard.table ann write '' '/interfaces/interface[name=uplink]/config'\n\
+        permit\n\
+        rule 2\n\
+        id eng-ports\n\
+        $ burgee verdict examples/files/yard.table bob read '' /system\n\
+        deny\n\
+        default\n",
+    );
+}
+
+fn tree() {
+    io::write_all(
+        1,
+        b"burgee tree FILE USER read|write ORIGIN PATH\n\
+        \n\
+        What the user may do at a path and at every path beneath it, also those that no machine has yet: ALL, NONE or MIXED.\n\
+        With MIXED comes, of the rules by which some path beneath gets the other answer than PATH itself, the one with the smallest id.\n\
+        USER is named as in the table. ORIGIN is the path's origin, mostly empty: ''. PATH is path text, as / or /NAME[KEY=VALUE]/NAME.\n\
+        \n\
+        $ burgee tree examples/files/yard.table stevie read '' /system\n\
+        MIXED\n\
+        rule 5\n\
+        id eng-no-keys\n",
+    );
+}
+
+fn explain() {
+    io::write_all(
+        1,
+        b"burgee explain FILE USER read|write ORIGIN PATH\n\
+        \n\
+        The verdict, and then every rule that matches, in ranking order: the first decides, and of each other one\n\
+        the line says at which step of the ranking it lost to the first. The steps are, in this order:\n\
+        elements, definite keys, user over group, deny over permit, smaller id.\n\
+        USER is named as in the table. ORIGIN is the path's origin, mostly empty: ''. PATH is path text, as / or /NAME[KEY=VALUE]/NAME.\n\
+        \n\
+        $ burgee explain examples/files/yard.table ann write '' '/interfaces/interface[name=uplink]/config'\n\
+        permit\n\
+        rule 2\n\
+        id eng-ports\n\
+        1 decides: rule 2, permit, elements 3, definite keys 0, group, id eng-ports\n\
+        2 lost at elements: rule 3, deny, elements 2, definite keys 1, user, id ann-no-uplink\n\
+        $ burgee explain examples/files/yard.table bob read '' /system\n\
+        deny\n\
+        default\n\
+        no rule matches\n",
+    );
+}
+
+fn path() {
+    io::write_all(
+        1,
+        b"burgee path read TEXT\n\
+        burgee path write BYTES\n\
+        \n\
+        Path text to path bytes in hex, as rules hold them, and back.\n\
+        \n\
+        $ burgee path read '/a[k=*]'\n\
+        01016101016b012a\n\
+        $ burgee path write 01016101016b012a\n\
+        /a[k=*]\n\
+        $ burgee path write 0x01\n\
+        burgee: path bytes are pairs of the digits 0-9a-f\n\
+        Try: burgee help path\n",
+    );
+}
+
+fn policy() {
+    io::write_all(
+        1,
+        b"burgee policy FILE\n\
+        \n\
+        Checks an RPC policy: accepted, and how many rules each list has;\n\
+        or the number of the refusal, the line of the fault, what it means, and the line itself.\n\
+        \n\
+        $ burgee policy examples/files/yard.json\n\
+        accepted\n\
+        deny_rules 1\n\
+        allow_rules 2\n\
+        $ sed 22d examples/files/yard.json | burgee policy -\n\
+        refused 31 at line 22: not one JSON value, in printable bytes, nested to depth 16 at most\n\
+        line: }\n",
+    );
+}
+
+fn rpc() {
+    io::write_all(
+        1,
+        b"burgee rpc FILE IDENTITY PATH [HEADERS-FILE]\n\
+        \n\
+        Whether a policy permits an RPC: permit or deny, and the deciding rule's list, number and name,\n\
+        or default where no rule matches. The identity is '' without a client certificate.\n\
+        A line of the headers' file is a name, a colon and a value.\n\
+        \n\
+        $ burgee rpc examples/files/yard.json spiffe://yard/officer/jo /gnoi.system.System/Reboot\n\
+        permit\n\
+        list allow_rules\n\
+        rule 0\n\
+        name officers\n\
+        $ burgee rpc examples/files/yard.json spiffe://yard/dryer /gnoi.system.System/Reboot\n\
+        deny\n\
+        list deny_rules\n\
+        rule 0\n\
+        name no_reboot\n\
+        $ echo 'site:north' | burgee rpc examples/files/yard.json '' /gnmi.gNMI/Get -\n\
+        permit\n\
+        list allow_rules\n\
+        rule 1\n\
+        name readers\n\
+        $ burgee rpc examples/files/yard.json '' /gnmi.gNMI/Set\n\
+        deny\n\
+        default\n",
+    );
+}
+
+fn rotate() {
+    io::write_all(
+        1,
+        b"burgee rotate new RECORD STORE policy|table\n\
+        burgee rotate show RECORD STORE\n\
+        burgee rotate start RECORD STORE\n\
+        burgee rotate upload RECORD STORE FILE\n\
+        burgee rotate verdict RECORD STORE USER read|write ORIGIN PATH\n\
+        burgee rotate tree RECORD STORE USER read|write ORIGIN PATH\n\
+        burgee rotate rpc RECORD STORE IDENTITY PATH [HEADERS-FILE]\n\
+        burgee rotate finalize RECORD STORE\n\
+        burgee rotate close RECORD STORE\n\
+        \n\
+        A rotation tried by hand. RECORD and STORE are files that new makes, and neither may be there before;\n\
+        each step prints what the record then says, and show prints it without a step.\n\
+        A verdict, a tree answer or an RPC is judged on what is in force: the candidate, else the live text, else factory,\n\
+        which denies all (table) or permits all (policy).\n\
+        \n\
+        $ rm -f target/help.*\n\
+        $ burgee rotate new target/help.record target/help.store table\n\
+        kind table\n\
+        slot 0\n\
+        live none\n\
+        rotation off\n\
+        candidate none\n\
+        $ burgee rotate verdict target/help.record target/help.store ann read '' /system\n\
+        deny\n\
+        factory\n\
+        $ burgee rotate finalize target/help.record target/help.store\n\
+        refused 13: no rotation is on\n\
+        $ burgee rotate new target/help.record target/help.store policy\n\
+        burgee: target/help.record: File exists\n\
+        $ rm target/help.*\n\
+        $ burgee rotate new target/help.record target/help.store policy | head -n 1\n\
+        kind policy\n\
+        $ burgee rotate start target/help.record target/help.store | tail -n 2\n\
+        rotation on\n\
+        candidate none\n\
+        $ burgee rotate upload target/help.record target/help.store examples/files/yard.json | tail -n 1\n\
+        candidate 525\n\
+        $ burgee rotate rpc target/help.record target/help.store spiffe://yard/dryer /gnoi.system.System/Reboot\n\
+        deny\n\
+        list deny_rules\n\
+        rule 0\n\
+        name no_reboot\n\
+        $ burgee rotate show target/help.record target/help.store\n\
+        kind policy\n\
+        slot 0\n\
+        live none\n\
+        rotation on\n\
+        candidate 525\n",
+    );
+}
+
+// The version of the product, as include/burgee.h has it.
+pub fn version() {
+    io::write_all(1, b"burgee 0.1.0\n");
+}
+
+// One command's help, or all of it; false where there is no such command.
+pub fn on(command: &[u8]) -> bool {
+    let page = cli_console::lines::place(
+        b"table\nshow\npack\ngroups\nverdict\ntree\nexplain\npath\npolicy\nrpc\nrotate\nhelp\nversion\n\n",
+        command,
+    );
+    match page {
+        0 => {
+            return false;
+        }
+        1 => table(),
+        2 | 3 => conversion(),
+        4 => groups(),
+        5 => verdict(),
+        6 => tree(),
+        7 => explain(),
+        8 => path(),
+        9 => policy(),
+        10 => rpc(),
+        11 => rotate(),
+        _ => all(),
+    }
+    true
+}

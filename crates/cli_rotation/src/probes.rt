@@ -1,0 +1,126 @@
+// The probes of a rotation: a request judged on what is in force.
+use rotation::Record;
+use rotation_probe::force::Source;
+use rotation_probe::rpcs::RpcAnswer;
+use rpc::verdict::Verdict;
+
+// What is asked of a path; `text` names the rules, and `none` is said where no rule decides, `nowhere` where no path is permitted.
+fn answer_table(
+    r: Record,
+    store: &[u8],
+    text: &[u8],
+    is_tree: bool,
+    user: &[u8],
+    mode: u32,
+    origin: &[u8],
+    path: &[u8],
+    none: &[u8],
+    nowhere: &[u8],
+) {
+    if is_tree {
+        let a = rotation_probe::probe_tree(r, store, user, mode, origin, path);
+        cli_answers::tree(text, a, nowhere);
+    } else {
+        let a = rotation_probe::probe_path(r, store, user, mode, origin, path);
+        cli_answers::path(text, a, none);
+    }
+}
+
+// The same, on what is in force.
+fn judge(
+    r: Record,
+    store: &[u8],
+    is_tree: bool,
+    user: &[u8],
+    mode: u32,
+    origin: &[u8],
+    path: &[u8],
+) {
+    let s = rotation_probe::force::find_source(r, store.len(), 2);
+    match s {
+        Source::Refused(number) => cli_console::refusal::at(number, 0),
+        Source::Factory => answer_table(
+            r,
+            store,
+            b"",
+            is_tree,
+            user,
+            mode,
+            origin,
+            path,
+            b"factory\n",
+            b"factory\n",
+        ),
+        Source::Part { start, end } => answer_table(
+            r,
+            store,
+            &store[start..end],
+            is_tree,
+            user,
+            mode,
+            origin,
+            path,
+            b"default\n",
+            b"",
+        ),
+    }
+}
+
+// burgee rotate verdict|tree RECORD STORE USER read|write ORIGIN PATH
+pub fn table(r: Record, store: &[u8], is_tree: bool) {
+    let mut user = io::buffer();
+    let u = cli_console::input::word(5, &mut user);
+    let mode = cli_console::input::mode(6, b"rotate");
+    let mut origin = io::buffer();
+    let o = cli_console::input::word(7, &mut origin);
+    let mut path = io::large_buffer();
+    let p = cli_console::input::word(8, &mut path);
+    if mode != 0 {
+        judge(
+            r,
+            store,
+            is_tree,
+            &user[..u],
+            mode,
+            &origin[..o],
+            &path[..p],
+        );
+    }
+}
+
+// A probe's answer, with the text that names the rules.
+fn answer_rpc(r: Record, store: &[u8], a: RpcAnswer) {
+    match a {
+        RpcAnswer::PermitAll => cli_show::line(b"permit\nfactory"),
+        RpcAnswer::Judged(v) => answer_judged(r, store, v),
+    }
+}
+
+fn answer_judged(r: Record, store: &[u8], v: Verdict) {
+    let s = rotation_probe::force::find_source(r, store.len(), 1);
+    match s {
+        Source::Part { start, end } => cli_policy::rpcs::answer(&store[start..end], v),
+        _ => cli_policy::rpcs::answer(b"", v),
+    }
+}
+
+// burgee rotate rpc RECORD STORE IDENTITY PATH [HEADERS-FILE]
+pub fn policy(r: Record, store: &[u8], words: usize) {
+    let mut identity = io::buffer();
+    let i = cli_console::input::word(5, &mut identity);
+    let mut path = io::buffer();
+    let p = cli_console::input::word(6, &mut path);
+    let mut headers = io::large_buffer();
+    let got = cli_policy::rpcs::headers(7, words, &mut headers);
+    let h = got.count;
+    if got.is_good {
+        let a = rotation_probe::rpcs::probe_rpc(
+            r,
+            store,
+            &identity[..i],
+            &path[..p],
+            &headers[..h],
+        );
+        answer_rpc(r, store, a);
+    }
+}

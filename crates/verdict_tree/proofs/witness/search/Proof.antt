@@ -1,0 +1,92 @@
+use native.Mathlib.Omega.{arith}
+use mathlib.Core.Path.{_≡_, refl}
+use mathlib.Core.Bool.{Bool}
+use mathlib.Core.List.{List}
+use Prim.Native.Nat.{ℕ, _-_, _≤_, zero-le}
+use borrow.Author.Tests.{eq-eqb}
+use Rattle.text.proofs.Tests.{clash}
+use Rattle.path.specs.Path.{Path}
+use Rattle.table.specs.Table.{Rule}
+use Rattle.verdict.specs.Order.{earlier, choose, prefer}
+use Rattle.verdict.proofs.Order.{earlier-order}
+use Rattle.table_place.specs.Place.{elemsIn}
+use Rattle.verdict_judge.specs.Rules.{rulesIn}
+use Rattle.verdict_judge.specs.Best.{held, Sound, NumberBelow}
+use Rattle.verdict_judge.specs.declared.best.Best.{Best}
+use Rattle.verdict_judge.proofs.Steps.{best-none, best-turn, best-end}
+use Rattle.verdict_tree.specs.Tree.{opposing, Weights}
+use Rattle.verdict_tree.proofs.witness.search.Statement.{statement}
+use Rattle.verdict_tree.proofs.witness.search.Tie as tie
+
+-- b is the witness of the first i rules: that of all is the earlier of b and the witness of those from i on
+record Witness-so-far (f starts weights : List ℕ) (n : ℕ) (p : Path) (v : Bool) (b : Best) (i : ℕ) : Type 0 where
+  inside : i ≤ n
+  sound : Sound f b
+  numbered : NumberBelow n b
+  best : (test : Rule → Bool) → Weights test f starts weights n
+      → choose earlier (opposing test (rulesIn f starts n 0) p v) 0 (rulesIn f starts n 0)
+      ≡ prefer earlier (held f b) (choose earlier (opposing test (rulesIn f starts n 0) p v) i (rulesIn f starts (n - i) i))
+
+-- b is, of the rules before i that fit and oppose, the one with the smallest id
+abbrev Inv-loop : tie.InvT-loop
+Inv-loop f starts weights paths next filters n first v g p k b₀ i₀ b i = Witness-so-far f starts weights n (elemsIn k g p) v b i
+
+abbrev μ-loop : tie.MeasureT-loop
+μ-loop f starts weights paths next filters n first v g p k b₀ i₀ b i = n - i
+
+loop-holds : tie.Need-loop-holds Inv-loop μ-loop
+loop-holds c = let at-start = c .before .before .before .before .before .before .before in
+    let f = at-start .args .f .now in
+    let starts = at-start .args .starts .now in
+    let n = at-start .args .n in
+    let against : (Rule → Bool) → Rule → Bool = λ test. opposing test (rulesIn f starts n 0)
+    (elemsIn (at-start .args .k) (at-start .args .g .now) (at-start .args .p)) (at-start .args .v) in
+    record {
+      inside = zero-le;
+      sound = λ z. clash (eq-eqb 0 0 refl) z;
+      numbered = λ z. clash (eq-eqb 0 0 refl) z;
+      best = λ test h. best-none earlier earlier-order (against test) f starts n;
+    }
+
+oppose-requires : tie.Need-oppose-requires Inv-loop μ-loop
+oppose-requires c κs = let at-start = c .before .before .before .before .before .before .before .before .before in
+    (c .loop-test .taken, c .before .loop .inv .sound, at-start .pre)
+
+add-i : tie.Need-add-i Inv-loop μ-loop
+add-i c = omega arith
+
+loop-less : tie.Need-loop-less Inv-loop μ-loop
+loop-less c = omega arith
+
+loop-again : tie.Need-loop-again Inv-loop μ-loop
+loop-again c = let at-loop = c .before .before in
+    let at-start = at-loop .before .before .before .before .before .before .before .before in
+    let f = at-start .args .f .now in
+    let starts = at-start .args .starts .now in
+    let n = at-start .args .n in
+    let against : (Rule → Bool) → Rule → Bool = λ test. opposing test (rulesIn f starts n 0)
+    (elemsIn (at-start .args .k) (at-start .args .g .now) (at-start .args .p)) (at-start .args .v) in
+    record {
+      inside = omega arith;
+      sound = c .oppose .ensures .sound;
+      numbered = c .oppose .ensures .numbered (at-loop .loop .inv .numbered);
+      best = λ test h. best-turn earlier earlier-order (against test) f starts n _ (at-loop .loop .b) _
+          (at-loop .loop .i) (c .before .loop-test .taken) (c .oppose .ensures .best test h) (at-loop .loop .inv .best test h);
+    }
+
+returns : tie.Need-returns Inv-loop μ-loop
+returns c = let at-start = c .before .before .before .before .before .before .before .before .before in
+    let f = at-start .args .f .now in
+    let starts = at-start .args .starts .now in
+    let n = at-start .args .n in
+    let against : (Rule → Bool) → Rule → Bool = λ test. opposing test (rulesIn f starts n 0)
+    (elemsIn (at-start .args .k) (at-start .args .g .now) (at-start .args .p)) (at-start .args .v) in
+    record {
+      sound = c .before .loop .inv .sound;
+      numbered = c .before .loop .inv .numbered;
+      best = λ test h. best-end earlier earlier-order (against test) f starts n _ (c .before .loop .b)
+          (c .before .loop .i) (c .loop-test .left) (c .before .loop .inv .best test h);
+    }
+
+pub search-spec : {M : Type 1} → statement M
+search-spec = tie.close (tie.spec Inv-loop μ-loop loop-holds oppose-requires add-i loop-less loop-again returns)

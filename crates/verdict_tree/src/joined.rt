@@ -1,0 +1,64 @@
+// The rule that decides a joined path.
+ghost use mathlib.Core.Path.{_≡_};
+ghost use Prim.Native.Nat.{_<_};
+ghost use lib.ListN.{getD};
+ghost use Rattle.verdict.specs.Pair.{coversBoth};
+ghost use Rattle.table_place.specs.Place.{elemsIn, pathIn};
+ghost use Rattle.verdict_tree.specs.Tree.{Fits, Kept, Heaviest};
+ghost use Rattle.verdict_tree.specs.Given.{ForCovers};
+
+// Whether the path at a of f, of rule j, covers the joined path of that at r of f, of rule i, and the k elements at p of g.
+fn covers_joined(
+    f: &[u8],
+    a: usize,
+    j: usize,
+    r: usize,
+    i: usize,
+    filters: &[u64],
+    g: &[u8],
+    p: usize,
+    k: usize,
+) -> bool
+    requires { ⌜ ForCovers (now f) a j r i (now filters) (now g) p k ⌝ }
+    ensures { λ b. ⌜ b ≡ coversBoth (pathIn (now (f .entry)) a) (pathIn (now (f .entry)) r) (elemsIn k (now (g .entry)) p) ⌝ }
+{
+    if !crate::filter::is_within(filters, j, i) {
+        return false;
+    }
+    let n = f[a] as usize;
+    let m = f[r] as usize;
+    verdict_compare::paths::covers_both(f, a + 1, n, r + 1, m, g, p, k)
+}
+
+// The number of the heaviest rule that covers the joined path of rule i, which fits, and the k elements at p of g. Rule i itself does, so
+// only heavier ones are tested. Those of equal weight have equal actions, whatever their ids.
+pub fn decide_joined(
+    i: usize,
+    f: &[u8],
+    weights: &[usize],
+    paths: &[u16],
+    next: &[usize],
+    filters: &[u64],
+    n: usize,
+    first: usize,
+    g: &[u8],
+    p: usize,
+    k: usize,
+) -> usize
+    requires { ⌜ (i < n) × Fits (getD (now weights) i 0)
+        × Kept (now f) (now weights) (now paths) (now next) (now filters) n first (now g) p k ⌝ }
+    ensures { λ d. ⌜ Heaviest (now (f .entry)) (now (weights .entry)) (now (paths .entry)) n (elemsIn k (now (g .entry)) p) i d ⌝ }
+{
+    let r = paths[i] as usize;
+    let own = weights[i] / limits::MAX_RULES;
+    let mut x = first;
+    while own < x / limits::MAX_RULES {
+        let j = x % limits::MAX_RULES;
+        let a = paths[j] as usize;
+        if covers_joined(f, a, j, r, i, filters, g, p, k) {
+            return j;
+        }
+        x = next[j];
+    }
+    i
+}
