@@ -1,4 +1,5 @@
--- Which table the arrays of a loaded table hold. This is what the verdicts on them mean, and no part of what they require (`Safe`, verdict_concern/specs/Concern).
+-- Which table the arrays of a loaded table hold. This is what the verdicts on them mean, and no part of what they require (`Safe`, of
+-- verdict_concern/specs/Concern).
 use Prim.Native.Nat.{ℕ, _<_}
 use mathlib.Core.Path.{_≡_}
 use mathlib.Core.Bool.{Bool, true}
