@@ -9,7 +9,7 @@ use native.Mathlib.Omega.{arith}
 use lib.Dec.{ltb}
 use lib.ListN.{length, take, drop, getD, length-drop, drop-of-length-le}
 use lib.Seq.{drop-cons, take-all, length-take-le}
-use borrow.Author.Tests.{eq-eqb, ne-eqb, lt-ltb, le-ltb, ltb-true, ltb-false, not-false}
+use borrow.Author.Tests.{eqb-true, eqb-false, eq-eqb, ne-eqb, lt-ltb, le-ltb, ltb-true, ltb-false, not-false}
 use Rattle.limits.specs.Limits.{maxRequestString, maxHeaderLines}
 use Rattle.text.specs.Test.{_and_, _or_, if_then_else_, all}
 use Rattle.text.specs.Byte.{isPrint}
@@ -18,6 +18,8 @@ use Rattle.text.specs.Frame.{part}
 use Rattle.text.proofs.Tests.{by, clash, or-false-l, or-false-r}
 use Rattle.text.proofs.Frames.{no-part}
 use Rattle.text_affix.specs.Affix.{empty}
+use Rattle.text_search.specs.Search.{until, is}
+use Rattle.text_search.proofs.Searching.{found, passed, ran-out, found-low, found-high}
 use Rattle.policy.specs.Text.{isHeaderByte}
 use Rattle.rpc.specs.Request.{Line, longer, cutAt, lineOf, cons, lineThen, linesOf, headersOf, readable, badText, badHeaders}
 use Rattle.rpc_request.specs.Steps.{cutHere, Cut}
@@ -71,14 +73,34 @@ module _ (h : Str) where
       (λ t. let z = ltb-false _ _ t in ap (longer (getD h i 0)) (here-none (i + 1) e z) ∙ longer-none _ ∙ sym (here-none i e z))
 
   module _ (b i : ℕ) where
-    pub cut-pass : (e : ℕ) → i < length h → i < e → (getD h i 0 ≡ b → ⊥) → cutAt b (drop (i + 1) h) ≡ cutHere h (i + 1) e → cutAt b (drop i h) ≡ cutHere h i e
+    cut-pass : (e : ℕ) → i < length h → i < e → (getD h i 0 ≡ b → ⊥) → cutAt b (drop (i + 1) h) ≡ cutHere h (i + 1) e → cutAt b (drop i h) ≡ cutHere h i e
     cut-pass e l k n g = ap (cutAt b) (here-on h i l) ∙ cut-miss b _ _ n ∙ ap (longer (getD h i 0)) g ∙ longer-here i e l k
 
-    pub cut-found : i < length h → getD h i 0 ≡ b → cutAt b (drop i h) ≡ cutHere h i i
+    cut-found : i < length h → getD h i 0 ≡ b → cutAt b (drop i h) ≡ cutHere h i i
     cut-found l e = ap (cutAt b) (here-on h i l) ∙ cut-hit b _ _ e ∙ ap (λ (x : Str). some (x, drop (i + 1) h)) (sym (no-part h i)) ∙ sym (here-some i i l)
 
-    pub cut-over : length h ≤ i → cutAt b (drop i h) ≡ cutHere h i i
+    cut-over : length h ≤ i → cutAt b (drop i h) ≡ cutHere h i i
     cut-over l = ap (cutAt b) (drop-of-length-le h l) ∙ cut-nil b ∙ sym (here-none i i l)
+
+  -- the cut from i on is where a search from i on finds b; n bytes stand from i on
+  cut-from : (b n i : ℕ) → n + i ≡ length h → cutAt b (drop i h) ≡ cutHere h i (i + until (is b) (drop i h))
+  cut-from b zero i e =
+      let z : length h ≤ i = omega arith in
+      let k : i + 0 ≡ i = omega arith in rw (ran-out (is b) h i z, k) (cut-over b i z)
+  cut-from b (suc n) i e =
+      let l : i < length h = omega arith in
+      by (is b (getD h i 0))
+      (λ t. let k : i + 0 ≡ i = omega arith in rw (found (is b) h i l t, k) (cut-found b i l (eqb-true _ _ t)))
+      (λ t. let g = cut-from b n (i + 1) (omega arith) in
+      let k : i + (until (is b) (drop (i + 1) h) + 1) ≡ (i + 1) + until (is b) (drop (i + 1) h) = omega arith in
+      rw (passed (is b) h i l t, k) (cut-pass b i _ l (omega arith) (eqb-false _ _ t) g))
+
+  pub cut-at : (b at r : ℕ) → at ≤ length h → r ≡ at + until (is b) (drop at h) → Cut b h at r
+  cut-at b at r l e = record {
+    is = rw e (cut-from b (length h - at) at (omega arith));
+    low = found-low (is b) h at r l e;
+    high = found-high (is b) h at r l e;
+  }
 
 -- ---- is_line
 

@@ -10,14 +10,7 @@ pub fn byte_from(h: &[u8], at: usize, b: u8) -> usize
     requires { ⌜ at ≤ length (now h) ⌝ }
     ensures { λ r. ⌜ Cut b (now (h .entry)) at r ⌝ }
 {
-    let mut i = at;
-    while i < h.len() {
-        if h[i] == b {
-            return i;
-        }
-        i += 1;
-    }
-    i
+    text_search::find(h, at, b)
 }
 
 // Whether l is a line, without its LF.

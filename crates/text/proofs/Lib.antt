@@ -5,3 +5,4 @@ pub mod Scans
 pub mod Frames
 pub mod Filling
 pub mod Codec
+pub mod Stores

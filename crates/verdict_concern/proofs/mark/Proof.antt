@@ -7,7 +7,7 @@ use lib.Dec.{eqb}
 use lib.ListN.{length, getD, length-set}
 use Rattle.table.specs.declared.GroupNumber.{GroupNumber}
 use Rattle.verdict_judge.specs.Rules.{ruleIn}
-use Rattle.verdict_judge.proofs.Stores.{stored}
+use Rattle.text.proofs.Stores.{stored}
 use Rattle.verdict_concern.specs.Concern.{appliesBy, Applying}
 use Rattle.verdict_concern.proofs.mark.Statement.{statement}
 use Rattle.verdict_concern.proofs.mark.Tie as tie

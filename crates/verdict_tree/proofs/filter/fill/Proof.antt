@@ -3,7 +3,7 @@ use native.Mathlib.Omega.{arith}
 use mathlib.Core.Path.{_≡_, refl, _∙_}
 use Prim.Native.Nat.{ℕ, _-_, _≤_, zero-le}
 use lib.ListN.{length, getD}
-use Rattle.verdict_judge.proofs.Stores.{stored-by}
+use Rattle.text.proofs.Stores.{stored-by}
 use Rattle.table_place.specs.Place.{pathIn, elemsIn}
 use Rattle.verdict_filter.specs.declared.Filter.{Filter}
 use Rattle.verdict_filter.specs.Bloom.{beyond}

@@ -11,7 +11,7 @@ use Rattle.table.specs.Table.{Rule}
 use Rattle.table_place.specs.Place.{elemsIn}
 use Rattle.verdict_judge.specs.Rules.{pathAt, ruleIn, Marked}
 use Rattle.verdict_judge.proofs.Parts.{rule-room}
-use Rattle.verdict_judge.proofs.Stores.{stored}
+use Rattle.text.proofs.Stores.{stored}
 use Rattle.verdict_tree.specs.Tree.{weight, Weights, Packed, Paths, fitting}
 use Rattle.verdict_tree.proofs.Weights.{pack}
 use Rattle.verdict_tree.proofs.weigh.weigh.Statement.{statement}
