@@ -17,7 +17,7 @@ use Rattle.json_grammar.specs.Parser.{parse}
 use Rattle.policy.specs.Policy.{Policy, treeJudgement, judgement, policyIn, policyOf}
 use Rattle.rpc.specs.Request.{Request, requestFault}
 use Rattle.rpc.specs.Verdict.{ruleMatches, firstFrom, allowed, decided, verdict, permits}
-use Rattle.rpc.specs.Call.{request, verdictBy, unless, rpcVerdict}
+use Rattle.rpc.specs.Call.{request, verdictBy, refusedElse, rpcVerdict}
 use Rattle.rpc.specs.declared.verdict.Verdict.the-variants.{Denied, Permitted}
 use Rattle.rpc.proofs.Promises.{denied, permitted, by-default, permits-exactly, nobody}
 use Rattle.promises.specs.First.{First, here, later}
@@ -80,7 +80,7 @@ policy-of s e = rw e (tree-of (parse s) (tree-judged s e))
 
 module _ (policy identity path headers : Str) (ok : judgement policy ≡ clear) (fine : requestFault identity path headers ≡ clear) where
   answers : (p : Policy) → policyOf policy ≡ some p → rpcVerdict policy identity path headers ≡ verdict p (request identity path headers)
-  unfolding rpcVerdict unless verdictBy if_then_else_
+  unfolding rpcVerdict refusedElse verdictBy if_then_else_
   answers p e = rw (ok, fine, e)
 
   pub rpc-promise : RpcPromise policy identity path headers ok fine

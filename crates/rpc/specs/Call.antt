@@ -27,10 +27,10 @@ verdictBy none r = Default
 verdictBy (some p) r = verdict p r
 
 -- a refusal number comes before an answer
-unfoldable pub unless : ℕ → Verdict → Verdict
-unless number v = if eqb number clear then v else Refused number
+unfoldable pub refusedElse : ℕ → Verdict → Verdict
+refusedElse number v = if eqb number clear then v else Refused number
 
 -- "text before request, and in each the smallest number"
 unfoldable pub rpcVerdict : Str → Str → Str → Str → Verdict
 rpcVerdict policy identity path headers =
-    unless (judgement policy) (unless (requestFault identity path headers) (verdictBy (policyOf policy) (request identity path headers)))
+    refusedElse (judgement policy) (refusedElse (requestFault identity path headers) (verdictBy (policyOf policy) (request identity path headers)))

@@ -22,7 +22,7 @@ use Rattle.policy_check.specs.declared.check.Check.the-variants as check
 use Rattle.policy_check.proofs.Accepted.{refused-is, policy-is}
 use Rattle.rpc.specs.Request.{Request, badText, badHeaders, requestFault}
 use Rattle.rpc.specs.Verdict.{ruleMatches, firstFrom, allowed, decided, verdict}
-use Rattle.rpc.specs.Call.{request, verdictBy, unless, rpcVerdict}
+use Rattle.rpc.specs.Call.{request, verdictBy, refusedElse, rpcVerdict}
 use Rattle.rpc.specs.declared.verdict.Verdict.{Verdict}
 use Rattle.rpc.specs.declared.verdict.Verdict.the-variants.{Refused, Denied, Permitted, Default}
 use Rattle.rpc_call.specs.Walk.{firstOf}
@@ -65,12 +65,12 @@ module _ (r : Request) (j : Json) where
 
 -- ---- rpc_verdict
 
-unless-refused : (n : ℕ) (v : Verdict) → (n ≡ clear → ⊥) → unless n v ≡ Refused n
-unfolding unless if_then_else_
+unless-refused : (n : ℕ) (v : Verdict) → (n ≡ clear → ⊥) → refusedElse n v ≡ Refused n
+unfolding refusedElse if_then_else_
 unless-refused n v h = rw (ne-eqb n clear h)
 
-unless-clear : (n : ℕ) (v : Verdict) → n ≡ clear → unless n v ≡ v
-unfolding unless if_then_else_
+unless-clear : (n : ℕ) (v : Verdict) → n ≡ clear → refusedElse n v ≡ v
+unfolding refusedElse if_then_else_
 unless-clear n v h = rw (eq-eqb n clear h)
 
 by-policy : (p : Policy) (r : Request) → verdictBy (some p) r ≡ verdict p r
@@ -78,7 +78,7 @@ unfolding verdictBy
 by-policy p r = refl
 
 module _ (policy identity path headers : Str) where
-  call-open : rpcVerdict policy identity path headers ≡ unless (judgement policy) (unless (requestFault identity path headers) (verdictBy (policyOf policy) (request identity path headers)))
+  call-open : rpcVerdict policy identity path headers ≡ refusedElse (judgement policy) (refusedElse (requestFault identity path headers) (verdictBy (policyOf policy) (request identity path headers)))
   unfolding rpcVerdict
   call-open = refl
 
