@@ -263,6 +263,18 @@ fn rotate() {
     );
 }
 
+fn about_version() {
+    io::write_all(
+        1,
+        b"burgee version\n\
+        \n\
+        The version of this program, which is that of include/burgee.h; also burgee --version.\n\
+        \n\
+        $ burgee version\n\
+        burgee 0.1.0\n",
+    );
+}
+
 // The version of the product, as include/burgee.h has it.
 pub fn version() {
     io::write_all(1, b"burgee 0.1.0\n");
@@ -288,6 +300,7 @@ pub fn on(command: &[u8]) -> bool {
         9 => policy(),
         10 => rpc(),
         11 => rotate(),
+        13 => about_version(),
         _ => all(),
     }
     true
