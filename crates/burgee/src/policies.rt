@@ -1,6 +1,6 @@
 // The C boundary of RPC policies.
 ghost use mathlib.Core.Path.{_≡_};
-ghost use Rattle.policy.specs.Policy.{judgement};
+ghost use Rattle.policy.specs.Policy.{policyRefusal};
 ghost use Rattle.policy_check.specs.Answer.{checkOf};
 ghost use Rattle.rpc.specs.Call.{rpcVerdict};
 ghost use Rattle.burgee.specs.Word.{policyWord, rpcWord};
@@ -8,7 +8,7 @@ ghost use Rattle.burgee.specs.Word.{policyWord, rpcWord};
 // A policy: accepted or refused.
 #[no_mangle]
 pub extern "C" fn burgee_policy_check(policy: &[u8]) -> u64
-    ensures { λ r. ⌜ r ≡ policyWord (checkOf (judgement (now (policy .entry)))) ⌝ }
+    ensures { λ r. ⌜ r ≡ policyWord (checkOf (policyRefusal (now (policy .entry)))) ⌝ }
 {
     crate::word::of_policy(policy_check::check::check_policy(policy))
 }

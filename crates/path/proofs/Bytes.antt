@@ -17,7 +17,7 @@ use Rattle.text.proofs.Frames.{times-length}
 use Rattle.text.proofs.Codec.{then-got, got-move, Took, took-both, byte-took, string-took, times-took, Gives, then-gives, byte-gives, string-gives, times-gives}
 use Rattle.path.specs.Path.{Key, Elem, Path}
 use Rattle.path.specs.Bytes.{key, element, path, counted, keyBytes, elemBytes, pathBytes}
-use Rattle.path.specs.Faults.{sameName, goodPath}
+use Rattle.path.specs.Refusal.{sameName, goodPath}
 use Rattle.path.specs.Spells.{Spells, Reads, whole, readBytes}
 use Rattle.path.specs.Walk.{twiceIn}
 

@@ -10,7 +10,7 @@ use Rattle.text.specs.Test.{_or_, _and_, if_then_else_, any}
 use Rattle.text.specs.Byte.{isName, isPrint, isStar}
 use Rattle.text.specs.String.{Str, bytes, same}
 use Rattle.text.proofs.Tests.{by, same→≡}
-use Rattle.path.specs.Faults.{unsized, outsideName, outsideValue, halfWild}
+use Rattle.path.specs.Refusal.{unsized, outsideName, outsideValue, halfWild}
 use Rattle.path.specs.Walk.{unsizedBy, nameRefusal, elemNameRefusal, valueRefusal, leastRefusal}
 
 -- the test of a byte, as the program makes it

@@ -15,7 +15,7 @@ use Rattle.text.specs.String.{Str, bytes, same}
 use Rattle.text.specs.Refusal.{_when_else_, clear}
 use Rattle.text.proofs.Tests.{by, or-assoc, or-none, none-or, or-swap, and-l, and-r, or-false-l, or-false-r}
 use Rattle.path.specs.Path.{Key, Elem, Path}
-use Rattle.path.specs.Faults.{unsized, keyOver, elemOver, overLimit, outsideName, outsideValue, keyStray, elemStray, strayByte, starred, halfWild, keyMisplaced, elemMisplaced, misplaced, sameName, keyTwice, goodPath}
+use Rattle.path.specs.Refusal.{unsized, keyOver, elemOver, overLimit, outsideName, outsideValue, keyStray, elemStray, strayByte, starred, halfWild, keyMisplaced, elemMisplaced, misplaced, sameName, keyTwice, goodPath}
 use Rattle.path.specs.Walk.{noName, nameRefusal, elemNameRefusal, valueRefusal, keyRefusal, keysRefusal, elemRefusal, elemsRefusal, aloneRefusal, good, leastRefusal, pathRefusal}
 
 -- ---- min

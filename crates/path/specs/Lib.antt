@@ -1,5 +1,5 @@
 pub mod Path
 pub mod Bytes
-pub mod Faults
+pub mod Refusal
 pub mod Spells
 pub mod Walk

@@ -9,7 +9,7 @@ use Rattle.text.specs.String.{Str}
 use Rattle.text.specs.Frame.{Parsed, got, unread}
 use Rattle.path.specs.Path.{Path}
 use Rattle.path.specs.Bytes.{path}
-use Rattle.path.specs.Faults.{goodPath}
+use Rattle.path.specs.Refusal.{goodPath}
 
 -- s is what `write` makes of the good path p
 pub record Spells (write : Path → Str) (s : Str) (p : Path) : Type 0 where

@@ -12,8 +12,8 @@ use Rattle.text.specs.Frame.{Parsed, got, unread}
 use Rattle.text.specs.Refusal.{_when_else_, clear}
 use Rattle.path.specs.Path.{Key, Elem, Path}
 use Rattle.path.specs.Bytes.{path}
-use Rattle.path.specs.Faults.{unsized, keyOver, elemOver, outsideName, outsideValue, keyStray, elemStray}
-use Rattle.path.specs.Faults.{starred, halfWild, keyMisplaced, elemMisplaced, sameName, overLimit, strayByte, misplaced, keyTwice, goodPath}
+use Rattle.path.specs.Refusal.{unsized, keyOver, elemOver, outsideName, outsideValue, keyStray, elemStray}
+use Rattle.path.specs.Refusal.{starred, halfWild, keyMisplaced, elemMisplaced, sameName, overLimit, strayByte, misplaced, keyTwice, goodPath}
 
 -- `unsized`, by the length
 abbrev pub unsizedBy : ℕ → Bool

@@ -6,7 +6,7 @@ ghost use Prim.Native.Nat.{min};
 ghost use Rattle.text.specs.Byte.{isName, isStar};
 ghost use Rattle.text.specs.Test.{all, any, if_then_else_};
 ghost use Rattle.text.specs.String.{bytes, same};
-ghost use Rattle.path.specs.Faults.{outsideName, outsideValue};
+ghost use Rattle.path.specs.Refusal.{outsideName, outsideValue};
 ghost use Rattle.path.specs.Walk.{nameRefusal, elemNameRefusal, valueRefusal};
 
 // The smaller of two numbers.

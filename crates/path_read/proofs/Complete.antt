@@ -16,7 +16,7 @@ use Rattle.text.proofs.Tests.{by, clash, or-false-l, or-false-r, none-any}
 use Rattle.text.proofs.Codec.{Gives, then-gives, first-byte, joined-nil, joined-cons}
 use Rattle.text_search.specs.Search.{until}
 use Rattle.path.specs.Path.{Key, Elem, Path}
-use Rattle.path.specs.Faults.{unsized, keyOver, elemOver, overLimit, outsideName, keyStray, elemStray, strayByte}
+use Rattle.path.specs.Refusal.{unsized, keyOver, elemOver, overLimit, outsideName, keyStray, elemStray, strayByte}
 use Rattle.path_read.specs.Text.{isMark, escaped, keyText, elemText}
 use Rattle.path_read.specs.TextReader.{literal, upTo, name, item, value, each, key, element, elements}
 use Rattle.path_read.proofs.Sound.{escaped-plain, escaped-mark}

@@ -7,7 +7,7 @@ use Rattle.text.specs.String.{bytes, same, joined}
 use Rattle.text.specs.Frame.{_>>=_, ret, stringBytes}
 use Rattle.text_search.specs.Search.{until}
 use Rattle.path.specs.Bytes.{counted, keyBytes, elemBytes, pathBytes}
-use Rattle.path.specs.Faults.{unsized, keyOver, elemOver, overLimit, outsideName, outsideValue, keyStray, elemStray, strayByte, halfWild, keyMisplaced, elemMisplaced, misplaced, keyTwice, goodPath}
+use Rattle.path.specs.Refusal.{unsized, keyOver, elemOver, overLimit, outsideName, outsideValue, keyStray, elemStray, strayByte, halfWild, keyMisplaced, elemMisplaced, misplaced, keyTwice, goodPath}
 use Rattle.path.specs.Spells.{whole}
 use Rattle.path_read.specs.TextReader.{literal, name, item, value, each, key, element, elements, readText}
 use Rattle.path_read.specs.Calls.{bytesFor}

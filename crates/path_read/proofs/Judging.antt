@@ -25,7 +25,7 @@ use Rattle.text_search.proofs.Searching.{until-fits}
 use Rattle.path.specs.Path.{Key, Elem, Path}
 use Rattle.path.specs.Bytes.{counted, keyBytes, elemBytes}
 use Rattle.path.specs.Bytes as frames
-use Rattle.path.specs.Faults.{unsized, sameName, goodPath}
+use Rattle.path.specs.Refusal.{unsized, sameName, goodPath}
 use Rattle.path.specs.Spells.{whole}
 use Rattle.path.specs.Walk.{noName, unsizedBy, nameRefusal, elemNameRefusal, valueRefusal, aloneRefusal, elemRefusal, good, twiceIn}
 use Rattle.path.proofs.Bytes.{twice-bytes}

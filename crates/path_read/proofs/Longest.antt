@@ -18,7 +18,7 @@ use Rattle.path.specs.Path.{Key, Elem, Path}
 use Rattle.path.specs.Bytes.{counted, keyBytes, elemBytes, pathBytes}
 use Rattle.path.specs.Spells.{Spells, Reads, readBytes}
 use Rattle.path.proofs.Bytes.{bytes-reader}
-use Rattle.path.specs.Faults.{unsized, keyOver, elemOver, overLimit, goodPath}
+use Rattle.path.specs.Refusal.{unsized, keyOver, elemOver, overLimit, goodPath}
 use Rattle.path_read.specs.Text.{isMark, escaped, keyText, elemText, pathText}
 use Rattle.path_read.proofs.Complete.{sized}
 use Rattle.path_read.specs.TextReader.{readText}

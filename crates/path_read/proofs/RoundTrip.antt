@@ -16,7 +16,7 @@ use Rattle.text.proofs.Tests.{by, clash, same→≡, or-false-l, or-false-r}
 use Rattle.text.proofs.Codec.{joined-nil}
 use Rattle.path.specs.Path.{Elem, Path}
 use Rattle.path.specs.Bytes.{pathBytes}
-use Rattle.path.specs.Faults.{unsized, elemOver, overLimit, strayByte, misplaced, keyTwice, goodPath}
+use Rattle.path.specs.Refusal.{unsized, elemOver, overLimit, strayByte, misplaced, keyTwice, goodPath}
 use Rattle.path.specs.Spells.{Spells, Reads, whole, readBytes}
 use Rattle.path.proofs.Bytes.{took-whole, whole-only, whole-good, bytes-reader}
 use Rattle.path_read.specs.Text.{keyText, elemText, pathText}

@@ -14,7 +14,7 @@ use Rattle.text.specs.Fill.{put}
 use Rattle.text.specs.Steps.{Wrote}
 use Rattle.text_search.specs.Search.{until}
 use Rattle.path.specs.Path.{Key, Elem, Path}
-use Rattle.path.specs.Faults.{sameName}
+use Rattle.path.specs.Refusal.{sameName}
 use Rattle.path.specs.Walk.{noName, nameRefusal, valueRefusal, aloneRefusal, elemRefusal, good}
 use Rattle.path_read.specs.Calls.{answer, lent}
 use Rattle.path_read.specs.TextReader.{name, item, value, each, key, element}

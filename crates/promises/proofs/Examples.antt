@@ -2,12 +2,12 @@
 use mathlib.Core.Path.{_≡_, refl}
 use mathlib.Core.Bool.{xor}
 use mathlib.Core.List.{map}
-use Rattle.text.specs.Test.{_and_, _or_, if_then_else_, all, any, only, twice}
+use Rattle.text.specs.Test.{_and_, _or_, if_then_else_, all, any, only, twice, absent, orNothing}
 use Rattle.text.specs.String.{same, more, before}
 use Rattle.text.specs.Frame.{_>>=_, ret, byte, run, string, times}
 use Rattle.text_search.specs.Search.{until}
 use Rattle.path.specs.Bytes.{key, element, path}
-use Rattle.path.specs.Faults.{unsized, keyOver, elemOver, overLimit, outsideName, outsideValue, keyStray, elemStray, strayByte, halfWild, keyMisplaced, elemMisplaced, misplaced, keyTwice, goodPath}
+use Rattle.path.specs.Refusal.{unsized, keyOver, elemOver, overLimit, outsideName, outsideValue, keyStray, elemStray, strayByte, halfWild, keyMisplaced, elemMisplaced, misplaced, keyTwice, goodPath}
 use Rattle.path.specs.Walk.{leastRefusal, pathRefusal}
 use Rattle.path.specs.Spells.{whole, readBytes}
 use Rattle.path_read.specs.TextReader.{literal, name, item, value, each, elements, readText}
@@ -22,7 +22,7 @@ use Rattle.verdict.specs.Cover.{wild, definite, holds, meets, covers}
 use Rattle.verdict.specs.Join.{conflict, clashes, agrees, agree, meld, join}
 use Rattle.verdict.specs.Order.{definites, better, earlier, prefer, candidate, choose}
 use Rattle.verdict.specs.Verdict.{concerns, applies, matches, decider, action, permits, fits, opposes, word, answer, tree}
-use Rattle.verdict_request.specs.Calls.{badMode, badOrigin, unspelled, requestRefusal, spelled, request, decidedBy, pathAnswer, pathVerdict, spread, treeAnswer, treeVerdict}
+use Rattle.verdict_request.specs.Calls.{badMode, badOrigin, requestRefusal, request, decidedBy, pathAnswer, pathVerdict, spread, treeAnswer, treeVerdict}
 use Rattle.text_affix.specs.Affix.{empty, begins, ends}
 use Rattle.rpc.specs.Pattern as pattern
 use Rattle.promises.specs.Examples.{Answer, examples}
@@ -37,5 +37,5 @@ unfolding xor _and_ _or_ if_then_else_ all any only twice same more before _>>=_
     unless judge check allTold table tableOf lists
     badUser wild definite holds meets covers conflict clashes agrees agree meld join definites better earlier prefer
     candidate choose concerns applies matches decider action permits fits opposes word answer tree badMode badOrigin
-    unspelled requestRefusal spelled request decidedBy pathAnswer pathVerdict spread treeAnswer treeVerdict empty begins ends pattern.matches examples
+    absent requestRefusal orNothing request decidedBy pathAnswer pathVerdict spread treeAnswer treeVerdict empty begins ends pattern.matches examples
 marked = refl

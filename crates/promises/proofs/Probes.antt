@@ -11,7 +11,7 @@ use Rattle.text.specs.Refusal.{clear}
 use Rattle.verdict_request.specs.Calls.{requestRefusal, decidedBy, pathAnswer, pathVerdict, spread, treeAnswer, treeVerdict}
 use Rattle.verdict_request.specs.declared.PathAnswer.the-variants.{Default}
 use Rattle.verdict_request.specs.declared.TreeAnswer.the-variants.{None}
-use Rattle.rpc.specs.Request.{requestFault}
+use Rattle.rpc.specs.Request.{rpcRefusal}
 use Rattle.rpc.specs.Call.{rpcVerdict}
 use Rattle.rotation.specs.State.{recordRefusal, textIn, inForce}
 use Rattle.rotation.specs.Calls.{otherKind, probeRefusal}
@@ -86,7 +86,7 @@ module _ (l : Lent) (w : Whole l) (policy : l .state .kind ≡ 1) (identity path
   unfolding probeRpc
   rpc-judged = judges l w 1 policy rpcRefused (rpcOn (l .store) identity path headers)
 
-  rpc-none : requestFault identity path headers ≡ clear → rpcOn (l .store) identity path headers Factory ≡ PermitAll
+  rpc-none : rpcRefusal identity path headers ≡ clear → rpcOn (l .store) identity path headers Factory ≡ PermitAll
   unfolding rpcOn factoryRpc if_then_else_
   rpc-none e = rw e
 

@@ -5,7 +5,7 @@ use mathlib.Core.List.{List, [], _∷_}
 use mathlib.Core.Option.{Option, none, some}
 use Prim.Native.Nat.{ℕ}
 use lib.ListN.{length}
-use Rattle.text.specs.Test.{if_then_else_}
+use Rattle.text.specs.Test.{if_then_else_, absent}
 use Rattle.text.specs.String.{Str}
 use Rattle.text.specs.Fill.{put}
 use Rattle.text.specs.Refusal.{_when_else_, clear}
@@ -14,7 +14,7 @@ use Rattle.table.specs.declared.Checked.{Checked}
 use Rattle.table.specs.declared.Checked.the-variants.{Accepted, Refused}
 use Rattle.rotation.specs.State.{slotStart, candidateSlot}
 use Rattle.rotation.specs.Calls.{started, uploaded, finalized, closed, stepped, start, upload, storedBy, uploadStore, finalize, close}
-use Rattle.rotation.specs.Machine.{Call, Start, Upload, Finalize, Close, Machine, lacking, machineRefusal, machineNext, Lent, machineOf, Whole, offered, machineAnswer, machineStep, answers, leaves, Follows, end}
+use Rattle.rotation.specs.Machine.{Call, Start, Upload, Finalize, Close, Machine, machineRefusal, machineNext, Lent, machineOf, Whole, offered, machineAnswer, machineStep, answers, leaves, Follows, end}
 use Rattle.rotation.specs.declared.Record.{Record}
 use Rattle.rotation.proofs.Follows.{stepped-answer, follows, machineEnd, same-end, machineForce, same-force}
 use Rattle.rotation_upload.specs.Offered.{offeredCheck}
@@ -93,16 +93,16 @@ unfolding machineStep isAccepted if_then_else_
 went c m e = rw e
 
 closed-force : (m : Machine) → machineForce (machineNext Close m) ≡ m .live
-unfolding machineForce machineNext lacking if_then_else_
+unfolding machineForce machineNext absent if_then_else_
 closed-force m = refl
 
 uploaded-force : (text : Str) (m : Machine) → machineForce (machineNext (Upload text) m) ≡ some text
-unfolding machineForce machineNext lacking if_then_else_
+unfolding machineForce machineNext absent if_then_else_
 uploaded-force text m = refl
 
 -- finalize is refused without a candidate
-with-candidate : (r : Bool) (o : Option Str) (x : Option Str) → unless (13 when r else 14 when lacking o else clear) 0 Accepted ≡ Accepted → o ≡ (if lacking o then x else o)
-unfolding unless lacking if_then_else_
+with-candidate : (r : Bool) (o : Option Str) (x : Option Str) → unless (13 when r else 14 when absent o else clear) 0 Accepted ≡ Accepted → o ≡ (if absent o then x else o)
+unfolding unless absent if_then_else_
 with-candidate true o x e = never 13 0 e
 with-candidate false none x e = never 14 0 e
 with-candidate false (some text) x e = refl

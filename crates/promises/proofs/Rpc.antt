@@ -14,8 +14,8 @@ use Rattle.text.specs.Refusal.{clear}
 use Rattle.text.proofs.Tests.{by}
 use Rattle.json_grammar.specs.Json.{Json}
 use Rattle.json_grammar.specs.Parser.{parse}
-use Rattle.policy.specs.Policy.{Policy, treeJudgement, judgement, policyIn, policyOf}
-use Rattle.rpc.specs.Request.{Request, requestFault}
+use Rattle.policy.specs.Policy.{Policy, parsedRefusal, policyRefusal, policyIn, policyOf}
+use Rattle.rpc.specs.Request.{Request, rpcRefusal}
 use Rattle.rpc.specs.Verdict.{ruleMatches, firstFrom, allowed, decided, verdict, permits}
 use Rattle.rpc.specs.Call.{request, verdictBy, refusedElse, rpcVerdict}
 use Rattle.rpc.specs.declared.verdict.Verdict.the-variants.{Denied, Permitted}
@@ -63,22 +63,22 @@ module _ (p : Policy) (r : Request) where
 
 -- ---- an accepted text holds a policy
 
-tree-of : (o : Option Json) → treeJudgement o ≡ clear → (p : Policy) × (Option·map policyIn o ≡ some p)
-unfolding treeJudgement
+tree-of : (o : Option Json) → parsedRefusal o ≡ clear → (p : Policy) × (Option·map policyIn o ≡ some p)
+unfolding parsedRefusal
 tree-of none e = absurd (omega arith)
 tree-of (some j) e = (_, refl)
 
-tree-judged : (s : Str) → judgement s ≡ clear → treeJudgement (parse s) ≡ clear
-unfolding judgement if_then_else_
+tree-judged : (s : Str) → policyRefusal s ≡ clear → parsedRefusal (parse s) ≡ clear
+unfolding policyRefusal if_then_else_
 tree-judged s e = by (ltb maxPolicyText (length s)) (λ t. let i : 30 ≡ clear = rw t at e in absurd (omega arith)) (λ t. rw t at e)
 
-policy-of : (s : Str) → judgement s ≡ clear → (p : Policy) × (policyOf s ≡ some p)
+policy-of : (s : Str) → policyRefusal s ≡ clear → (p : Policy) × (policyOf s ≡ some p)
 unfolding policyOf if_then_else_
 policy-of s e = rw e (tree-of (parse s) (tree-judged s e))
 
 -- ---- the promise
 
-module _ (policy identity path headers : Str) (ok : judgement policy ≡ clear) (fine : requestFault identity path headers ≡ clear) where
+module _ (policy identity path headers : Str) (ok : policyRefusal policy ≡ clear) (fine : rpcRefusal identity path headers ≡ clear) where
   answers : (p : Policy) → policyOf policy ≡ some p → rpcVerdict policy identity path headers ≡ verdict p (request identity path headers)
   unfolding rpcVerdict refusedElse verdictBy if_then_else_
   answers p e = rw (ok, fine, e)

@@ -4,12 +4,12 @@ use mathlib.Core.Bool.{Bool, true, false}
 use mathlib.Core.Option.{Option, none, some}
 use Prim.Native.Nat.{ℕ}
 use native.Mathlib.Omega.{arith}
-use Rattle.text.specs.Test.{_or_, if_then_else_}
+use Rattle.text.specs.Test.{_or_, if_then_else_, absent, orNothing}
 use Rattle.text.specs.String.{Str}
 use Rattle.text.specs.Refusal.{_when_else_, clear}
 use Rattle.text.proofs.Tests.{clash}
 use Rattle.path.specs.Path.{Path}
-use Rattle.path.specs.Faults.{keyTwice}
+use Rattle.path.specs.Refusal.{keyTwice}
 use Rattle.path_read.specs.TextReader.{readText}
 use Rattle.path_read.proofs.RoundTrip.{no-key-twice, text-reader}
 use Rattle.table.specs.Text.{check, tableOf}
@@ -19,7 +19,7 @@ use Rattle.verdict.specs.Verdict.{decider, tree}
 use Rattle.verdict.proofs.Theorems.{verdict, verdict-unique, tree-verdict, reordered}
 use Rattle.verdict_order.specs.Reordering.{ReorderedLines}
 use Rattle.verdict_order.proofs.Reordered.{accepted-again, tables-reordered, accepted-orderly}
-use Rattle.verdict_request.specs.Calls.{badMode, badOrigin, unspelled, requestRefusal, spelled, request, pathAnswer, pathVerdict, treeAnswer, treeVerdict, decidedBy, spread}
+use Rattle.verdict_request.specs.Calls.{badMode, badOrigin, requestRefusal, request, pathAnswer, pathVerdict, treeAnswer, treeVerdict, decidedBy, spread}
 use Rattle.promises.specs.Verdicts.{PathPromise, TreePromise, OrderPromise}
 
 -- ---- an accepted request has a path with no key twice
@@ -31,16 +31,16 @@ spelled-well false true c e = absurd (omega arith)
 spelled-well false false true e = absurd (omega arith)
 spelled-well false false false e = refl
 
-is-spelled : (user : Str) (mode : ℕ) (origin text : Str) → requestRefusal user mode origin text ≡ clear → unspelled (readText text) ≡ false
+is-spelled : (user : Str) (mode : ℕ) (origin text : Str) → requestRefusal user mode origin text ≡ clear → absent (readText text) ≡ false
 unfolding requestRefusal
 is-spelled user mode origin text e = spelled-well (badUser user or badMode mode) (badOrigin origin) _ e
 
-keys-of : (text : Str) (o : Option Path) → readText text ≡ o → unspelled o ≡ false → keyTwice (spelled o) ≡ false
-unfolding unspelled spelled
+keys-of : (text : Str) (o : Option Path) → readText text ≡ o → absent o ≡ false → keyTwice (orNothing o) ≡ false
+unfolding absent orNothing
 keys-of text none e h = clash refl h
 keys-of text (some p) e h = no-key-twice p (text-reader .only text p e .good)
 
-keys-once : (text : Str) → unspelled (readText text) ≡ false → keyTwice (spelled (readText text)) ≡ false
+keys-once : (text : Str) → absent (readText text) ≡ false → keyTwice (orNothing (readText text)) ≡ false
 keys-once text h = keys-of text (readText text) refl h
 
 module _ (x user : Str) (mode : ℕ) (origin text : Str) (ok : check x ≡ Accepted) (fine : requestRefusal user mode origin text ≡ clear) where

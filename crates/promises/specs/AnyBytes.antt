@@ -12,7 +12,7 @@ use Rattle.path_read.specs.Calls.{bytesFor, textFor, answer, lent}
 use Rattle.table.specs.Text.{check}
 use Rattle.table.specs.Group.{groupCount}
 use Rattle.verdict_request.specs.Calls.{pathVerdict, treeVerdict}
-use Rattle.policy.specs.Policy.{judgement}
+use Rattle.policy.specs.Policy.{policyRefusal}
 use Rattle.policy_check.specs.Answer.{checkOf}
 use Rattle.rpc.specs.Call.{rpcVerdict}
 use Rattle.rotation.specs.Calls.{start, upload, uploadStore, finalize, close}
@@ -68,7 +68,7 @@ outcome (TableCheck table) = reading (checkedWord (check table))
 outcome (GroupCount table user) = reading (countedWord (groupCount table user))
 outcome (PathVerdict table user mode origin path) = reading (pathWord (pathVerdict table user mode origin path))
 outcome (TreeVerdict table user mode origin path) = reading (treeWord (treeVerdict table user mode origin path))
-outcome (PolicyCheck policy) = reading (policyWord (checkOf (judgement policy)))
+outcome (PolicyCheck policy) = reading (policyWord (checkOf (policyRefusal policy)))
 outcome (RpcVerdict policy identity path headers) = reading (rpcWord (rpcVerdict policy identity path headers))
 outcome (Start rec store) = stepping rec store (start rec (length store)) store
 outcome (Upload rec store text) = stepping rec store (upload offeredCheck rec (length store) text) (uploadStore offeredCheck rec store text)

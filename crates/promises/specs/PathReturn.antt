@@ -10,7 +10,7 @@ use lib.ListN.{length}
 use Rattle.text.specs.String.{Str}
 use Rattle.path.specs.Path.{Path}
 use Rattle.path.specs.Bytes.{pathBytes}
-use Rattle.path.specs.Faults.{goodPath}
+use Rattle.path.specs.Refusal.{goodPath}
 use Rattle.path.specs.Spells.{Spells, Reads, readBytes}
 use Rattle.path_read.specs.Text.{pathText}
 use Rattle.path_read.specs.TextReader.{readText}

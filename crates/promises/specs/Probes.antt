@@ -9,7 +9,7 @@ use Rattle.text.specs.Refusal.{clear}
 use Rattle.verdict_request.specs.Calls.{requestRefusal, pathVerdict, treeVerdict}
 use Rattle.verdict_request.specs.declared.PathAnswer.the-variants.{Default}
 use Rattle.verdict_request.specs.declared.TreeAnswer.the-variants.{None}
-use Rattle.rpc.specs.Request.{requestFault}
+use Rattle.rpc.specs.Request.{rpcRefusal}
 use Rattle.rpc.specs.Call.{rpcVerdict}
 use Rattle.rotation.specs.Machine.{Lent, Whole}
 use Rattle.rotation_probe.specs.Probe.{probePath, probeTree}
@@ -29,4 +29,4 @@ pub record TableProbePromise (l : Lent) (whole : Whole l) (table : l .state .kin
 pub record PolicyProbePromise (l : Lent) (whole : Whole l) (policy : l .state .kind ≡ 1) (identity path headers : Str) : Type 0 where
   pub rpc-text : (text : Str) → force l ≡ some text → probeRpc (l .state) (l .store) identity path headers ≡ Judged (rpcVerdict text identity path headers)
   -- "kind 1 permits all", and names no rule
-  pub rpc-factory : force l ≡ none → requestFault identity path headers ≡ clear → probeRpc (l .state) (l .store) identity path headers ≡ PermitAll
+  pub rpc-factory : force l ≡ none → rpcRefusal identity path headers ≡ clear → probeRpc (l .state) (l .store) identity path headers ≡ PermitAll

@@ -1,6 +1,6 @@
 -- The RPC verdict: "Deny rules are judged first, then allow rules; the answer names the list and the first matching rule in it (numbered from 0), or
 -- default deny." The definitions named here are those of the contracts of `burgee_policy_check` and `burgee_rpc_verdict`: a policy text is accepted where
--- `judgement` gives no number, `policyOf` is the policy that it holds, and a request is accepted where `requestFault` gives no number.
+-- `policyRefusal` gives no number, `policyOf` is the policy that it holds, and a request is accepted where `rpcRefusal` gives no number.
 use Prim.Native.Nat.{ℕ}
 use mathlib.Core.Path.{_≡_}
 use mathlib.Core.Bool.{Bool, true, false, not}
@@ -9,8 +9,8 @@ use mathlib.Core.Option.{some}
 use Rattle.text.specs.Test.{_and_, any}
 use Rattle.text.specs.String.{Str}
 use Rattle.text.specs.Refusal.{clear}
-use Rattle.policy.specs.Policy.{Rule, Policy, judgement, policyOf}
-use Rattle.rpc.specs.Request.{requestFault}
+use Rattle.policy.specs.Policy.{Rule, Policy, policyRefusal, policyOf}
+use Rattle.rpc.specs.Request.{rpcRefusal}
 use Rattle.rpc.specs.Verdict.{ruleMatches, permits}
 use Rattle.rpc.specs.Call.{request, rpcVerdict}
 use Rattle.rpc.specs.declared.verdict.Verdict.{Verdict}
@@ -18,7 +18,7 @@ use Rattle.rpc.specs.declared.verdict.Verdict.the-variants.{Denied, Permitted, 
 use Rattle.promises.specs.First.{First}
 
 -- an accepted policy text and an accepted request
-module _ (policy identity path headers : Str) (ok : judgement policy ≡ clear) (fine : requestFault identity path headers ≡ clear) where
+module _ (policy identity path headers : Str) (ok : policyRefusal policy ≡ clear) (fine : rpcRefusal identity path headers ≡ clear) where
   abbrev answer : Verdict
   answer = rpcVerdict policy identity path headers
 

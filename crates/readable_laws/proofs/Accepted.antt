@@ -20,7 +20,7 @@ use Rattle.text.proofs.Frames.{byte-got, byte-unread}
 use Rattle.text.proofs.Codec.{never-got, then-got, got-move}
 use Rattle.path.specs.Path.{Key, Elem, Path}
 use Rattle.path.specs.Bytes.{path, counted, pathBytes}
-use Rattle.path.specs.Faults.{unsized, overLimit, outsideName, outsideValue, keyStray, elemStray, strayByte, misplaced, keyTwice, goodPath}
+use Rattle.path.specs.Refusal.{unsized, overLimit, outsideName, outsideValue, keyStray, elemStray, strayByte, misplaced, keyTwice, goodPath}
 use Rattle.path.proofs.Bytes.{path-took}
 use Rattle.path_read.specs.Text.{isMark, escaped, keyText, elemText, pathText}
 use Rattle.path_read.specs.Calls.{textFor}

@@ -6,7 +6,7 @@ use Rattle.text.specs.Test.{_and_, _or_, if_then_else_, all, any, twice}
 use Rattle.text.specs.String.{bytes, same, joined}
 use Rattle.text.specs.Frame.{_>>=_, ret, byte, run, string, times}
 use Rattle.path.specs.Bytes.{key, element, path}
-use Rattle.path.specs.Faults.{unsized, keyOver, elemOver, overLimit, outsideName, outsideValue, keyStray, elemStray, strayByte, halfWild, keyMisplaced, elemMisplaced, misplaced, keyTwice, goodPath}
+use Rattle.path.specs.Refusal.{unsized, keyOver, elemOver, overLimit, outsideName, outsideValue, keyStray, elemStray, strayByte, halfWild, keyMisplaced, elemMisplaced, misplaced, keyTwice, goodPath}
 use Rattle.path.specs.Spells as spells
 use Rattle.path_read.specs.Text.{escaped, keyText, elemText, pathText}
 use Rattle.path_read.specs.Calls.{textFor}

@@ -16,7 +16,7 @@ use Rattle.text.specs.String.{Str, bytes, joined}
 use Rattle.text.specs.Frame.{got, unread, _>>=_, ret, byte, run, string, stringBytes}
 use Rattle.text.specs.Refusal.{clear}
 use Rattle.text.proofs.Tests.{by, clash, or-false-l, or-false-r}
-use Rattle.path.specs.Faults.{unsized, overLimit}
+use Rattle.path.specs.Refusal.{unsized, overLimit}
 use Rattle.text.proofs.Codec.{never-got, then-got, got-move, byte-took, string-took}
 use Rattle.path_read.specs.Text.{escaped}
 use Rattle.path_read.specs.Calls.{textFor}

@@ -9,7 +9,7 @@ use borrow.Author.Tests.{ne-eqb, eqb-true, eqb-false, ltb-false, le-ltb}
 use lib.Dec.{eqb, ltb}
 use lib.ListN.{length}
 use Rattle.limits.specs.Limits.{slotLength, storeLength}
-use Rattle.text.specs.Test.{_and_, _or_, if_then_else_}
+use Rattle.text.specs.Test.{_and_, _or_, if_then_else_, absent}
 use Rattle.text.specs.String.{Str}
 use Rattle.text.specs.Fill.{put}
 use Rattle.text.specs.Refusal.{_when_else_, clear}
@@ -20,7 +20,7 @@ use Rattle.table.specs.declared.Checked.{Checked}
 use Rattle.table.specs.declared.Checked.the-variants.{Accepted, Refused}
 use Rattle.rotation.specs.State.{noLength, given, off, on, shortStore, badKind, badSlot, badLength, badRecord, recordRefusal, slotStart, candidateSlot, textIn, inForce, atRest}
 use Rattle.rotation.specs.Calls.{startRefusal, offRefusal, noCandidate, finalizeRefusal, started, uploaded, finalized, closed, stepped, start, uploadAnswer, upload, storedBy, uploadStore, finalize, close}
-use Rattle.rotation.specs.Machine.{Call, Start, Upload, Finalize, Close, Machine, lacking, machineRefusal, machineNext, Lent, heldText, machineOf, forceText, Whole, offered, machineAnswer, machineStep, answers, leaves, Follows, end}
+use Rattle.rotation.specs.Machine.{Call, Start, Upload, Finalize, Close, Machine, machineRefusal, machineNext, Lent, heldText, machineOf, forceText, Whole, offered, machineAnswer, machineStep, answers, leaves, Follows, end}
 use Rattle.rotation.specs.declared.Record.{Record}
 use Rattle.rotation.proofs.Slots.{put-own, put-first, put-second}
 
@@ -153,8 +153,8 @@ module _ (l : Lent) (w : Whole l) where
   unfolding offRefusal on
   off-number c e = own _ ∙ sym (rw (not-not (off r)) at e)
 
-  lacking-is : (store : Str) (slot len : ℕ) → lacking (heldText store slot len) ≡ not (given len)
-  unfolding lacking heldText if_then_else_
+  lacking-is : (store : Str) (slot len : ℕ) → absent (heldText store slot len) ≡ not (given len)
+  unfolding absent heldText if_then_else_
   lacking-is store slot len = by (given len) (λ t. rw t) (λ t. rw t)
 
   finalize-number : finalizeRefusal r n ≡ machineRefusal Finalize (machineOf l)
@@ -354,10 +354,10 @@ module _ (check : ℕ → Str → Checked) (short : (kind : ℕ) (text : Str) �
 
 -- what is in force: "the candidate, else the live text", else none
 unfoldable pub machineForce : Machine → Option Str
-machineForce m = if lacking (m .candidate) then m .live else m .candidate
+machineForce m = if absent (m .candidate) then m .live else m .candidate
 
 pub same-force : (l : Lent) → forceText (l .store) (inForce (l .state)) ≡ machineForce (machineOf l)
-unfolding forceText inForce machineForce machineOf lacking heldText if_then_else_
+unfolding forceText inForce machineForce machineOf absent heldText if_then_else_
 same-force l =
     by (given (l .state .«candidate_len»)) (λ t. rw t)
     (λ t. by (given (l .state .«live_len»)) (λ u. rw (t, u)) (λ u. rw (t, u)))

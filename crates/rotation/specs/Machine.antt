@@ -5,7 +5,7 @@ use mathlib.Core.Bool.{Bool, true, false, not}
 use mathlib.Core.List.{List, [], _∷_}
 use mathlib.Core.Option.{Option, none, some}
 use lib.ListN.{length}
-use Rattle.text.specs.Test.{if_then_else_}
+use Rattle.text.specs.Test.{if_then_else_, absent}
 use Rattle.text.specs.String.{Str}
 use Rattle.text.specs.Refusal.{_when_else_, clear}
 use Rattle.table.specs.Text.{unless, isAccepted}
@@ -32,15 +32,11 @@ pub record Machine : Type 0 where
   pub candidate : Option Str
   pub rotating : Bool
 
-unfoldable pub lacking : Option Str → Bool
-lacking none = true
-lacking (some text) = false
-
 -- 12, 13 and 14
 unfoldable pub machineRefusal : Call → Machine → ℕ
 machineRefusal Start m = 12 when m .rotating else clear
 machineRefusal (Upload text) m = 13 when not (m .rotating) else clear
-machineRefusal Finalize m = 13 when not (m .rotating) else 14 when lacking (m .candidate) else clear
+machineRefusal Finalize m = 13 when not (m .rotating) else 14 when absent (m .candidate) else clear
 machineRefusal Close m = 13 when not (m .rotating) else clear
 
 -- what an accepted call leaves

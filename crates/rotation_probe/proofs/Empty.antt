@@ -6,6 +6,7 @@ use mathlib.Core.Option.{none}
 use Prim.Native.Nat.{ℕ, _<_}
 use native.Mathlib.Omega.{arith}
 use lib.ListN.{length}
+use Rattle.table_rows.specs.Strings.{rowsOf}
 use Rattle.text.specs.String.{Str}
 use Rattle.text.specs.Test.{twice}
 use Rattle.table.specs.Table.{Table}
@@ -47,7 +48,7 @@ safe f starts holders h = record {
 }
 
 pub holding : (f starts holders : List ℕ) → Holding empty f starts holders 0
-unfolding rulesIn
+unfolding rulesIn rowsOf
 holding f starts holders = record { orderly = orderly; rules = refl; groups = λ i l. absurd (omega arith) }
 
 pub groups : (user : Str) (set : ℕ) → Groups empty user set

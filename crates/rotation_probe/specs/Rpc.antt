@@ -5,7 +5,7 @@ use lib.ListN.{length}
 use Rattle.text.specs.Test.{if_then_else_}
 use Rattle.text.specs.String.{Str}
 use Rattle.text.specs.Refusal.{clear}
-use Rattle.rpc.specs.Request.{requestFault}
+use Rattle.rpc.specs.Request.{rpcRefusal}
 use Rattle.rpc.specs.Call.{rpcVerdict}
 use Rattle.rpc.specs.declared.verdict.Verdict.the-variants.{Refused}
 use Rattle.rotation.specs.State.{textIn}
@@ -25,7 +25,7 @@ factoryRpc number = if eqb number clear then PermitAll else rpcRefused number
 
 unfoldable pub rpcOn : Str → Str → Str → Str → InForce → RpcAnswer
 rpcOn store identity path headers (Text slot len) = Judged (rpcVerdict (textIn store slot len) identity path headers)
-rpcOn store identity path headers Factory = factoryRpc (requestFault identity path headers)
+rpcOn store identity path headers Factory = factoryRpc (rpcRefusal identity path headers)
 
 unfoldable pub probeRpc : Record → Str → Str → Str → Str → RpcAnswer
 probeRpc r store identity path headers = probed rpcRefused (rpcOn store identity path headers) 1 r (length store)

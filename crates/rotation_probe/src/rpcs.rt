@@ -1,6 +1,6 @@
 // The RPC probe.
 ghost use mathlib.Core.Path.{_≡_};
-ghost use Rattle.rpc.specs.Request.{requestFault};
+ghost use Rattle.rpc.specs.Request.{rpcRefusal};
 ghost use Rattle.rotation_probe.specs.Rpc.{factoryRpc, probeRpc};
 use crate::force::Source;
 use rotation::Record;
@@ -15,7 +15,7 @@ pub enum RpcAnswer {
 
 // Kind 1 without a text permits all, once the request is judged.
 fn factory_rpc(identity: &[u8], path: &[u8], headers: &[u8]) -> RpcAnswer
-    ensures { λ a. ⌜ a ≡ factoryRpc (requestFault (now (identity .entry)) (now (path .entry)) (now (headers .entry))) ⌝ }
+    ensures { λ a. ⌜ a ≡ factoryRpc (rpcRefusal (now (identity .entry)) (now (path .entry)) (now (headers .entry))) ⌝ }
 {
     let number = rpc_request::request::request_fault(identity, path, headers);
     if number != limits::CLEAR {

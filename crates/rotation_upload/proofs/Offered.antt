@@ -14,7 +14,7 @@ use Rattle.text.proofs.Tests.{by}
 use Rattle.table.specs.Text.{unless, check}
 use Rattle.table.specs.declared.Checked.{Checked}
 use Rattle.table.specs.declared.Checked.the-variants.{Accepted, Refused}
-use Rattle.policy.specs.Policy.{judgement}
+use Rattle.policy.specs.Policy.{policyRefusal}
 use Rattle.policy_check.specs.Answer.{checkOf}
 use Rattle.policy_check.specs.declared.check.Check.{Check}
 use Rattle.rotation.specs.State.{shortStore, recordRefusal, slotStart, candidateSlot}
@@ -35,21 +35,21 @@ of-policy-accepted : (n : ℕ) → ofPolicy (checkOf n) ≡ Accepted → n ≡ c
 unfolding ofPolicy checkOf if_then_else_
 of-policy-accepted n e = by (eqb n clear) (λ t. eqb-true n clear t) (λ t. never n 0 (rw t at e))
 
-policy-short : (text : Str) → judgement text ≡ clear → length text ≤ maxPolicyText
-unfolding judgement if_then_else_
+policy-short : (text : Str) → policyRefusal text ≡ clear → length text ≤ maxPolicyText
+unfolding policyRefusal if_then_else_
 policy-short text e = by (ltb maxPolicyText (length text)) (λ t. let z : _≡_ {A = ℕ} 30 clear = rw t at e in absurd (omega arith)) (λ t. ltb-false maxPolicyText (length text) t)
 
 pub offered-short : (kind : ℕ) (text : Str) → offeredCheck kind text ≡ Accepted → length text ≤ slotLength
 unfolding offeredCheck if_then_else_
 offered-short kind text e =
     by (eqb kind 1)
-    (λ t. let h : length text ≤ maxPolicyText = policy-short text (of-policy-accepted (judgement text) (rw t at e)) in omega arith)
+    (λ t. let h : length text ≤ maxPolicyText = policy-short text (of-policy-accepted (policyRefusal text) (rw t at e)) in omega arith)
     (λ t. table-short text (rw t at e))
 
 -- ---- the check
 
 module _ (kind : ℕ) (text : Str) (c : Checked) where
-  pub offered-policy : (p : Check) → kind ≡ 1 → p ≡ checkOf (judgement text) → c ≡ ofPolicy p → c ≡ offeredCheck kind text
+  pub offered-policy : (p : Check) → kind ≡ 1 → p ≡ checkOf (policyRefusal text) → c ≡ ofPolicy p → c ≡ offeredCheck kind text
   unfolding offeredCheck if_then_else_
   offered-policy p k e f = f ∙ rw (eq-eqb kind 1 k, e)
 

@@ -6,7 +6,7 @@ use Rattle.text.specs.String.{Str}
 use Rattle.table.specs.Text.{check}
 use Rattle.table.specs.declared.Checked.{Checked}
 use Rattle.table.specs.declared.Checked.the-variants as checked
-use Rattle.policy.specs.Policy.{judgement}
+use Rattle.policy.specs.Policy.{policyRefusal}
 use Rattle.policy_check.specs.Answer.{checkOf}
 use Rattle.policy_check.specs.declared.check.Check.{Check}
 use Rattle.policy_check.specs.declared.check.Check.the-variants as policy
@@ -18,4 +18,4 @@ ofPolicy (policy.Refused n) = checked.Refused n 0
 
 -- a text offered to a record of that kind
 unfoldable pub offeredCheck : ℕ → Str → Checked
-offeredCheck kind text = if eqb kind 1 then ofPolicy (checkOf (judgement text)) else check text
+offeredCheck kind text = if eqb kind 1 then ofPolicy (checkOf (policyRefusal text)) else check text

@@ -1,25 +1,19 @@
 -- The answer of the RPC verdict, over the texts that it is given.
-use mathlib.Core.List.{List, []}
 use mathlib.Core.Option.{Option, none, some}
 use Prim.Native.Nat.{ℕ}
 use lib.Dec.{eqb}
-use Rattle.text.specs.Test.{if_then_else_}
+use Rattle.text.specs.Test.{if_then_else_, orNothing}
 use Rattle.text.specs.String.{Str}
 use Rattle.text.specs.Refusal.{clear}
-use Rattle.policy.specs.Policy.{Policy, judgement, policyOf}
-use Rattle.rpc.specs.Request.{Line, Request, headersOf, requestFault}
+use Rattle.policy.specs.Policy.{Policy, policyRefusal, policyOf}
+use Rattle.rpc.specs.Request.{Request, headersOf, rpcRefusal}
 use Rattle.rpc.specs.Verdict.{verdict}
 use Rattle.rpc.specs.declared.verdict.Verdict.{Verdict}
 use Rattle.rpc.specs.declared.verdict.Verdict.the-variants.{Refused, Default}
 
--- the lines that were read; none where they are ill-formed
-unfoldable pub written : Option (List Line) → List Line
-written none = []
-written (some l) = l
-
 -- "A request has an identity (empty without a client certificate), a path, and header lines"
 unfoldable pub request : Str → Str → Str → Request
-request identity path headers = record { identity = identity; path = path; headers = written (headersOf headers) }
+request identity path headers = record { identity = identity; path = path; headers = orNothing (headersOf headers) }
 
 -- (an accepted text stands for a policy, so the first case does not arise)
 unfoldable pub verdictBy : Option Policy → Request → Verdict
@@ -33,4 +27,4 @@ refusedElse number v = if eqb number clear then v else Refused number
 -- "text before request, and in each the smallest number"
 unfoldable pub rpcVerdict : Str → Str → Str → Str → Verdict
 rpcVerdict policy identity path headers =
-    refusedElse (judgement policy) (refusedElse (requestFault identity path headers) (verdictBy (policyOf policy) (request identity path headers)))
+    refusedElse (policyRefusal policy) (refusedElse (rpcRefusal identity path headers) (verdictBy (policyOf policy) (request identity path headers)))

@@ -72,8 +72,8 @@ unfoldable pub badHeaders : Str → Bool
 badHeaders s = ltb maxHeaderLines (length s) or not (readable (headersOf s))
 
 -- the refusal number of a request; `clear` where there is none
-unfoldable pub requestFault : Str → Str → Str → ℕ
-requestFault identity path headers = 40 when (badText identity or badText path) else 41 when badHeaders headers else clear
+unfoldable pub rpcRefusal : Str → Str → Str → ℕ
+rpcRefusal identity path headers = 40 when (badText identity or badText path) else 41 when badHeaders headers else clear
 
 -- "Values of one name are joined by commas in order."
 unfoldable pub joined : List Str → Str

@@ -13,14 +13,14 @@ use Rattle.text.proofs.Tests.{by}
 use Rattle.json_grammar.specs.Json.{Json}
 use Rattle.json.specs.Scan.{whiteAt}
 use Rattle.json_tree.specs.Tree.{treeAt}
-use Rattle.policy.specs.Policy.{Policy, member, items, ruleIn, policyIn, judgement, policyOf}
+use Rattle.policy.specs.Policy.{Policy, member, items, ruleIn, policyIn, policyRefusal, policyOf}
 use Rattle.policy.specs.Depth.{rulesDepth}
 use Rattle.limits.specs.Limits.{maxDepth}
 use Rattle.policy_check.specs.Place.{placed}
 use Rattle.policy_check.specs.Answer.{checkOf}
 use Rattle.policy_check.specs.declared.check.Check.the-variants as check
 use Rattle.policy_check.proofs.Accepted.{refused-is, policy-is}
-use Rattle.rpc.specs.Request.{Request, badText, badHeaders, requestFault}
+use Rattle.rpc.specs.Request.{Request, badText, badHeaders, rpcRefusal}
 use Rattle.rpc.specs.Verdict.{ruleMatches, firstFrom, allowed, decided, verdict}
 use Rattle.rpc.specs.Call.{request, verdictBy, refusedElse, rpcVerdict}
 use Rattle.rpc.specs.declared.verdict.Verdict.{Verdict}
@@ -78,22 +78,22 @@ unfolding verdictBy
 by-policy p r = refl
 
 module _ (policy identity path headers : Str) where
-  call-open : rpcVerdict policy identity path headers ≡ refusedElse (judgement policy) (refusedElse (requestFault identity path headers) (verdictBy (policyOf policy) (request identity path headers)))
+  call-open : rpcVerdict policy identity path headers ≡ refusedElse (policyRefusal policy) (refusedElse (rpcRefusal identity path headers) (verdictBy (policyOf policy) (request identity path headers)))
   unfolding rpcVerdict
   call-open = refl
 
-  pub policy-refused : (n : ℕ) → check.Refused n ≡ checkOf (judgement policy) → Refused n ≡ rpcVerdict policy identity path headers
-  policy-refused n h = let z = refused-is n (judgement policy) h in ap Refused (z .0) ∙ sym (call-open ∙ unless-refused _ _ (z .1))
+  pub policy-refused : (n : ℕ) → check.Refused n ≡ checkOf (policyRefusal policy) → Refused n ≡ rpcVerdict policy identity path headers
+  policy-refused n h = let z = refused-is n (policyRefusal policy) h in ap Refused (z .0) ∙ sym (call-open ∙ unless-refused _ _ (z .1))
 
-  module _ (c : judgement policy ≡ clear) where
-    pub request-refused : (n : ℕ) → n ≡ requestFault identity path headers → (n ≡ clear → ⊥) → Refused n ≡ rpcVerdict policy identity path headers
+  module _ (c : policyRefusal policy ≡ clear) where
+    pub request-refused : (n : ℕ) → n ≡ rpcRefusal identity path headers → (n ≡ clear → ⊥) → Refused n ≡ rpcVerdict policy identity path headers
     request-refused n e z = ap Refused e ∙ sym (call-open ∙ unless-clear _ _ c ∙ unless-refused _ _ (λ x. z (e ∙ x)))
 
-    pub request-judged : (i : ℕ) → i ≡ whiteAt policy 0 → requestFault identity path headers ≡ clear → (v : Verdict) → v ≡ verdict (policyIn (treeAt maxDepth policy i)) (request identity path headers) → v ≡ rpcVerdict policy identity path headers
+    pub request-judged : (i : ℕ) → i ≡ whiteAt policy 0 → rpcRefusal identity path headers ≡ clear → (v : Verdict) → v ≡ verdict (policyIn (treeAt maxDepth policy i)) (request identity path headers) → v ≡ rpcVerdict policy identity path headers
     request-judged i w f v e = e ∙ sym (call-open ∙ unless-clear _ _ c ∙ unless-clear _ _ f ∙ ap (λ (o : Option Policy). verdictBy o (request identity path headers)) (policy-is policy c i w) ∙ by-policy _ _)
 
-pub headers-good : (identity path headers : Str) → requestFault identity path headers ≡ clear → badHeaders headers ≡ false
-unfolding requestFault if_then_else_
+pub headers-good : (identity path headers : Str) → rpcRefusal identity path headers ≡ clear → badHeaders headers ≡ false
+unfolding rpcRefusal if_then_else_
 headers-good identity path headers e =
     by (badText identity or badText path) (λ t. let z : _≡_ {A = ℕ} 40 clear = rw t at e in absurd (omega arith))
     (λ t. by (badHeaders headers) (λ u. let z : _≡_ {A = ℕ} 41 clear = rw (t, u) at e in absurd (omega arith)) (λ u. u))

@@ -10,7 +10,7 @@ use lib.ListN.{length, take, drop, getD, set, length-set, length-drop, drop-of-l
 use lib.Seq.{take-all, drop-at, drop-drop, length-take-le, getD-set-same, getD-set-other}
 use borrow.Author.Tests.{eqb-true, eqb-false, ltb-true, ltb-false, lt-ltb, le-ltb}
 use Rattle.limits.specs.Limits.{maxHeaderLines}
-use Rattle.text.specs.Test.{_and_, if_then_else_, only}
+use Rattle.text.specs.Test.{_and_, if_then_else_, only, orNothing}
 use Rattle.text.specs.String.{Str}
 use Rattle.text.specs.Frame.{part}
 use Rattle.text.specs.Fill.{put}
@@ -20,7 +20,6 @@ use Rattle.text.proofs.Frames.{no-part}
 use Rattle.text.proofs.Filling.{wrote-long}
 use Rattle.text_affix.specs.Affix.{empty}
 use Rattle.rpc.specs.Request.{Line, longer, cutAt, lineOf, cons, linesOf, headersOf, readable, badHeaders, joined, valuesOf, headerValue}
-use Rattle.rpc.specs.Call.{written}
 use Rattle.rpc_request.specs.Steps.{cutHere, Cut, commaed, lineValue}
 use Rattle.rpc_request.specs.Index.{bucketCount, placeCount, bucketOf, inBucket, LineAt, Chain, stop, link, onto, Blank, Indexed}
 use Rattle.rpc_request.proofs.Lines.{part-long, here-some, here-none, fueled, read-is, Reading, reading-on, lines-cut, lines-uncut, lines-bad, lines-on, lines-over, headers-short, headers-read}
@@ -85,8 +84,8 @@ chain-under h before {to = to} (link {e = e} a k c) t = let z : e < to = omega a
 
 -- ---- index_lines
 
-written-some : (l : List Line) → written (some l) ≡ l
-unfolding written
+written-some : (l : List Line) → orNothing (some l) ≡ l
+unfolding orNothing
 written-some l = refl
 
 cons-some : (a : Line) (l : List Line) → cons (some a) (some l) ≡ some (a ∷ l)
@@ -128,7 +127,7 @@ pub record Indexing (h last before : Str) (i : ℕ) : Type 0 where
   pub reading : Reading h i fuel
   pub good : readable (linesOf fuel (drop i h)) ≡ true
   pub back : List Line
-  pub is : written (headersOf h) ≡ onto back (written (linesOf fuel (drop i h)))
+  pub is : orNothing (headersOf h) ≡ onto back (orNothing (linesOf fuel (drop i h)))
   pub buckets : length last ≡ bucketCount
   pub places : length before ≡ placeCount
   pub chains : (b : ℕ) → b < bucketCount → Chain h before i (getD last b 0) (only (inBucket b) back)
@@ -146,11 +145,11 @@ indexing-start h last before x = record {
 }
 
 module _ (h last before : Str) (i e : ℕ) (l : i < length h) (k : Cut 10 h i e) (j : Indexing h last before i) where
-  turn : (g : ℕ) × (Reading h i (suc g)) × (readable (linesOf (suc g) (drop i h)) ≡ true) × (written (headersOf h) ≡ onto (j .back) (written (linesOf (suc g) (drop i h))))
+  turn : (g : ℕ) × (Reading h i (suc g)) × (readable (linesOf (suc g) (drop i h)) ≡ true) × (orNothing (headersOf h) ≡ onto (j .back) (orNothing (linesOf (suc g) (drop i h))))
   turn =
       let f = fueled h i e l k (j .fuel) (j .reading) in
       let q = f .1 in
-      (f .0, subst (Reading h i) q (j .reading), ap (λ (n : ℕ). readable (linesOf n (drop i h))) (sym q) ∙ j .good, j .is ∙ ap (λ (n : ℕ). onto (j .back) (written (linesOf n (drop i h)))) q)
+      (f .0, subst (Reading h i) q (j .reading), ap (λ (n : ℕ). readable (linesOf n (drop i h))) (sym q) ∙ j .good, j .is ∙ ap (λ (n : ℕ). onto (j .back) (orNothing (linesOf n (drop i h)))) q)
 
   pub indexing-cut : e < length h
   indexing-cut = let t = turn in by (ltb e (length h)) (λ z. ltb-true _ _ z) (λ z. clash (t .2) (lines-uncut h i e (t .0) l k (let x = ltb-false e (length h) z in let y = k .high in omega arith)))
@@ -159,11 +158,11 @@ module _ (h last before : Str) (i e : ℕ) (l : i < length h) (k : Cut 10 h i e)
   indexing-line = let t = turn in by (readable (lineOf (cutAt 58 (part h i e)))) (λ z. z) (λ z. clash (t .2) (lines-bad h i e (t .0) l k indexing-cut z))
 
   lines-rest : (x : Line) → lineOf (cutAt 58 (part h i e)) ≡ some x → (g : ℕ) → readable (linesOf (suc g) (drop i h)) ≡ true
-      → (readable (linesOf g (drop (e + 1) h)) ≡ true) × (written (linesOf (suc g) (drop i h)) ≡ x ∷ written (linesOf g (drop (e + 1) h)))
+      → (readable (linesOf g (drop (e + 1) h)) ≡ true) × (orNothing (linesOf (suc g) (drop i h)) ≡ x ∷ orNothing (linesOf g (drop (e + 1) h)))
   lines-rest x q g r =
       let a = sym (lines-on h i e g l k indexing-cut indexing-line) ∙ r in
       let o = read-is _ a in
-      (a, ap written (lines-cut h i e g l k indexing-cut ∙ ap (λ (z : Option Line). cons z (linesOf g (drop (e + 1) h))) q ∙ ap (cons (some x)) (o .1) ∙ cons-some x (o .0)) ∙ written-some _ ∙ ap (λ (z : List Line). x ∷ z) (sym (written-some _) ∙ ap written (sym (o .1))))
+      (a, ap orNothing (lines-cut h i e g l k indexing-cut ∙ ap (λ (z : Option Line). cons z (linesOf g (drop (e + 1) h))) q ∙ ap (cons (some x)) (o .1) ∙ cons-some x (o .0)) ∙ written-some _ ∙ ap (λ (z : List Line). x ∷ z) (sym (written-some _) ∙ ap orNothing (sym (o .1))))
 
   pub third-place : length h ≤ maxHeaderLines → i / 3 < length before
   third-place s = let z = third-small i (omega arith) in omega (arith, j .places)
@@ -208,7 +207,7 @@ module _ (h last before : Str) (i e : ℕ) (l : i < length h) (k : Cut 10 h i e)
 pub indexing-done : (h last before : Str) (i : ℕ) → badHeaders h ≡ false → Indexing h last before i → length h ≤ i → Indexed h last before
 indexing-done h last before i g j l = record {
   back = j .back;
-  is = j .is ∙ ap (onto (j .back)) (ap written (lines-over h i (j .fuel) l) ∙ written-some []);
+  is = j .is ∙ ap (onto (j .back)) (ap orNothing (lines-over h i (j .fuel) l) ∙ written-some []);
   short = headers-short h g;
   buckets = j .buckets;
   places = j .places;
@@ -223,7 +222,7 @@ pub record Gathering (key h before out : Str) (p at : ℕ) : Type 0 where
   pub left : List Line
   pub got : List Str
   pub chain : Chain h before top p left
-  pub is : valuesOf key (written (headersOf h)) ≡ gather key left got
+  pub is : valuesOf key (orNothing (headersOf h)) ≡ gather key left got
   pub stored : drop at out ≡ commaed got
   pub low : top ≤ length h
   pub high : at ≤ length out
@@ -255,14 +254,14 @@ pub record Linked (key h before out : Str) (p e at : ℕ) : Type 0 where
   pub stands : LineAt h p e line
   pub under : e < top
   pub chain : Chain h before p (getD before (p / 3) 0) rest
-  pub is : valuesOf key (written (headersOf h)) ≡ gather key (line ∷ rest) got
+  pub is : valuesOf key (orNothing (headersOf h)) ≡ gather key (line ∷ rest) got
   pub stored : drop at out ≡ commaed got
   pub low : top ≤ length h
   pub high : at ≤ length out
   pub room : length out + top ≤ at + length h
 
 module _ (key h before out : Str) (p at e : ℕ) (l : p < length h) (k : Cut 10 h p e) where
-  linked-chain : {top : ℕ} {left : List Line} (got : List Str) → Chain h before top p left → valuesOf key (written (headersOf h)) ≡ gather key left got → drop at out ≡ commaed got → top ≤ length h → at ≤ length out → length out + top ≤ at + length h → Linked key h before out p e at
+  linked-chain : {top : ℕ} {left : List Line} (got : List Str) → Chain h before top p left → valuesOf key (orNothing (headersOf h)) ≡ gather key left got → drop at out ≡ commaed got → top ≤ length h → at ≤ length out → length out + top ≤ at + length h → Linked key h before out p e at
   linked-chain got (stop q) is s a b c = absurd (omega arith)
   linked-chain {top = top} got (link {e = f} {x = x} {l = r} o u c) is s a b d =
       let z = cut-same 10 h p f e (o .cut) k in
@@ -330,12 +329,12 @@ module _ (key h before out : Str) (p at : ℕ) (l : length h ≤ p) where
   chain-over (link o u c) = absurd (omega (arith, o .inside, o .cut .low))
 
   module _ (g : Gathering key h before out p at) where
-    value-is : headerValue key (written (headersOf h)) ≡ drop 1 (drop at out)
+    value-is : headerValue key (orNothing (headersOf h)) ≡ drop 1 (drop at out)
     unfolding headerValue
     value-is = ap joined (g .is ∙ ap (λ (m : List Line). gather key m (g .got)) (chain-over (g .chain)) ∙ gather-nil key (g .got)) ∙ joined-is (g .got) ∙ ap (drop 1) (sym (g .stored))
 
-    pub joined-empty : (end : ℕ) → at ≡ end → end ≡ length out → part out end end ≡ headerValue key (written (headersOf h))
+    pub joined-empty : (end : ℕ) → at ≡ end → end ≡ length out → part out end end ≡ headerValue key (orNothing (headersOf h))
     joined-empty end z q = no-part out end ∙ sym (value-is ∙ ap (drop 1) (let y : length out ≤ at = omega arith in drop-of-length-le out y))
 
-    pub joined-value : (end : ℕ) → end ≡ length out → part out (at + 1) end ≡ headerValue key (written (headersOf h))
+    pub joined-value : (end : ℕ) → end ≡ length out → part out (at + 1) end ≡ headerValue key (orNothing (headersOf h))
     joined-value end q = take-all (end - (at + 1)) (drop (at + 1) out) (omega (arith, length-drop (at + 1) out)) ∙ sym (value-is ∙ drop-drop 1 at out)

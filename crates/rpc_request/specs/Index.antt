@@ -8,11 +8,10 @@ use Prim.Native.Nat.{ℕ, _+_, _-_, _*_, _/_, _%_, _≤_, _<_}
 use lib.Dec.{eqb}
 use lib.ListN.{length, getD}
 use Rattle.limits.specs.Limits.{maxHeaderLines}
-use Rattle.text.specs.Test.{only}
+use Rattle.text.specs.Test.{only, orNothing}
 use Rattle.text.specs.String.{Str}
 use Rattle.text.specs.Frame.{part}
 use Rattle.rpc.specs.Request.{Line, cutAt, lineOf, headersOf, badHeaders}
-use Rattle.rpc.specs.Call.{written}
 use Rattle.rpc_request.specs.Steps.{Cut}
 
 -- how many buckets; any number would do
@@ -58,7 +57,7 @@ pub record Blank (h last before : Str) : Type 0 where
 -- a chain for each bucket, from what `last` has for it
 pub record Indexed (h last before : Str) : Type 0 where
   pub back : List Line
-  pub is : written (headersOf h) ≡ onto back []
+  pub is : orNothing (headersOf h) ≡ onto back []
   pub short : length h ≤ maxHeaderLines
   pub buckets : length last ≡ bucketCount
   pub places : length before ≡ placeCount

@@ -5,11 +5,10 @@ use mathlib.Core.Option.{Option, none, some}
 use Prim.Native.Nat.{ℕ, _+_, _≤_}
 use lib.Dec.{ltb}
 use lib.ListN.{length, drop}
-use Rattle.text.specs.Test.{if_then_else_}
+use Rattle.text.specs.Test.{if_then_else_, orNothing}
 use Rattle.text.specs.String.{Str}
 use Rattle.text.specs.Frame.{part}
 use Rattle.rpc.specs.Request.{Line, cutAt, lineOf, headersOf, valuesOf, headerValue}
-use Rattle.rpc.specs.Call.{written}
 use Rattle.rpc_request.specs.declared.index.Span.{Span}
 
 -- the bytes from `from` on, cut at e; no cut where e is the end
@@ -37,6 +36,6 @@ lineValue key l = commaed (valuesOf key (oneLine (lineOf (cutAt 58 l))))
 
 -- r is where the value of the header stands in `out`
 pub record Joined (key h out : Str) (r : Span) : Type 0 where
-  pub is : part out (r .from) (r .to) ≡ headerValue key (written (headersOf h))
+  pub is : part out (r .from) (r .to) ≡ headerValue key (orNothing (headersOf h))
   pub low : r .from ≤ r .to
   pub high : r .to ≤ length out

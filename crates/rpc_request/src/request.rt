@@ -1,6 +1,6 @@
 // 40 and 41: whether a request can be judged.
 ghost use mathlib.Core.Path.{_≡_};
-ghost use Rattle.rpc.specs.Request.{badText, requestFault};
+ghost use Rattle.rpc.specs.Request.{badText, rpcRefusal};
 
 // 40, for the identity or the path.
 fn is_bad_text(t: &[u8]) -> bool
@@ -14,7 +14,7 @@ fn is_bad_text(t: &[u8]) -> bool
 
 // The refusal number of a request; `CLEAR` where there is none.
 pub fn request_fault(identity: &[u8], path: &[u8], headers: &[u8]) -> u8
-    ensures { λ r. ⌜ r ≡ requestFault (now (identity .entry)) (now (path .entry)) (now (headers .entry)) ⌝ }
+    ensures { λ r. ⌜ r ≡ rpcRefusal (now (identity .entry)) (now (path .entry)) (now (headers .entry)) ⌝ }
 {
     if is_bad_text(identity) {
         return 40;

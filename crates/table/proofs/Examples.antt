@@ -7,7 +7,7 @@ use Rattle.text.specs.Test.{_and_, _or_, if_then_else_, all, any, twice}
 use Rattle.text.specs.String.{Str, bytes, same}
 use Rattle.text.specs.Frame.{_>>=_, ret, byte, run, string, times}
 use Rattle.path.specs.Bytes.{key, element, path}
-use Rattle.path.specs.Faults.{unsized, keyOver, elemOver, overLimit, outsideName, outsideValue, keyStray, elemStray, strayByte, halfWild, keyMisplaced, elemMisplaced, misplaced, keyTwice}
+use Rattle.path.specs.Refusal.{unsized, keyOver, elemOver, overLimit, outsideName, outsideValue, keyStray, elemStray, strayByte, halfWild, keyMisplaced, elemMisplaced, misplaced, keyTwice}
 use Rattle.table_line.specs.Lines.{onto, lines, pair, pairs, nonempty, frame}
 use Rattle.table.specs.Frame.{unknown, code, versionBody, groupBody, memberBody, ruleBody, ruleEntry, body, entry, whole, entryOf}
 use Rattle.table.specs.Refusal.{framed, decoded, lineOf, kindOf, outOfOrder, unsizedShort, pastLimit, stray, strays, misplaces, sameMember, sameId, repeats, listed, unlisted, refusal, first, with, after}

@@ -12,7 +12,7 @@ use Rattle.text.specs.String.{Str}
 use Rattle.text.specs.Refusal.{_when_else_, clear}
 use Rattle.text.proofs.Tests.{or-false-l, or-is}
 use Rattle.limits.specs.Limits.{maxShortString, maxString}
-use Rattle.path.specs.Faults.{unsized, overLimit, strayByte, misplaced, keyTwice}
+use Rattle.path.specs.Refusal.{unsized, overLimit, strayByte, misplaced, keyTwice}
 use Rattle.path.specs.Walk.{leastRefusal, pathRefusal}
 use Rattle.table.specs.Table.{Rule}
 use Rattle.table.specs.Frame.{Entry, rule}

@@ -5,7 +5,7 @@ use mathlib.Core.List.{List, [], _∷_}
 use lib.ListN.{length}
 use Rattle.text.specs.Test.{_or_, if_then_else_, any}
 use Rattle.text.specs.String.{Str}
-use Rattle.path.specs.Faults.{unsized}
+use Rattle.path.specs.Refusal.{unsized}
 use Rattle.table.specs.Table.{Member, Table}
 use Rattle.table.specs.Refusal.{stray, sameMember}
 use Rattle.table.specs.Text.{check, tableOf}

@@ -10,7 +10,7 @@ use Rattle.text.specs.Byte.{isPrint}
 use Rattle.text.specs.String.{Str, same}
 use Rattle.text.specs.Refusal.{_when_else_, clear}
 use Rattle.limits.specs.Limits.{maxGroups, maxMembers, maxRules, maxShortString}
-use Rattle.path.specs.Faults.{unsized, overLimit, strayByte, misplaced, keyTwice}
+use Rattle.path.specs.Refusal.{unsized, overLimit, strayByte, misplaced, keyTwice}
 use Rattle.table_line.specs.Lines.{frame}
 use Rattle.table.specs.Table.{Member, Rule}
 use Rattle.table.specs.Frame.{Entry, version, group, member, rule, entryOf}

@@ -20,7 +20,7 @@ use Rattle.text.specs.declared.frame.End.{End}
 use Rattle.text.specs.declared.frame.End.the-variants.{At, Unread}
 use Rattle.text.proofs.Tests.{or-false-r, or-is}
 use Rattle.text.proofs.Frames.{string-ends, string-misses}
-use Rattle.path.specs.Faults.{unsized}
+use Rattle.path.specs.Refusal.{unsized}
 use Rattle.text_sorted.specs.Spans.{spanOf, Sought, inserted}
 use Rattle.text_sorted.specs.declared.Found.{Found}
 use Rattle.table_rows.specs.Strings.{stringsIn}

@@ -21,7 +21,7 @@ use Rattle.text.specs.declared.frame.End.the-variants.{Unread}
 use Rattle.text.proofs.Tests.{by, bool-ext, and-l, and-r, both, same→≡, ≡→same, or-false-r, or-is}
 use Rattle.text.proofs.Frames.{string-misses}
 use Rattle.text.proofs.Codec.{Took, took-both, string-took, string-gives}
-use Rattle.path.specs.Faults.{unsized}
+use Rattle.path.specs.Refusal.{unsized}
 use Rattle.text_sorted.specs.Spans.{spanOf}
 use Rattle.text_sorted.specs.declared.Found.{Found}
 use Rattle.text_set.specs.Set.{Met, added}

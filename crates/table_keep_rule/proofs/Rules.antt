@@ -15,7 +15,7 @@ use Rattle.text.specs.String.{Str, same}
 use Rattle.text.specs.Refusal.{clear}
 use Rattle.text.specs.Frame.{part}
 use Rattle.text.proofs.Tests.{clash, or-false-r, or-is}
-use Rattle.path.specs.Faults.{unsized, overLimit, keyTwice}
+use Rattle.path.specs.Refusal.{unsized, overLimit, keyTwice}
 use Rattle.text_sorted.specs.Spans.{spanOf}
 use Rattle.text_sorted.specs.declared.Found.{Found}
 use Rattle.text_set.specs.Set.{Holds, Met, added}

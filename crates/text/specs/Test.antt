@@ -2,6 +2,7 @@
 -- unfold only where a proof asks for it.
 use mathlib.Core.Bool.{Bool, true, false}
 use mathlib.Core.List.{List, [], _∷_, List·Memᴰ}
+use mathlib.Core.Option.{Option, none, some}
 
 infixr 35 _and_
 infixr 30 _or_
@@ -41,3 +42,13 @@ module _ {A : Type 0} where
   unfoldable pub twice : (A → A → Bool) → List A → Bool
   twice alike [] = false
   twice alike (x ∷ xs) = any (alike x) xs or twice alike xs
+
+  -- there is nothing
+  unfoldable pub absent : Option A → Bool
+  absent none = true
+  absent (some a) = false
+
+  -- the list that is there; where there is nothing, the empty one
+  unfoldable pub orNothing : Option (List A) → List A
+  orNothing none = []
+  orNothing (some l) = l

@@ -8,7 +8,7 @@ use native.Mathlib.Omega.{arith}
 use Rattle.text.specs.Test.{_and_, _∈_}
 use Rattle.text.proofs.Tests.{clash, and-l, and-r, both, and-false}
 use Rattle.path.specs.Path.{Path}
-use Rattle.path.specs.Faults.{keyTwice}
+use Rattle.path.specs.Refusal.{keyTwice}
 use Rattle.table.specs.Table.{Rule, Table}
 use Rattle.verdict.specs.Cover.{covers}
 use Rattle.verdict.specs.Join.{agree, join}

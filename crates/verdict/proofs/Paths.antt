@@ -8,7 +8,7 @@ use Rattle.text.specs.Test.{_and_, _or_, _∈_, any, only, twice}
 use Rattle.text.specs.String.{same}
 use Rattle.text.proofs.Tests.{clash, by, bool-ext, and-l, and-r, both, or-l, or-r, or-cases, or-false-l, or-false-r, neither, same→≡, same-refl, ≡→same, all→, →all, any→, →any, none-any, only→, →only}
 use Rattle.path.specs.Path.{Key, Elem, Path}
-use Rattle.path.specs.Faults.{sameName, keyTwice}
+use Rattle.path.specs.Refusal.{sameName, keyTwice}
 use Rattle.verdict.specs.Cover.{wild, definite, holds, meets, covers}
 use Rattle.verdict.specs.Join.{conflict, clashes, agrees, agree, meld, join}
 use Rattle.verdict.specs.Pair.{meetsBoth, coversBoth}

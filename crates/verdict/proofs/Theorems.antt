@@ -8,7 +8,7 @@ use native.Mathlib.Omega.{arith}
 use lib.ListN.{getElem?}
 use Rattle.text.specs.Test.{_∈_, twice}
 use Rattle.text.proofs.Tests.{clash, ≡→same}
-use Rattle.path.specs.Faults.{keyTwice}
+use Rattle.path.specs.Refusal.{keyTwice}
 use Rattle.table.specs.Table.{Rule, Table}
 use Rattle.verdict.specs.Order.{better, earlier, Numbered, choose}
 use Rattle.verdict.specs.Verdict.{Request, matches, decider, permits, opposes, MIXED, word, answer, tree}

@@ -8,7 +8,7 @@ use lib.ListN.{getElem?}
 use Rattle.text.specs.Test.{_∈_}
 use Rattle.text.specs.String.{Str}
 use Rattle.path.specs.Path.{Path}
-use Rattle.path.specs.Faults.{keyTwice}
+use Rattle.path.specs.Refusal.{keyTwice}
 use Rattle.table.specs.Table.{Rule, Table}
 use Rattle.verdict.specs.Cover.{covers}
 use Rattle.verdict.specs.Order.{better, earlier, Numbered}

@@ -2,7 +2,7 @@
 use mathlib.Core.Path.{_≡_}
 use mathlib.Core.Bool.{false}
 use Rattle.text.specs.Test.{_∈_, twice}
-use Rattle.path.specs.Faults.{keyTwice}
+use Rattle.path.specs.Refusal.{keyTwice}
 use Rattle.table.specs.Table.{Rule, Table}
 use Rattle.table.specs.Refusal.{sameId}
 

@@ -9,7 +9,7 @@ use Rattle.text.specs.Test.{_and_, if_then_else_}
 use Rattle.text.specs.String.{Str, same}
 use Rattle.text.proofs.Tests.{by}
 use Rattle.path.specs.Path.{Path}
-use Rattle.path.specs.Faults.{keyTwice}
+use Rattle.path.specs.Refusal.{keyTwice}
 use Rattle.table.specs.Table.{Rule, Table}
 use Rattle.table.specs.Group.{lists}
 use Rattle.verdict.specs.Order.{better, earlier, choose}

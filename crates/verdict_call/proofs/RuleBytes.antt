@@ -6,6 +6,7 @@ use Prim.Native.Nat.{ℕ, zero, suc, _+_, _≤_, _<_}
 use native.Mathlib.Nat.{add-zero}
 use native.Mathlib.Omega.{arith}
 use lib.ListN.{length, getD}
+use Rattle.table_rows.specs.Strings.{rowsOf}
 use Rattle.text.specs.String.{Str}
 use Rattle.text.specs.Frame.{got}
 use Rattle.path.specs.Bytes.{path}
@@ -25,7 +26,7 @@ rule-read f p r t e =
 
 -- all of them
 pub rules-read : (f starts : List ℕ) (rs : List Rule) (i : ℕ) → RulesAt f starts rs i → rulesIn f starts (length rs) i ≡ rs
-unfolding RulesAt rulesIn
+unfolding RulesAt rulesIn rowsOf
 rules-read f starts [] i h = refl
 rules-read f starts (r ∷ rs) i h = ap₂ _∷_ (sym (rule-read f (getD starts i 0) r (h .0 .0) (h .0 .1) .1)) (rules-read f starts rs (suc i) (h .1))
 

@@ -10,14 +10,14 @@ use lib.Dec.{leb}
 use lib.ListN.{length, take, length-append}
 use lib.Seq.{take-at}
 use Rattle.limits.specs.Sizes.{maxPathBytes}
-use Rattle.text.specs.Test.{_or_, if_then_else_}
+use Rattle.text.specs.Test.{_or_, if_then_else_, absent, orNothing}
 use Rattle.text.specs.String.{Str}
 use Rattle.text.specs.Fill.{put}
 use Rattle.text.specs.Refusal.{_when_else_, clear}
 use Rattle.text.proofs.Tests.{by}
 use Rattle.path.specs.Path.{Path}
 use Rattle.path.specs.Bytes.{path, pathBytes}
-use Rattle.path.specs.Faults.{keyTwice, goodPath}
+use Rattle.path.specs.Refusal.{keyTwice, goodPath}
 use Rattle.path.proofs.Bytes.{bytes-whole}
 use Rattle.path_read.specs.TextReader.{readText}
 use Rattle.path_read.specs.Calls.{bytesFor, answer, lent}
@@ -32,7 +32,7 @@ use Rattle.verdict.specs.Verdict.{Tree}
 use Rattle.table_place.specs.Place.{pathEnd, pathIn}
 use Rattle.table_place.proofs.Reading.{path-read}
 use Rattle.verdict_request.specs.Either.{oneOf, refusedAs}
-use Rattle.verdict_request.specs.Calls.{badMode, badOrigin, unspelled, requestRefusal, spelled, decidedBy, pathAnswer, spread, treeAnswer}
+use Rattle.verdict_request.specs.Calls.{badMode, badOrigin, requestRefusal, decidedBy, pathAnswer, spread, treeAnswer}
 use Rattle.verdict_request.specs.declared.PathAnswer.the-variants as answers
 use Rattle.verdict_request.specs.declared.TreeAnswer.the-variants as trees
 
@@ -115,7 +115,7 @@ module _ (user : Str) (mode : ℕ) (origin : Str) (text : Str) (m : ℕ) (h : m 
       (λ u. rw u (sym (rw u at h)))
       (λ u. by (badOrigin origin) (λ o. rw (u, o) (sym (rw (u, o) at h))) (λ o. absurd (n (rw (u, o) at h))))
 
-  late : m ≡ clear → requestRefusal user mode origin text ≡ (22 when unspelled (readText text) else clear)
+  late : m ≡ clear → requestRefusal user mode origin text ≡ (22 when absent (readText text) else clear)
   unfolding requestRefusal if_then_else_
   late e =
       by (badUser user or badMode mode)
@@ -123,11 +123,11 @@ module _ (user : Str) (mode : ℕ) (origin : Str) (text : Str) (m : ℕ) (h : m 
       (λ u. by (badOrigin origin) (λ o. let z : m ≡ 21 = rw (u, o) at h in absurd (omega arith)) (λ o. rw (u, o)))
 
   unread-22 : m ≡ clear → readText text ≡ none → requestRefusal user mode origin text ≡ 22
-  unfolding unspelled if_then_else_
+  unfolding absent if_then_else_
   unread-22 e r = late e ∙ rw r
 
   read-clear : m ≡ clear → (p : Path) → readText text ≡ some p → requestRefusal user mode origin text ≡ clear
-  unfolding unspelled if_then_else_
+  unfolding absent if_then_else_
   read-clear e p r = late e ∙ rw r
 
   -- ---- the answers
@@ -170,6 +170,6 @@ module _ (user : Str) (mode : ℕ) (origin : Str) (text : Str) (m : ℕ) (h : m 
     unfolding refusedAs
     either-unread e r = ap₂ (oneOf whole) (path-unread d e r) (tree-unread w e r)
 
-pub spelled-is : (s : Str) (p : Path) → readText s ≡ some p → spelled (readText s) ≡ p
-unfolding spelled
+pub spelled-is : (s : Str) (p : Path) → readText s ≡ some p → orNothing (readText s) ≡ p
+unfolding orNothing
 spelled-is s p e = rw e

@@ -4,7 +4,7 @@ ghost use mathlib.Core.Path.{_≡_};
 ghost use mathlib.Core.Bool.{false};
 ghost use Prim.Native.Nat.{_≤_};
 ghost use lib.ListN.{length};
-ghost use Rattle.path.specs.Faults.{keyTwice};
+ghost use Rattle.path.specs.Refusal.{keyTwice};
 ghost use Rattle.verdict.specs.Verdict.{decider, tree};
 ghost use Rattle.table_place.specs.Place.{pathEnd, pathIn};
 ghost use Rattle.verdict_request.specs.Calls.{asked, decidedBy, spread};

@@ -8,6 +8,7 @@ use native.Mathlib.Numerals.{add-one}
 use native.Mathlib.Omega.{arith}
 use borrow.Author.Tests.{ne-eqb}
 use lib.ListN.{getD}
+use Rattle.table_rows.specs.Strings.{rowsOf}
 use Rattle.text.specs.Test.{_and_, _or_, if_then_else_}
 use Rattle.text.proofs.Tests.{clash, by, and-first, and-second}
 use Rattle.table.specs.Table.{Rule}
@@ -62,11 +63,11 @@ module _ (over : Rule → Rule → Bool) where
     best-none = let e : n - 0 ≡ n = omega arith in rw e
 
     rules-cons : (i : ℕ) → i < n → rulesIn f starts (n - i) i ≡ ruleIn f (getD starts i 0) ∷ rulesIn f starts (n - (i + 1)) (i + 1)
-    unfolding rulesIn
+    unfolding rulesIn rowsOf
     rules-cons i h = let e : n - i ≡ suc (n - (i + 1)) = omega arith in rw (e, add-one)
 
     rules-nil : (i : ℕ) → n ≤ i → rulesIn f starts (n - i) i ≡ []
-    unfolding rulesIn
+    unfolding rulesIn rowsOf
     rules-nil i h = let e : n - i ≡ 0 = omega arith in rw e
 
     pub best-turn : (x : Option Numbered) (b c : Best) (i : ℕ) → i < n

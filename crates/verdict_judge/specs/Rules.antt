@@ -1,11 +1,12 @@
 -- The rules of a checked table, read from its decoded bytes by the positions of their action bytes.
 use mathlib.Core.Path.{_≡_}
-use Prim.Native.Nat.{ℕ, zero, suc, _+_, _≤_, _<_}
+use Prim.Native.Nat.{ℕ, _+_, _≤_, _<_}
 use mathlib.Core.Bool.{Bool}
-use mathlib.Core.List.{List, [], _∷_}
+use mathlib.Core.List.{List}
 use lib.Dec.{eqb}
 use lib.ListN.{length, getD}
 use Rattle.table.specs.Table.{Rule}
+use Rattle.table_rows.specs.Strings.{rowsOf}
 use Rattle.table_place.specs.Place.{strEnd, strIn, pathIn, pathEnd}
 
 -- "action (0 deny, 1 permit), mode (1 read, 2 write), subject (0 user, 1 group), S subject name, S id, S origin, path": where the rule's id,
@@ -36,8 +37,7 @@ ruleEnd f at = pathEnd f (pathAt f at)
 
 -- k rules, the first with number i
 unfoldable pub rulesIn : List ℕ → List ℕ → ℕ → ℕ → List Rule
-rulesIn f starts zero i = []
-rulesIn f starts (suc k) i = ruleIn f (getD starts i 0) ∷ rulesIn f starts k (suc i)
+rulesIn f starts k i = rowsOf (λ j. ruleIn f (getD starts j 0)) k i
 
 -- each of the first n rules lies within the bytes
 abbrev pub Laid : List ℕ → List ℕ → ℕ → Type 0

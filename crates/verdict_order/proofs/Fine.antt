@@ -13,7 +13,7 @@ use Rattle.text.specs.String.{Str, same}
 use Rattle.text.specs.Refusal.{_when_else_, clear}
 use Rattle.text.proofs.Tests.{clash, by, and-l, and-r, both, or-l, or-r, or-false-l, or-false-r, neither, on-cons, none-any, same→≡, ≡→same}
 use Rattle.limits.specs.Limits.{maxGroups, maxMembers, maxRules, maxShortString}
-use Rattle.path.specs.Faults.{unsized, overLimit, keyTwice}
+use Rattle.path.specs.Refusal.{unsized, overLimit, keyTwice}
 use Rattle.table.specs.Table.{Member, Rule}
 use Rattle.table.specs.Frame.{Entry, version, group, member, rule}
 use Rattle.table.specs.Refusal.{reads, Earlier, kindOf, outOfOrder, unsizedShort, pastLimit, strays, misplaces, sameMember, sameId, repeats, listed, unlisted, refusal, with}

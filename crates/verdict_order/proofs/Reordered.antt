@@ -19,7 +19,7 @@ use Rattle.table.specs.Frame.{Entry, version, group, member, rule}
 use Rattle.table.specs.Refusal.{Line, notHex, unreadable, reads, lineOf, Earlier, with, after, kindOf, outOfOrder, listed, first, sameMember, sameId}
 use Rattle.table.specs.Text.{check, allTold, table, tableOf}
 use Rattle.table.specs.declared.Checked.the-variants.{Accepted}
-use Rattle.path.specs.Faults.{keyTwice}
+use Rattle.path.specs.Refusal.{keyTwice}
 use Rattle.verdict.specs.Laws.{Reordered}
 use Rattle.verdict.specs.Orderly.{Orderly}
 use Rattle.verdict.proofs.Choose.{same-id-turned}

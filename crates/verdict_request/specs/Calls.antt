@@ -1,12 +1,11 @@
 -- The answers of the two verdict calls, over the texts that they are given.
 use Prim.Native.Nat.{ℕ}
-use mathlib.Core.Bool.{Bool, true, false, not}
-use mathlib.Core.List.{[]}
+use mathlib.Core.Bool.{Bool, not}
 use mathlib.Core.Option.{Option, none, some}
 use lib.Dec.{eqb, ltb}
 use lib.ListN.{length}
 use Rattle.limits.specs.Limits.{maxShortString}
-use Rattle.text.specs.Test.{_or_, if_then_else_}
+use Rattle.text.specs.Test.{_or_, if_then_else_, absent, orNothing}
 use Rattle.text.specs.String.{Str}
 use Rattle.text.specs.Refusal.{_when_else_, clear}
 use Rattle.path.specs.Path.{Path}
@@ -33,32 +32,22 @@ badMode mode = not (eqb mode 1 or eqb mode 2)
 unfoldable pub badOrigin : Str → Bool
 badOrigin origin = ltb maxShortString (length origin) or stray origin
 
--- the text spells no path
-unfoldable pub unspelled : Option Path → Bool
-unspelled none = true
-unspelled (some p) = false
-
 -- "20, 21, 22: user or mode not as a table allows; origin likewise; path text"
 unfoldable pub requestRefusal : Str → ℕ → Str → Str → ℕ
 requestRefusal user mode origin text =
     20 when (badUser user or badMode mode)
     else 21 when badOrigin origin
-    else 22 when unspelled (readText text)
+    else 22 when absent (readText text)
     else clear
 
 -- ---- the request
-
--- the path that it spells, which is asked only where the request is not refused
-unfoldable pub spelled : Option Path → Path
-spelled none = []
-spelled (some p) = p
 
 abbrev pub asked : Str → ℕ → Str → Path → Request
 asked user mode origin p = record { user = user; mode = mode; origin = origin; path = p }
 
 -- "A request has a user, a mode, an origin and path text."
 unfoldable pub request : Str → ℕ → Str → Str → Request
-request user mode origin text = asked user mode origin (spelled (readText text))
+request user mode origin text = asked user mode origin (orNothing (readText text))
 
 -- ---- the single-path verdict
 

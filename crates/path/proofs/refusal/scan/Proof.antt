@@ -7,7 +7,7 @@ use lib.ListN.{length, drop}
 use Rattle.text.specs.Test.{_or_, if_then_else_, any}
 use Rattle.text.specs.Byte.{isStar}
 use Rattle.text.proofs.Scans.{any-turn, any-end}
-use Rattle.path.specs.Faults.{outsideName, outsideValue}
+use Rattle.path.specs.Refusal.{outsideName, outsideValue}
 use Rattle.path.proofs.Classes.{outside}
 use Rattle.path.proofs.refusal.scan.Statement.{statement}
 use Rattle.path.proofs.refusal.scan.Tie as tie

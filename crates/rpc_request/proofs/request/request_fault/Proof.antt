@@ -2,21 +2,21 @@
 use borrow.Author.Needs.{needs}
 use mathlib.Core.Path.{sym, _∙_}
 use Rattle.text.specs.Test.{_or_, if_then_else_}
-use Rattle.rpc.specs.Request.{requestFault}
+use Rattle.rpc.specs.Request.{rpcRefusal}
 use Rattle.rpc_request.proofs.request.request_fault.Statement.{statement}
 use Rattle.rpc_request.proofs.request.request_fault.Tie as tie
 
 returns : tie.Need-returns
-unfolding requestFault _or_ if_then_else_
+unfolding rpcRefusal _or_ if_then_else_
 returns c = rw (sym (c .before .is-bad-text .ensures) ∙ c .if1 .taken)
 
 returns-2 : tie.Need-returns-2
-unfolding requestFault _or_ if_then_else_
+unfolding rpcRefusal _or_ if_then_else_
 returns-2 c = let at-is-bad-text = c .before .before .before in
     rw (sym (at-is-bad-text .is-bad-text .ensures) ∙ c .before .before .if1 .left, sym (c .before .is-bad-text2 .ensures) ∙ c .if2 .taken)
 
 returns-3 : tie.Need-returns-3
-unfolding requestFault _or_ if_then_else_
+unfolding rpcRefusal _or_ if_then_else_
 returns-3 c = let at-is-bad-text2 = c .before .before .before in
     rw (
       sym (at-is-bad-text2 .before .before .is-bad-text .ensures) ∙ at-is-bad-text2 .before .if1 .left,
@@ -25,7 +25,7 @@ returns-3 c = let at-is-bad-text2 = c .before .before .before in
     )
 
 returns-4 : tie.Need-returns-4
-unfolding requestFault _or_ if_then_else_
+unfolding rpcRefusal _or_ if_then_else_
 returns-4 c = let at-is-bad-text2 = c .before .before .before in
     rw (
       sym (at-is-bad-text2 .before .before .is-bad-text .ensures) ∙ at-is-bad-text2 .before .if1 .left,

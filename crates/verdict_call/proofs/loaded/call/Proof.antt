@@ -6,7 +6,7 @@ use lib.ListN.{length-replicate}
 use lib.Seq.{length-take-le}
 use Rattle.limits.specs.Sizes.{maxPathBytes}
 use Rattle.path.specs.Path.{Path}
-use Rattle.path.specs.Faults.{keyTwice}
+use Rattle.path.specs.Refusal.{keyTwice}
 use Rattle.verdict.specs.Verdict.{decider, tree}
 use Rattle.verdict_request.specs.Calls.{asked, request, decidedBy, spread}
 use Rattle.verdict_request.specs.declared.Verdict.the-variants as verdicts
