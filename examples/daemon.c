@@ -104,18 +104,12 @@ static uint32_t mode_named(const char *name)
     return is(name, "read") ? BURGEE_READ : is(name, "write") ? BURGEE_WRITE : 0;
 }
 
-/* Whether a request is served. A refused one is not: nothing was decided about it. */
-static bool is_permitted(uint64_t answer)
-{
-    return burgee_answer_refusal(answer) == 0 && burgee_answer_action(answer) == BURGEE_PERMIT;
-}
-
 /* A subscription is accepted on the path's own verdict; then the tree is ALL or MIXED. */
 static void subscribe(const char *user, const char *path)
 {
     uint64_t own = burgee_record_probe_path(HOST(&table_host), SLICE(user), BURGEE_READ, SLICE(""), SLICE(path));
     uint64_t tree = burgee_record_probe_tree(HOST(&table_host), SLICE(user), BURGEE_READ, SLICE(""), SLICE(path));
-    if (!is_permitted(own)) {
+    if (!burgee_is_permitted(own)) {
         printf("not accepted");
     } else if (burgee_answer_tree(tree) == BURGEE_TREE_ALL) {
         printf("accepted, and every update may go out");

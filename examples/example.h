@@ -22,7 +22,7 @@ static inline bool print_refusal(uint64_t answer)
         return false;
     }
     printf("refused with %u", number);
-    if (number <= BURGEE_REFUSED_TABLE_UNLISTED) {
+    if (burgee_answer_line(answer) != 0) {
         printf(" at line %u", (unsigned)burgee_answer_line(answer));
     }
     return true;
@@ -42,7 +42,7 @@ static inline void print_action(uint64_t answer)
     if (print_refusal(answer)) {
         return;
     }
-    printf("%s", burgee_answer_action(answer) == BURGEE_PERMIT ? "permit" : "deny");
+    printf("%s", burgee_is_permitted(answer) ? "permit" : "deny");
     if (burgee_answer_rule(answer) >= 0) {
         printf(" by rule %d", burgee_answer_rule(answer));
     } else {

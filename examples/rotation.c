@@ -15,9 +15,7 @@ int main(void)
         return 1;                                       /* refused, and nothing was stored */
     }
     uint64_t answer = burgee_record_probe_path(&record, store, sizeof store, SLICE("u"), BURGEE_READ, SLICE(""), SLICE("/a/b"));
-    if (burgee_answer_refusal(answer) == 0) {           /* else refused: with 22, were that no path */
-        printf("%s by rule %d\n", burgee_answer_action(answer) == BURGEE_PERMIT ? "permit" : "deny", burgee_answer_rule(answer));
-    }
+    printf("%s by rule %d\n", burgee_is_permitted(answer) ? "permit" : "deny", burgee_answer_rule(answer)); /* a refusal permits nothing */
     burgee_close(&record, store, sizeof store);         /* or burgee_finalize: the new table counts */
     return 0;
 }

@@ -6,9 +6,9 @@
  * Slices are not text with a closing NUL: the length says where they end. The slices
  * lent to one call do not overlap.
  *
- * Read an answer with the burgee_answer_... functions below. First ask for the
- * refusal number: a refusal has no other part but the line, where its number carries
- * one, and a refused call has stored nothing.
+ * Read an answer with the burgee_answer_... functions below. Of a refusal each of them
+ * gives the safe value (deny, NONE, no rule, no group, 0), so that a forgotten look at
+ * the refusal number permits nothing. A refused call has stored nothing.
  */
 #ifndef BURGEE_H
 #define BURGEE_H
@@ -69,53 +69,141 @@ static inline unsigned burgee_answer_refusal(uint64_t answer)
     return (unsigned)(answer & 0xFFu);
 }
 
-/* Of a refusal that carries a line: the line, counted from 1 (0 with number 1). */
+/* What a refusal number means, in the words of the command line; never NULL. */
+static inline const char *burgee_refusal_text(unsigned number)
+{
+    switch (number) {
+    case 0:
+        return "not refused";
+    case BURGEE_REFUSED_TABLE_LENGTH:
+        return "the table text is over 32,768 bytes";
+    case BURGEE_REFUSED_TABLE_HEX:
+        return "not a hex line: an even, nonzero count of digits 0-9a-f, then LF";
+    case BURGEE_REFUSED_TABLE_FRAME:
+        return "unknown kind or code byte, or the frame is too short or too long";
+    case BURGEE_REFUSED_TABLE_ORDER:
+        return "order of kinds: one version line first, then groups, members, rules";
+    case BURGEE_REFUSED_TABLE_LIMIT:
+        return "a limit passed, or an empty string that may not be empty";
+    case BURGEE_REFUSED_TABLE_BYTE:
+        return "a byte outside its set";
+    case BURGEE_REFUSED_TABLE_WILDCARD:
+        return "a wildcard misplaced, or an element named ...";
+    case BURGEE_REFUSED_TABLE_TWICE:
+        return "group name, member in a group, rule id, or key in an element twice";
+    case BURGEE_REFUSED_TABLE_UNLISTED:
+        return "the group is not listed";
+    case BURGEE_REFUSED_STORE:
+        return "the store is shorter than 65,536 bytes";
+    case BURGEE_REFUSED_ON:
+        return "a rotation is on already";
+    case BURGEE_REFUSED_OFF:
+        return "no rotation is on";
+    case BURGEE_REFUSED_NO_CANDIDATE:
+        return "there is no candidate";
+    case BURGEE_REFUSED_RECORD:
+        return "not a record: its kind, its slot, a length, or a candidate while no rotation is on";
+    case BURGEE_REFUSED_KIND:
+        return "the record is of the other kind";
+    case BURGEE_REFUSED_USER_OR_MODE:
+        return "user or mode not as a table allows: a user's name has 1 to 64 bytes that print";
+    case BURGEE_REFUSED_ORIGIN:
+        return "origin not as a table allows: it has at most 32 bytes that print";
+    case BURGEE_REFUSED_PATH:
+        return "not a path, as text (/ or /NAME[KEY=VALUE]..) or as bytes, within the limits of a rule's";
+    case BURGEE_REFUSED_BUFFER:
+        return "the result does not fit the buffer";
+    case BURGEE_REFUSED_POLICY_LENGTH:
+        return "the policy is over 16,384 bytes";
+    case BURGEE_REFUSED_POLICY_JSON:
+        return "not one JSON value, in printable bytes, nested to depth 16 at most";
+    case BURGEE_REFUSED_POLICY_TWICE:
+        return "a member name twice in one object";
+    case BURGEE_REFUSED_POLICY_SCHEMA:
+        return "not the schema of a policy";
+    case BURGEE_REFUSED_POLICY_ESCAPE:
+        return "a backslash in a string";
+    case BURGEE_REFUSED_POLICY_LIMIT:
+        return "a limit passed, or empty where that is not allowed";
+    case BURGEE_REFUSED_POLICY_STAR:
+        return "an asterisk elsewhere than at one end of a pattern";
+    case BURGEE_REFUSED_POLICY_KEY:
+        return "a barred or ill-spelt header key";
+    case BURGEE_REFUSED_POLICY_RULE:
+        return "a rule name twice in a list";
+    case BURGEE_REFUSED_IDENTITY:
+        return "identity or path over 256 bytes, or a byte of it does not print";
+    case BURGEE_REFUSED_HEADERS:
+        return "header lines ill-formed, over 8,192 bytes together, or a byte of a value does not print";
+    default:
+        return "no refusal number of this version";
+    }
+}
+
+/* The line that a refusal carries, counted from 1; 0 where there is none: with number 1,
+ * with a number past 9, and where the call was not refused. */
 static inline uint32_t burgee_answer_line(uint64_t answer)
 {
-    return (uint32_t)(answer >> 8);
+    unsigned number = burgee_answer_refusal(answer);
+    return number != 0 && number <= BURGEE_REFUSED_TABLE_UNLISTED ? (uint32_t)(answer >> 8) : 0;
+}
+
+/* Bits 8 to 63 of an answer; 0 of a refusal. For the readers below. */
+static inline uint64_t burgee_answer_accepted(uint64_t answer)
+{
+    return burgee_answer_refusal(answer) == 0 ? answer >> 8 : 0;
 }
 
 /* Of burgee_path_read and burgee_path_write: how many bytes were filled. */
 static inline uint32_t burgee_answer_length(uint64_t answer)
 {
-    return (uint32_t)(answer >> 8);
+    return (uint32_t)burgee_answer_accepted(answer);
 }
 
 /* Of burgee_group_count: how many groups hold the user, 0 to 64. */
 static inline unsigned burgee_answer_group_count(uint64_t answer)
 {
-    return (unsigned)(answer >> 8 & 0xFFu);
+    return (unsigned)(burgee_answer_accepted(answer) & 0xFFu);
 }
 
 /* Of burgee_group_count: the smallest number of a group that holds the user, groups
  * being numbered from 0 in the order of the table; -1 where none does. */
 static inline int burgee_answer_first_group(uint64_t answer)
 {
-    return (int)(answer >> 16 & 0xFFFFu) - 1;
+    return (int)(burgee_answer_accepted(answer) >> 8 & 0xFFFFu) - 1;
 }
 
-/* Of a verdict: 0 deny, 1 permit. */
 #define BURGEE_DENY 0u
 #define BURGEE_PERMIT 1u
-static inline unsigned burgee_answer_action(uint64_t answer)
+
+/* Of a path or an RPC verdict or probe: whether what was asked is permitted. It is not
+ * where the call was refused: nothing was decided then. */
+static inline int burgee_is_permitted(uint64_t answer)
 {
-    return (unsigned)(answer >> 8 & 0xFFu);
+    return (burgee_answer_accepted(answer) & 0xFFu) == BURGEE_PERMIT;
 }
 
-/* Of a tree verdict: 0 NONE, 1 ALL, 2 MIXED. */
+/* Of a path or an RPC verdict or probe: 0 deny, 1 permit. */
+static inline unsigned burgee_answer_action(uint64_t answer)
+{
+    return burgee_is_permitted(answer) ? BURGEE_PERMIT : BURGEE_DENY;
+}
+
+/* Of a tree verdict or probe: 0 NONE, 1 ALL, 2 MIXED. */
 #define BURGEE_TREE_NONE 0u
 #define BURGEE_TREE_ALL 1u
 #define BURGEE_TREE_MIXED 2u
 static inline unsigned burgee_answer_tree(uint64_t answer)
 {
-    return (unsigned)(answer >> 8 & 0xFFu);
+    unsigned tree = (unsigned)(burgee_answer_accepted(answer) & 0xFFu);
+    return tree <= BURGEE_TREE_MIXED ? tree : BURGEE_TREE_NONE;
 }
 
 /* The number of the rule that decided, or that MIXED names, rules being numbered
  * from 0 in the order of their text; -1 where there is none, as by default. */
 static inline int burgee_answer_rule(uint64_t answer)
 {
-    return (int)(answer >> 16 & 0xFFFFu) - 1;
+    return (int)(burgee_answer_accepted(answer) >> 8 & 0xFFFFu) - 1;
 }
 
 /* ---- Paths --------------------------------------------------------------------- */
