@@ -181,6 +181,7 @@ others() {
 2,731           header lines that fit: the size of an array
 131,072         what the command line takes of a file
 1,528 2,353     measured: names that found their place taken
+65,248          measured: the stack of an upload (rust/tests/stack.rs)
 END
 }
 

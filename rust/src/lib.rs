@@ -21,6 +21,7 @@ pub mod lent;
 pub mod limits;
 pub mod measure;
 pub mod pages;
+pub mod painted_stack;
 pub mod path;
 pub mod pattern;
 pub mod policy;
