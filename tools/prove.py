@@ -214,6 +214,8 @@ def rewrite(places, need, lemmas):
             fact = f"{way} .{thing} .{side}"
             facts.append(f"{lemma} _ _ ({fact})" if lemma else f"sym ({way} .before .{chain[depth + 1][0]} .ensures) ∙ {fact}")
             lemmas |= {lemma} - {None}
+        elif thing.startswith("enum-told"):
+            facts.append(f"{way} .{thing} .given .1")
         elif depth == 0 and place.startswith("After-") and "known" not in thing:
             call = f"{way} .{thing} .ensures"
     if not facts:

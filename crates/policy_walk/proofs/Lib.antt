@@ -1,3 +1,3 @@
 pub mod Kept
 pub mod Labels
-pub mod Faults
+pub mod Refusals
