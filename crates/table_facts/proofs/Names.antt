@@ -14,7 +14,7 @@ use Rattle.text.specs.Steps.{Wrote}
 use Rattle.text.proofs.Tests.{by}
 use Rattle.text.proofs.Filling.{wrote-nothing}
 use Rattle.table_place.specs.Place.{strEnd, strIn}
-use Rattle.table_rows.specs.Strings.{stringsIn, rowsOf as listOf}
+use Rattle.table_rows.specs.Strings.{stringsIn, rowsOf}
 use Rattle.table_rows.specs.Rules.{idStart, originStart}
 use Rattle.table_rows.proofs.RuleBytes.{rule-parts}
 use Rattle.table_rows.proofs.Grow.{rows-length, rows-at, strings-length, strings-at}
@@ -67,8 +67,8 @@ module _ (f starts : List ℕ) (n k : ℕ) where
 
 -- ---- the id of rule number k
 
-ids-read : (f starts : List ℕ) (rs : List table.Rule) (i : ℕ) → RulesAt f starts rs i → listOf (λ j. strIn f (idStart f (getD starts j 0))) (length rs) i ≡ map (λ (r : table.Rule). r .id) rs
-unfolding RulesAt listOf
+ids-read : (f starts : List ℕ) (rs : List table.Rule) (i : ℕ) → RulesAt f starts rs i → rowsOf (λ j. strIn f (idStart f (getD starts j 0))) (length rs) i ≡ map (λ (r : table.Rule). r .id) rs
+unfolding RulesAt rowsOf
 ids-read f starts [] i h = refl
 ids-read f starts (r ∷ rs) i h = ap₂ _∷_ (sym (rule-parts f (getD starts i 0) r (h .0 .0) (h .0 .1) .id)) (ids-read f starts rs (suc i) (h .1))
 
@@ -85,7 +85,7 @@ id-inside f s h = omega arith
 module _ (f starts : List ℕ) (n k : ℕ) where
   pub id-past : (d : List ℕ) → n ≤ k → Wrote d 0 (fitting d (getD (idsIn f starts n) k [])) d 0
   unfolding idsIn
-  id-past d h = rw (beyond (listOf (λ j. strIn f (idStart f (getD starts j 0))) n 0) k (omega (arith, rows-length (λ j. strIn f (idStart f (getD starts j 0))) n 0))) (wrote-none d)
+  id-past d h = rw (beyond (rowsOf (λ j. strIn f (idStart f (getD starts j 0))) n 0) k (omega (arith, rows-length (λ j. strIn f (idStart f (getD starts j 0))) n 0))) (wrote-none d)
 
   pub id-at : (d d′ : List ℕ) (r : ℕ) → k < n → Wrote d 0 (fitting d (strIn f (idStart f (getD starts k 0)))) d′ r → Wrote d 0 (fitting d (getD (idsIn f starts n) k [])) d′ r
   unfolding idsIn
