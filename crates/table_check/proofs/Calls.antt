@@ -22,10 +22,10 @@ use Rattle.table_load.specs.declared.row.Counts.{Counts}
 use Rattle.table_load.specs.declared.Loaded.{Loaded}
 use Rattle.table_load.specs.declared.Loaded.the-variants.{Table, Refused}
 use Rattle.table_load.specs.Loaded.{Kept, Outcome}
-use Rattle.table_membership.specs.Set.{Members, setIn, countIn}
+use Rattle.table_membership.specs.Set.{UserGroups, Members, setIn, countIn}
 use Rattle.table_check.specs.declared.Seen.{Seen}
 use Rattle.table_check.specs.declared.Seen.the-variants as seen
-use Rattle.table_check.specs.Look.{Told, Looked}
+use Rattle.table_check.specs.Look.{TableTold, Looked}
 use Rattle.table_membership.proofs.Sets.{has-lists, count-is, first-is}
 
 module _ (text : Str) (r : Loaded) (buf groups users owners starts holders : List ℕ) (o : Outcome text r buf groups users owners starts holders) where
@@ -47,7 +47,7 @@ module _ (text user : Str) (r : Seen) (o : Looked text user r) where
   unfolding Looked
   look-refused n l e = subst (λ (x : Seen). Looked text user x) e o
 
-  pub look-told : (c : Counts) (set : ℕ) → r ≡ seen.Table c set → Told text user c set
+  pub look-told : (c : Counts) (set : ℕ) → r ≡ seen.Table c set → TableTold text user c set
   unfolding Looked
   look-told c set e = subst (λ (x : Seen). Looked text user x) e o
 
@@ -94,12 +94,15 @@ module _ {text buf : List ℕ} {u : ℕ} {c : Counts} {groups users owners start
   unfolding membersIn
   members-long = ap length (K .holds .members-are) ∙ rows-length (memberIn (tableOf text .groups) owners (take u buf) users) (c .members) 0
 
-  pub told : (user : Str) → Told text user c (setIn user (take u buf) users owners (c .members) 0 0)
+  pub grouped : (user : Str) → UserGroups (tableOf text) user (setIn user (take u buf) users owners (c .members) 0 0)
+  grouped user g h = has-lists (tableOf text .groups) (tableOf text .members) user (take u buf) users owners (c .members) (K .holds .distinct) (K .holds .members-are) own-named g h
+
+  pub told : (user : Str) → TableTold text user c (setIn user (take u buf) users owners (c .members) 0 0)
   told user = record {
     accepts = K .accepts;
     groups = sym named-long;
     members = sym members-long;
     rules = sym (K .holds .rules-count);
-    has = has-lists (tableOf text .groups) (tableOf text .members) user (take u buf) users owners (c .members) (K .holds .distinct) (K .holds .members-are) own-named;
+    has = grouped user;
     count = count-kept user;
   }

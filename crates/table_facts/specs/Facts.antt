@@ -8,7 +8,7 @@ use Rattle.text.specs.String.{Str}
 use Rattle.table.specs.Table.{Table}
 use Rattle.table.specs.Table as rule
 use Rattle.table_rows.specs.Strings.{rowsOf}
-use Rattle.table_rows.specs.Rules.{idStart, originStart}
+use Rattle.table_rows.specs.Rules.{idAt, originAt}
 use Rattle.table_place.specs.Place.{strIn}
 use Rattle.table.specs.declared.Checked.{Checked}
 use Rattle.table.specs.declared.Checked.the-variants as checked
@@ -22,16 +22,16 @@ nameOf checked.Accepted t (Group g) = getD (t .groups) (g .0) []
 nameOf checked.Accepted t (Rule k) = getD (map (λ (r : rule.Rule). r .id) (t .rules)) (k .0) []
 
 -- what is stored of a name into d: nothing where it does not fit
-unfoldable pub fitting : List ℕ → Str → Str
-fitting d s = if ltb (length d) (length s) then [] else s
+unfoldable pub storedOf : List ℕ → Str → Str
+storedOf d s = if ltb (length d) (length s) then [] else s
 
 -- ---- ids by the positions of rules in decoded bytes
 
 -- those of n rules
 unfoldable pub idsIn : List ℕ → List ℕ → ℕ → List Str
-idsIn f starts n = rowsOf (λ j. strIn f (idStart f (getD starts j 0))) n 0
+idsIn f starts n = rowsOf (λ j. strIn f (idAt f (getD starts j 0))) n 0
 
 -- they lie within the bytes, and `starts` has the rules' positions
 pub record Identified (f starts : List ℕ) (n : ℕ) : Type 0 where
-  pub laid : (i : ℕ) → i < n → originStart f (getD starts i 0) ≤ length f
+  pub laid : (i : ℕ) → i < n → originAt f (getD starts i 0) ≤ length f
   pub room : n ≤ length starts

@@ -6,7 +6,7 @@ ghost use Rattle.text.specs.Steps.{Wrote};
 ghost use Rattle.table_place.specs.Place.{strEnd, strIn};
 ghost use Rattle.table_rows.specs.Strings.{stringsIn, Listed};
 ghost use Rattle.table.specs.Text.{check, tableOf};
-ghost use Rattle.table_facts.specs.Facts.{nameOf, fitting, idsIn, Identified};
+ghost use Rattle.table_facts.specs.Facts.{nameOf, storedOf, idsIn, Identified};
 use table::GroupNumber;
 use table::RuleNumber;
 use table_load::Loaded;
@@ -20,7 +20,7 @@ pub enum Row {
 // Puts the string at `at` at the start of out, if it fits, and answers its length.
 fn copy_at(f: &[u8], at: usize, out: &mut [u8]) -> usize
     requires { ⌜ strEnd (now f) at ≤ length (now f) ⌝ }
-    ensures { λ r. ⌜ Wrote (now (out .entry)) 0 (fitting (now (out .entry)) (strIn (now (f .entry)) at)) (now (out .exit)) r ⌝ }
+    ensures { λ r. ⌜ Wrote (now (out .entry)) 0 (storedOf (now (out .entry)) (strIn (now (f .entry)) at)) (now (out .exit)) r ⌝ }
 {
     let n = f[at] as usize;
     if out.len() < n {
@@ -36,7 +36,7 @@ fn copy_at(f: &[u8], at: usize, out: &mut [u8]) -> usize
 fn copy_number(f: &[u8], starts: &[u16], n: usize, k: usize, out: &mut [u8]) -> usize
     requires { ⌜ Listed (now f) (now starts) n ⌝ }
     ensures { λ r. ⌜ Wrote (now (out .entry)) 0
-        (fitting (now (out .entry)) (getD (stringsIn (now (f .entry)) (now (starts .entry)) n 0) k []))
+        (storedOf (now (out .entry)) (getD (stringsIn (now (f .entry)) (now (starts .entry)) n 0) k []))
         (now (out .exit)) r ⌝ }
 {
     if n <= k {
@@ -50,7 +50,7 @@ fn copy_number(f: &[u8], starts: &[u16], n: usize, k: usize, out: &mut [u8]) -> 
 fn copy_id(f: &[u8], starts: &[u16], n: usize, k: usize, out: &mut [u8]) -> usize
     requires { ⌜ Identified (now f) (now starts) n ⌝ }
     ensures { λ r. ⌜ Wrote (now (out .entry)) 0
-        (fitting (now (out .entry)) (getD (idsIn (now (f .entry)) (now (starts .entry)) n) k []))
+        (storedOf (now (out .entry)) (getD (idsIn (now (f .entry)) (now (starts .entry)) n) k []))
         (now (out .exit)) r ⌝ }
 {
     if n <= k {
@@ -64,7 +64,7 @@ fn copy_id(f: &[u8], starts: &[u16], n: usize, k: usize, out: &mut [u8]) -> usiz
 // Puts the name of a row at the start of out, if it fits, and answers its length; 0 also where there is no such row.
 pub fn name_of(text: &[u8], row: Row, out: &mut [u8]) -> usize
     ensures { λ r. ⌜ Wrote (now (out .entry)) 0
-        (fitting (now (out .entry)) (nameOf (check (now (text .entry))) (tableOf (now (text .entry))) row))
+        (storedOf (now (out .entry)) (nameOf (check (now (text .entry))) (tableOf (now (text .entry))) row))
         (now (out .exit)) r ⌝ }
 {
     let mut buf = [0u8; limits::MAX_TABLE_BYTES];

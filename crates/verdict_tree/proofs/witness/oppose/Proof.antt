@@ -6,7 +6,7 @@ use borrow.Author.Tests.{not-true, not-false}
 use Rattle.table.specs.Table.{Rule}
 use Rattle.verdict.specs.Order.{earlier}
 use Rattle.table_place.specs.Place.{elemsIn}
-use Rattle.verdict_judge.specs.Rules.{rulesIn}
+use Rattle.table_rows.specs.Rules.{rulesIn}
 use Rattle.verdict_judge.proofs.Parts.{rule-room}
 use Rattle.verdict_judge.proofs.Steps.{step-off, step-miss, step-keep, step-take}
 use Rattle.verdict_tree.specs.Tree.{permitsBoth}

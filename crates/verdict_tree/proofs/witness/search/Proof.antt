@@ -10,7 +10,7 @@ use Rattle.table.specs.Table.{Rule}
 use Rattle.verdict.specs.Order.{earlier, choose, prefer}
 use Rattle.verdict.proofs.Order.{earlier-order}
 use Rattle.table_place.specs.Place.{elemsIn}
-use Rattle.verdict_judge.specs.Rules.{rulesIn}
+use Rattle.table_rows.specs.Rules.{rulesIn}
 use Rattle.verdict_judge.specs.Best.{held, Sound, NumberBelow}
 use Rattle.verdict_judge.specs.declared.best.Best.{Best}
 use Rattle.verdict_judge.proofs.Steps.{best-none, best-turn, best-end}
