@@ -1,8 +1,9 @@
 // Which rules match a request, in ranking order, and the step of the ranking at which each lost to the first.
 ghost use Prim.Native.Nat.{_≤_};
 ghost use lib.ListN.{length};
-ghost use Rattle.verdict_judge.specs.Rules.{ruleEnd, Placed};
-ghost use Rattle.verdict_explain.specs.Ranking.{Listed};
+ghost use Rattle.table_rows.specs.Rules.{ruleEnd};
+ghost use Rattle.verdict_judge.specs.Rules.{Placed};
+ghost use Rattle.verdict_explain.specs.Ranking.{RuleNumbers};
 use path_read::Filled;
 use table_load::Loaded;
 use verdict_explain::Standing;
@@ -66,7 +67,7 @@ fn rule(f: &[u8], place: usize, number: u16, s: usize, best: usize)
 
 // The first m rules of `order`, of n in all.
 fn ranked(f: &[u8], starts: &[u16], n: usize, order: &[u16], m: usize)
-    requires { ⌜ Placed (now f) (now starts) n × Listed (now order) n m × (n ≤ length (now order)) ⌝ }
+    requires { ⌜ Placed (now f) (now starts) n × RuleNumbers (now order) n m × (n ≤ length (now order)) ⌝ }
 {
     let mut i = 0;
     while i < m {

@@ -1,23 +1,19 @@
 // A rule table's check, a user's groups, the verdicts.
 use table::Counted;
 use table::GroupNumber;
+use table_check::Seen;
 use table_facts::Row;
-use table_facts::Rows;
 
 // How many rows of each kind an accepted table has, or why it is refused.
 pub fn check(text: &[u8]) {
-    let r = table_facts::count_rows(text);
-    match r {
-        Rows::Count {
-            groups,
-            members,
-            rules,
-        } => {
-            cli_console::say::count(b"accepted\ngroups ", groups);
-            cli_console::say::count(b"members ", members);
-            cli_console::say::count(b"rules ", rules);
+    let l = table_check::look(text, b"");
+    match l {
+        Seen::Table { counts, set } => {
+            cli_console::say::count(b"accepted\ngroups ", counts.groups);
+            cli_console::say::count(b"members ", counts.members);
+            cli_console::say::count(b"rules ", counts.rules);
         }
-        Rows::Refused { number, line } => cli_console::refusal::of_text(text, number, line),
+        Seen::Refused { number, line } => cli_console::refusal::of_text(text, number, line),
     }
 }
 
@@ -31,10 +27,13 @@ fn group(text: &[u8], number: GroupNumber) {
 
 // Each group that lists the user.
 fn list(text: &[u8], user: &[u8]) {
+    let Seen::Table { counts, set } = table_check::look(text, user) else {
+        return;
+    };
     let mut g = 0;
     while g < limits::MAX_GROUPS {
         let number = GroupNumber(g as u8);
-        if table_facts::is_listed(text, user, number) {
+        if table_membership::has(set, number) {
             group(text, number);
         }
         g += 1;

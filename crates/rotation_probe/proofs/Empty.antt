@@ -13,12 +13,13 @@ use Rattle.table.specs.Table.{Table}
 use Rattle.verdict.specs.Order.{choose}
 use Rattle.verdict.specs.Verdict.{Request, decider, action, permits, word, answer, tree, NONE}
 use Rattle.verdict.specs.Orderly.{Orderly}
-use Rattle.verdict_judge.specs.Rules.{rulesIn}
+use Rattle.table_rows.specs.Rules.{rulesIn}
 use Rattle.table.specs.declared.Checked.the-variants.{Accepted}
 use Rattle.verdict_request.specs.Calls.{pathAnswer, treeAnswer}
 use Rattle.verdict_request.specs.Either.{oneOf}
 use Rattle.verdict_concern.specs.Concern.{Safe}
-use Rattle.verdict_call.specs.Holding.{Holding, Groups}
+use Rattle.table_membership.specs.Set.{UserGroups}
+use Rattle.verdict_call.specs.Holding.{Holding}
 
 abbrev pub empty : Table
 empty = record { groups = []; members = []; rules = [] }
@@ -51,5 +52,5 @@ pub holding : (f starts holders : List ℕ) → Holding empty f starts holders 0
 unfolding rulesIn rowsOf
 holding f starts holders = record { orderly = orderly; rules = refl; groups = λ i l. absurd (omega arith) }
 
-pub groups : (user : Str) (set : ℕ) → Groups empty user set
+pub groups : (user : Str) (set : ℕ) → UserGroups empty user set
 groups user set g l = absurd (omega arith)

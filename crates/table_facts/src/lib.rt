@@ -1,5 +1,4 @@
-// Facts about a table text: how many rows of each kind it has, which groups list a user, what a group or a rule is called.
-ghost use mathlib.Core.Path.{_≡_};
+// What a group or a rule of a table text is called.
 ghost use mathlib.Core.List.{[]};
 ghost use Prim.Native.Nat.{_≤_};
 ghost use lib.ListN.{length, getD};
@@ -7,84 +6,10 @@ ghost use Rattle.text.specs.Steps.{Wrote};
 ghost use Rattle.table_place.specs.Place.{strEnd, strIn};
 ghost use Rattle.table_rows.specs.Strings.{stringsIn, Listed};
 ghost use Rattle.table.specs.Text.{check, tableOf};
-ghost use Rattle.table_facts.specs.Facts.{rowsOf, isListed, nameOf, fitting, idsIn, Identified};
+ghost use Rattle.table_facts.specs.Facts.{nameOf, storedOf, idsIn, Identified};
 use table::GroupNumber;
 use table::RuleNumber;
 use table_load::Loaded;
-
-// The answer of a count of rows.
-pub enum Rows {
-    Count {
-        groups: usize,
-        members: usize,
-        rules: usize,
-    },
-    Refused {
-        number: u8,
-        line: usize,
-    },
-}
-
-// How many rows of each kind the table has, or why it is refused.
-pub fn count_rows(text: &[u8]) -> Rows
-    ensures { λ r. ⌜ r ≡ rowsOf (check (now (text .entry))) (tableOf (now (text .entry))) ⌝ }
-{
-    let mut buf = [0u8; limits::MAX_TABLE_BYTES];
-    let mut groups = [0u16; limits::MAX_GROUPS];
-    let mut users = [0u16; limits::MAX_MEMBERS];
-    let mut owners = [0u8; limits::MAX_MEMBERS];
-    let mut starts = [0u16; limits::MAX_RULES];
-    let mut holders = [0u8; limits::MAX_RULES];
-    let l = table_load::load(
-        text,
-        &mut buf,
-        &mut groups,
-        &mut users,
-        &mut owners,
-        &mut starts,
-        &mut holders,
-    );
-    match l {
-        Loaded::Table { used, counts } => Rows::Count {
-            groups: counts.groups,
-            members: counts.members,
-            rules: counts.rules,
-        },
-        Loaded::Refused { number, line } => Rows::Refused {
-            number: number,
-            line: line,
-        },
-    }
-}
-
-// Whether the group of that number lists the user.
-pub fn is_listed(text: &[u8], user: &[u8], group: GroupNumber) -> bool
-    ensures { λ r. ⌜ r ≡ isListed (check (now (text .entry))) (tableOf (now (text .entry))) (now (user .entry)) (group .0) ⌝ }
-{
-    let mut buf = [0u8; limits::MAX_TABLE_BYTES];
-    let mut groups = [0u16; limits::MAX_GROUPS];
-    let mut users = [0u16; limits::MAX_MEMBERS];
-    let mut owners = [0u8; limits::MAX_MEMBERS];
-    let mut starts = [0u16; limits::MAX_RULES];
-    let mut holders = [0u8; limits::MAX_RULES];
-    let l = table_load::load(
-        text,
-        &mut buf,
-        &mut groups,
-        &mut users,
-        &mut owners,
-        &mut starts,
-        &mut holders,
-    );
-    let Loaded::Table { used, counts } = l else {
-        return false;
-    };
-    if counts.groups <= group.0 as usize {
-        return false;
-    }
-    let set = table_membership::memberships(&buf[..used], &users, &owners, counts.members, user);
-    table_membership::has(set, group)
-}
 
 // A row that has a name: a rule's is its id.
 pub enum Row {
@@ -95,7 +20,7 @@ pub enum Row {
 // Puts the string at `at` at the start of out, if it fits, and answers its length.
 fn copy_at(f: &[u8], at: usize, out: &mut [u8]) -> usize
     requires { ⌜ strEnd (now f) at ≤ length (now f) ⌝ }
-    ensures { λ r. ⌜ Wrote (now (out .entry)) 0 (fitting (now (out .entry)) (strIn (now (f .entry)) at)) (now (out .exit)) r ⌝ }
+    ensures { λ r. ⌜ Wrote (now (out .entry)) 0 (storedOf (now (out .entry)) (strIn (now (f .entry)) at)) (now (out .exit)) r ⌝ }
 {
     let n = f[at] as usize;
     if out.len() < n {
@@ -111,7 +36,7 @@ fn copy_at(f: &[u8], at: usize, out: &mut [u8]) -> usize
 fn copy_number(f: &[u8], starts: &[u16], n: usize, k: usize, out: &mut [u8]) -> usize
     requires { ⌜ Listed (now f) (now starts) n ⌝ }
     ensures { λ r. ⌜ Wrote (now (out .entry)) 0
-        (fitting (now (out .entry)) (getD (stringsIn (now (f .entry)) (now (starts .entry)) n 0) k []))
+        (storedOf (now (out .entry)) (getD (stringsIn (now (f .entry)) (now (starts .entry)) n 0) k []))
         (now (out .exit)) r ⌝ }
 {
     if n <= k {
@@ -125,7 +50,7 @@ fn copy_number(f: &[u8], starts: &[u16], n: usize, k: usize, out: &mut [u8]) -> 
 fn copy_id(f: &[u8], starts: &[u16], n: usize, k: usize, out: &mut [u8]) -> usize
     requires { ⌜ Identified (now f) (now starts) n ⌝ }
     ensures { λ r. ⌜ Wrote (now (out .entry)) 0
-        (fitting (now (out .entry)) (getD (idsIn (now (f .entry)) (now (starts .entry)) n) k []))
+        (storedOf (now (out .entry)) (getD (idsIn (now (f .entry)) (now (starts .entry)) n) k []))
         (now (out .exit)) r ⌝ }
 {
     if n <= k {
@@ -139,7 +64,7 @@ fn copy_id(f: &[u8], starts: &[u16], n: usize, k: usize, out: &mut [u8]) -> usiz
 // Puts the name of a row at the start of out, if it fits, and answers its length; 0 also where there is no such row.
 pub fn name_of(text: &[u8], row: Row, out: &mut [u8]) -> usize
     ensures { λ r. ⌜ Wrote (now (out .entry)) 0
-        (fitting (now (out .entry)) (nameOf (check (now (text .entry))) (tableOf (now (text .entry))) row))
+        (storedOf (now (out .entry)) (nameOf (check (now (text .entry))) (tableOf (now (text .entry))) row))
         (now (out .exit)) r ⌝ }
 {
     let mut buf = [0u8; limits::MAX_TABLE_BYTES];

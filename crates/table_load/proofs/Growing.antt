@@ -29,7 +29,7 @@ use Rattle.table_keep.proofs.Members.{bytes-snoc, place-far}
 use Rattle.table_keep_rule.specs.Kept.{idsOf, idPlace, RuleKept}
 use Rattle.table_keep_rule.proofs.Rules.{ids-length, ids-snoc, id-far}
 use Rattle.table_load.specs.declared.row.Counts.{Counts}
-use Rattle.table_load.specs.Held.{RulesAt, HoldersAt, Holds, Held, counted}
+use Rattle.table_load.specs.Held.{RulesAt, HoldersAt, Holds, Held, countsAfter}
 
 -- ---- a string that was read
 
@@ -125,8 +125,8 @@ module _ {b : Earlier} {old : List ℕ} {c : Counts} {groups users owners starts
   ids-set-stays : InSet idPlace (old ++ f) is maxRules (idsOf (b .rules))
   ids-set-stays = holds-longer f (λ y. id-far y .0) (G .ids-set)
 
-  pub grow-version : (v t : Str) → Held (with b (version v t)) (old ++ f) (counted c 1) groups users owners starts holders names ms is
-  unfolding with counted if_then_else_
+  pub grow-version : (v t : Str) → Held (with b (version v t)) (old ++ f) (countsAfter c 1) groups users owners starts holders names ms is
+  unfolding with countsAfter if_then_else_
   grow-version v t =
       (record { kind = refl; holds = holds-stay f H 1; named = names-stay; members-set = members-set-stays; ids-set = ids-set-stays; sets-long = G .sets-long })
 
@@ -166,8 +166,8 @@ module _ {b : Earlier} {old : List ℕ} {c : Counts} {groups users owners starts
           long = record { of-groups = length-set groups (c .groups) (length old + 1) ∙ H .long .of-groups; of-users = H .long .of-users; of-owners = H .long .of-owners; of-starts = H .long .of-starts; of-holders = H .long .of-holders };
         }
 
-    pub grow-group : Held (with b (group (K .name))) (old ++ f) (counted c 2) groups′ users owners starts holders names′ ms is
-    unfolding with counted if_then_else_
+    pub grow-group : Held (with b (group (K .name))) (old ++ f) (countsAfter c 2) groups′ users owners starts holders names′ ms is
+    unfolding with countsAfter if_then_else_
     grow-group =
         rw (K .starts-set)
         (record { kind = refl; holds = holds-group; named = rw (H .groups-are) (K .named); members-set = members-set-stays; ids-set = ids-set-stays; sets-long = G .sets-long })
@@ -242,8 +242,8 @@ module _ {b : Earlier} {old : List ℕ} {c : Counts} {groups users owners starts
         let m : b .members ≡ membersIn (stringsIn old groups (c .groups) 0) owners old users n = H .members-are ∙ ap (λ (l : List Str). membersIn l owners old users n) (H .groups-are) in
         rw (bytes-snoc (b .members) (record { group = K .group; user = K .user }), m) (K .held)
 
-    pub grow-member : Held (with b (member (record { group = K .group; user = K .user }))) (old ++ f) (counted c 3) groups users′ owners′ starts holders names ms′ is
-    unfolding with counted if_then_else_
+    pub grow-member : Held (with b (member (record { group = K .group; user = K .user }))) (old ++ f) (countsAfter c 3) groups users′ owners′ starts holders names ms′ is
+    unfolding with countsAfter if_then_else_
     grow-member =
         rw (K .users-set, K .owners-set)
         (record {
@@ -288,8 +288,8 @@ module _ {b : Earlier} {old : List ℕ} {c : Counts} {groups users owners starts
           long = record { of-groups = H .long .of-groups; of-users = H .long .of-users; of-owners = H .long .of-owners; of-starts = length-set starts m (length old + 1) ∙ H .long .of-starts; of-holders = length-set holders m (K .holder) ∙ H .long .of-holders };
         }
 
-    pub grow-rule : Held (with b (rule x)) (old ++ f) (counted c 4) groups users owners starts′ holders′ names ms is′
-    unfolding with counted if_then_else_
+    pub grow-rule : Held (with b (rule x)) (old ++ f) (countsAfter c 4) groups users owners starts′ holders′ names ms is′
+    unfolding with countsAfter if_then_else_
     grow-rule =
         same-arrays (K .starts-set) (K .holders-set)
         (record {

@@ -32,7 +32,7 @@ use Rattle.text_sorted.proofs.Growing.{none as none-sorted, none-there as no-na
 use Rattle.text_set.proofs.Sets.{holds-none}
 use Rattle.table_keep.specs.Held.{memberKeys, membersIn, bytesOf, memberPlace}
 use Rattle.table_keep_rule.specs.Kept.{idsOf, idKeys, idPlace}
-use Rattle.table_load.specs.Held.{RulesAt, HoldersAt, Long, Held, counted}
+use Rattle.table_load.specs.Held.{RulesAt, HoldersAt, Long, Held, countsAfter}
 use Rattle.table_load.specs.Loaded.{Grown, Outcome}
 
 -- ---- stored bytes
@@ -219,13 +219,13 @@ module _ {text buf : List ℕ} {c : Counts} {groups users owners starts holders 
         reads-this : framed (entryOf (part buf′ used (used + len))) ≡ reads (W .this)
         reads-this = framed-some (part buf′ used (used + len)) (W .this) (W .reads)
 
-        pub load-again : (c′ : Counts) → c′ ≡ counted c (getD buf′ used 0) → Going text buf′ c′ groups′ users′ owners′ starts′ holders′ names′ ms′ is′ next (used + len) (number + 1)
+        pub load-again : (c′ : Counts) → c′ ≡ countsAfter c (getD buf′ used 0) → Going text buf′ c′ groups′ users′ owners′ starts′ holders′ names′ ms′ is′ next (used + len) (number + 1)
         unfolding after allTold
         load-again c′ p =
             let q = ens (G .b) held-again .0 in
             let l : len ≡ used + len - used = omega arith in
             let t : take (used + len) buf′ ≡ take used buf′ ++ part buf′ used (used + len) = take-add used len buf′ ∙ ap (λ (k : ℕ). take used buf′ ++ take k (drop used buf′)) l in
-            let k : c′ ≡ counted c (getD (part buf′ used (used + len)) 0 0) = p ∙ ap (counted c) (sym (part-first buf′ used (used + len) (row-room .0))) in
+            let k : c′ ≡ countsAfter c (getD (part buf′ used (used + len)) 0 0) = p ∙ ap (countsAfter c) (sym (part-first buf′ used (used + len) (row-room .0))) in
             record {
               b = with (G .b) (W .this);
               judged =

@@ -64,8 +64,8 @@ pub record Held (b : Earlier) (f : List ℕ) (c : Counts) (groups users owners s
   pub sets-long : (length member-keys ≡ memberKeys) × (length id-keys ≡ idKeys)
 
 -- the counts after one row more
-unfoldable pub counted : Counts → ℕ → Counts
-counted c kind =
+unfoldable pub countsAfter : Counts → ℕ → Counts
+countsAfter c kind =
     if eqb kind kindGroup then record { kind = kindGroup; groups = c .groups + 1; members = c .members; rules = c .rules }
     else if eqb kind kindMember then record { kind = kindMember; groups = c .groups; members = c .members + 1; rules = c .rules }
     else if eqb kind kindRule then record { kind = kindRule; groups = c .groups; members = c .members; rules = c .rules + 1 }

@@ -13,13 +13,13 @@ use Rattle.table.specs.declared.Checked.the-variants as checked
 use Rattle.table_load.specs.declared.row.Counts.{Counts}
 use Rattle.table_load.specs.declared.Loaded.{Loaded}
 use Rattle.table_load.specs.declared.Loaded.the-variants.{Table, Refused}
-use Rattle.table_load.specs.Held.{Holds, Held, counted}
+use Rattle.table_load.specs.Held.{Holds, Held, countsAfter}
 
 -- one row more is held
 pub record Grown (b : Earlier) (old f : List ℕ) (c : Counts) (groups users owners starts holders names member-keys id-keys : List ℕ) : Type 0 where
   pub this : Entry
   pub reads : entryOf f ≡ some this
-  pub held : Held (with b this) (old ++ f) (counted c (getD f 0 0)) groups users owners starts holders names member-keys id-keys
+  pub held : Held (with b this) (old ++ f) (countsAfter c (getD f 0 0)) groups users owners starts holders names member-keys id-keys
 
 -- the text is accepted, and the arrays hold its table
 pub record Kept (text : Str) (buf : List ℕ) (used : ℕ) (c : Counts) (groups users owners starts holders : List ℕ) : Type 0 where

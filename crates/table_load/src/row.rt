@@ -8,7 +8,7 @@ ghost use Rattle.text.specs.Refusal.{clear};
 ghost use Rattle.text.specs.Frame.{part};
 ghost use Rattle.table.specs.Frame.{entryOf};
 ghost use Rattle.table.specs.Refusal.{Earlier, framed, refusal};
-ghost use Rattle.table_load.specs.Held.{Held, counted};
+ghost use Rattle.table_load.specs.Held.{Held, countsAfter};
 ghost use Rattle.table_load.specs.Loaded.{Grown};
 
 // What the rows so far are: the kind of the last, and how many groups, members and rules.
@@ -22,7 +22,7 @@ pub struct Counts {
 // The counts after one row more, of that kind.
 pub fn after(c: Counts, kind: u8) -> Counts
     requires { ⌜ (c .groups ≤ maxGroups) × (c .members ≤ maxMembers) × (c .rules ≤ maxRules) ⌝ }
-    ensures { λ r. ⌜ r ≡ counted c kind ⌝ }
+    ensures { λ r. ⌜ r ≡ countsAfter c kind ⌝ }
 {
     if kind == table::KIND_GROUP {
         return Counts {

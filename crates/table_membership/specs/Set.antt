@@ -1,7 +1,8 @@
 -- A set of group numbers is a number: its binary digit at g is 1 for each group g in the set.
-use Prim.Native.Nat.{ℕ, zero, suc, _/_, _%_, _^_, _≤_}
+use Prim.Native.Nat.{ℕ, zero, suc, _/_, _%_, _^_, _≤_, _<_}
+use mathlib.Core.Path.{_≡_}
 use mathlib.Core.Bool.{Bool}
-use mathlib.Core.List.{List}
+use mathlib.Core.List.{List, []}
 use lib.Dec.{eqb}
 use lib.Bits.{bitOr}
 use lib.Count.{ones, trailingZeros}
@@ -12,7 +13,8 @@ use Rattle.text.specs.String.{Str, same}
 use Rattle.table_place.specs.Place.{strIn}
 use Rattle.table_rows.specs.Strings.{Listed}
 use Rattle.table_keep.specs.Held.{Owned}
-use Rattle.table.specs.Group.{badUser}
+use Rattle.table.specs.Table.{Table}
+use Rattle.table.specs.Group.{lists, badUser}
 use Rattle.table.specs.declared.Counted.{Counted}
 use Rattle.table.specs.declared.Counted.the-variants.{Count, NoGroup, Declined}
 use Rattle.table.specs.declared.GroupNumber.{GroupNumber}
@@ -25,6 +27,10 @@ insertOf set g = bitOr set (2 ^ g)
 -- group g is in the set
 abbrev pub hasOf : ℕ → ℕ → Bool
 hasOf set g = eqb (set / 2 ^ g % 2) 1
+
+-- the set has the numbers of the groups that list the user
+abbrev pub UserGroups : Table → Str → ℕ → Type 0
+UserGroups t user set = (g : ℕ) → g < length (t .groups) → hasOf set g ≡ lists (t .members) user (getD (t .groups) g [])
 
 -- what a search among n members needs: `users` has the position of each one's user in the bytes f, `owners` the number of its group
 pub record Members (f users owners : List ℕ) (n : ℕ) : Type 0 where

@@ -64,10 +64,9 @@ pub fn memberships(f: &[u8], users: &[u16], owners: &[u8], n: usize, user: &[u8]
     set
 }
 
-// The count of the user's groups, by the first n members.
-pub fn count_in(f: &[u8], users: &[u16], owners: &[u8], n: usize, user: &[u8]) -> Counted
-    requires { ⌜ Members (now f) (now users) (now owners) n ⌝ }
-    ensures { λ r. ⌜ r ≡ countIn (now (user .entry)) (setIn (now (user .entry)) (now (f .entry)) (now (users .entry)) (now (owners .entry)) n 0 0) ⌝ }
+// The count of the user's groups, which the set has.
+pub fn count_of(set: u64, user: &[u8]) -> Counted
+    ensures { λ r. ⌜ r ≡ countIn (now (user .entry)) set ⌝ }
 {
     if table::is_bad_user(user) {
         return Counted::Declined {
@@ -75,7 +74,6 @@ pub fn count_in(f: &[u8], users: &[u16], owners: &[u8], n: usize, user: &[u8]) -
             line: 0,
         };
     }
-    let set = memberships(f, users, owners, n, user);
     let count = u64::count_ones(set);
     if count == 0 {
         return Counted::NoGroup;

@@ -1,4 +1,4 @@
--- A rule that reads has its parts at their positions.
+-- A rule that reads is the one that stands at its position.
 use mathlib.Core.Path.{_≡_, refl, sym, ap, _∙_}
 use mathlib.Core.List.{List}
 use Prim.Native.Nat.{ℕ, _+_}
@@ -17,7 +17,7 @@ use Rattle.table.specs.Table.{Rule}
 use Rattle.table.specs.Frame.{unknown, code, ruleBody}
 use Rattle.table_place.specs.Place.{strEnd, strIn, pathIn}
 use Rattle.table_place.proofs.Reading.{str-read, path-read}
-use Rattle.table_rows.specs.Rules.{RuleParts}
+use Rattle.table_rows.specs.Rules.{idAt, originAt, pathAt, ruleIn, ruleEnd, RuleStands}
 
 -- what was read in two steps was read in each
 then-got : {A B : Type 0} (x : Parsed A) (k : A → ℕ → Parsed B) (b : B) (t : ℕ) → andThen x k ≡ got b t → (a : A) × (q : ℕ) × (x ≡ got a q) × (k a q ≡ got b t)
@@ -46,9 +46,9 @@ code-read f p a b m t e =
     let z = code-told f p a b m t (x .0) (x .1) (x .3) in
     (z .0 ∙ y .0, z .1 ∙ y .1)
 
-pub rule-parts : (f : List ℕ) (p : ℕ) (r : Rule) (t : ℕ) → ruleBody f p ≡ got r t → RuleParts f p r
-unfolding ruleBody _>>=_ ret
-rule-parts f p r t e =
+pub rule-read : (f : List ℕ) (p : ℕ) (r : Rule) (t : ℕ) → ruleBody f p ≡ got r t → RuleStands f p r
+unfolding ruleBody _>>=_ ret idAt originAt pathAt ruleIn ruleEnd
+rule-read f p r t e =
     let a = then-got (code 0 1 f p) _ r t e in
     let a′ = code-read f p 0 1 (a .0) (a .1) (a .2) in
     let m = then-got (code 1 2 f (a .1)) _ r t (a .3) in
@@ -70,14 +70,15 @@ rule-parts f p r t e =
     let p5 : i .1 ≡ strEnd f (strEnd f (p + 3)) = i′ .2 ∙ ap (strEnd f) p4 in
     let p6 : o .1 ≡ strEnd f (strEnd f (strEnd f (p + 3))) = o′ .2 ∙ ap (strEnd f) p5 in
     let z = made r (a .0) (m .0) (k .0) (s .0) (i .0) (o .0) (q .0) t (q .1) (q .3) in
+    let permit : r .permit ≡ eqb (getD f p 0) 1 = ap (λ (x : Rule). x .permit) z ∙ ap (λ (x : ℕ). eqb x 1) (a′ .0) in
+    let mode : r .mode ≡ getD f (p + 1) 0 = ap (λ (x : Rule). x .mode) z ∙ m′ .0 ∙ ap (λ (x : ℕ). getD f x 0) p1 in
+    let by-group : r .byGroup ≡ eqb (getD f (p + 2) 0) 1 = ap (λ (x : Rule). x .byGroup) z ∙ ap (λ (x : ℕ). eqb x 1) (k′ .0 ∙ ap (λ (x : ℕ). getD f x 0) p2) in
+    let subject : r .subject ≡ strIn f (p + 3) = ap (λ (x : Rule). x .subject) z ∙ s′ .1 ∙ ap (strIn f) p3 in
+    let id : r .id ≡ strIn f (idAt f p) = ap (λ (x : Rule). x .id) z ∙ i′ .1 ∙ ap (strIn f) p4 in
+    let origin : r .origin ≡ strIn f (originAt f p) = ap (λ (x : Rule). x .origin) z ∙ o′ .1 ∙ ap (strIn f) p5 in
+    let its-path : r .path ≡ pathIn f (pathAt f p) = ap (λ (x : Rule). x .path) z ∙ q′ .1 ∙ ap (pathIn f) p6 in
     record {
-      permit = ap (λ (x : Rule). x .permit) z ∙ ap (λ (x : ℕ). eqb x 1) (a′ .0);
-      mode = ap (λ (x : Rule). x .mode) z ∙ m′ .0 ∙ ap (λ (x : ℕ). getD f x 0) p1;
-      byGroup = ap (λ (x : Rule). x .byGroup) z ∙ ap (λ (x : ℕ). eqb x 1) (k′ .0 ∙ ap (λ (x : ℕ). getD f x 0) p2);
-      subject = ap (λ (x : Rule). x .subject) z ∙ s′ .1 ∙ ap (strIn f) p3;
-      id = ap (λ (x : Rule). x .id) z ∙ i′ .1 ∙ ap (strIn f) p4;
-      origin = ap (λ (x : Rule). x .origin) z ∙ o′ .1 ∙ ap (strIn f) p5;
-      path = ap (λ (x : Rule). x .path) z ∙ q′ .1 ∙ ap (pathIn f) p6;
+      is = λ x. record { permit = permit x; mode = mode x; byGroup = by-group x; subject = subject x; id = id x; origin = origin x; path = its-path x };
       id-fits = rw (sym p4) (i′ .0);
       fits = rw (sym p6) (q′ .0);
     }

@@ -14,7 +14,8 @@ use Rattle.table.specs.Table.{Rule, Table}
 use Rattle.table.specs.Group.{lists}
 use Rattle.verdict.specs.Order.{better, earlier, choose}
 use Rattle.verdict.specs.Verdict.{Request, concerns, applies, decider, action, permits, opposes, answer, tree}
-use Rattle.verdict_judge.specs.Rules.{ruleIn, rulesIn, Marked}
+use Rattle.table_rows.specs.Rules.{ruleIn, rulesIn}
+use Rattle.verdict_judge.specs.Rules.{Marked}
 use Rattle.verdict_judge.specs.Best.{held, matching}
 use Rattle.verdict_judge.specs.declared.best.Best.{Best}
 use Rattle.verdict_judge.proofs.Verdict.{decided}
@@ -22,11 +23,12 @@ use Rattle.verdict_tree.specs.Tree.{opposing, fitting, Weights}
 use Rattle.verdict_tree.proofs.Verdict.{opposed}
 use Rattle.verdict_concern.specs.Concern.{concernsBy, appliesBy, Applying}
 use Rattle.verdict_request.specs.Calls.{asked}
-use Rattle.verdict_call.specs.Holding.{Holding, Groups}
+use Rattle.table_membership.specs.Set.{UserGroups}
+use Rattle.verdict_call.specs.Holding.{Holding}
 
 -- ---- the rules that concern the request
 
-module _ (t : Table) (f starts holders : List ℕ) (n : ℕ) (holding : Holding t f starts holders n) (user : Str) (set : ℕ) (groups : Groups t user set) where
+module _ (t : Table) (f starts holders : List ℕ) (n : ℕ) (holding : Holding t f starts holders n) (user : Str) (set : ℕ) (groups : UserGroups t user set) where
   concerned : (i : ℕ) → i < n → concernsBy set (getD holders i 0) user (ruleIn f (getD starts i 0)) ≡ concerns t (ruleIn f (getD starts i 0)) user
   unfolding concernsBy concerns if_then_else_
   concerned i l =

@@ -11,12 +11,11 @@ use Rattle.table_load.specs.declared.row.Counts.{Counts}
 use Rattle.table_load.specs.declared.Loaded.{Loaded}
 use Rattle.table_load.specs.declared.Loaded.the-variants as loaded
 use Rattle.table_load.specs.Loaded.{Kept, Outcome}
-use Rattle.table_membership.specs.Set.{setIn}
-use Rattle.table_membership.proofs.Sets.{has-lists}
-use Rattle.table_check.proofs.Calls.{named-long, own-named, front-is, outcome-refused}
-use Rattle.verdict_judge.specs.Rules.{ruleIn, rulesIn, Laid}
+use Rattle.table_check.proofs.Calls.{named-long, front-is, outcome-refused}
+use Rattle.table_rows.specs.Rules.{ruleIn, rulesIn}
+use Rattle.verdict_judge.specs.Rules.{RulesLaid}
 use Rattle.verdict_concern.specs.Concern.{Safe}
-use Rattle.verdict_call.specs.Holding.{Holding, Groups, answerOn}
+use Rattle.verdict_call.specs.Holding.{Holding, answerOn}
 use Rattle.verdict_request.specs.Calls.{pathAnswer, pathVerdict, treeAnswer, treeVerdict}
 use Rattle.verdict_request.specs.Either.{oneOf, refusedAs}
 use Rattle.verdict_request.specs.declared.Verdict.{Verdict}
@@ -28,7 +27,7 @@ module _ {text buf : List ℕ} {u : ℕ} {c : Counts} {groups users owners start
   rules-are : rulesIn (take u buf) starts (c .rules) 0 ≡ tableOf text .rules
   rules-are = rw (sym (K .holds .rules-count)) (rules-read (take u buf) starts (tableOf text .rules) 0 (K .holds .rules-are))
 
-  laid : Laid (take u buf) starts (c .rules)
+  laid : RulesLaid (take u buf) starts (c .rules)
   laid i l =
       let z : 0 + i ≡ i = omega arith in
       let k : i < length (tableOf text .rules) = omega (arith, K .holds .rules-count) in
@@ -52,9 +51,6 @@ module _ {text buf : List ℕ} {u : ℕ} {c : Counts} {groups users owners start
 
   pub holding : Holding (tableOf text) (take u buf) starts holders (c .rules)
   holding = record { orderly = accepted-orderly text (K .accepts); rules = rules-are; groups = groups-are }
-
-  pub grouped : (user : Str) → Groups (tableOf text) user (setIn user (take u buf) users owners (c .members) 0 0)
-  grouped user g h = has-lists (tableOf text .groups) (tableOf text .members) user (take u buf) users owners (c .members) (K .holds .distinct) (K .holds .members-are) (own-named K) g h
 
   module _ (user : Str) (mode : ℕ) (origin path : Str) where
     pub either-kept : (whole : Bool) → answerOn (tableOf text) whole user mode origin path

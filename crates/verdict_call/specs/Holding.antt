@@ -7,12 +7,11 @@ use mathlib.Core.List.{List, []}
 use lib.ListN.{length, getD}
 use Rattle.text.specs.String.{Str}
 use Rattle.table.specs.Table.{Table}
-use Rattle.table.specs.Group.{lists}
 use Rattle.table.specs.declared.Checked.the-variants.{Accepted}
 use Rattle.verdict.specs.Verdict.{decider, tree}
 use Rattle.verdict.specs.Orderly.{Orderly}
-use Rattle.verdict_judge.specs.Rules.{ruleIn, rulesIn}
-use Rattle.table_membership.specs.Set.{hasOf}
+use Rattle.table_rows.specs.Rules.{ruleIn, rulesIn}
+use Rattle.table_membership.specs.Set.{UserGroups}
 use Rattle.verdict_request.specs.Calls.{requestRefusal, request, pathAnswer, treeAnswer}
 use Rattle.verdict_request.specs.Either.{oneOf}
 use Rattle.verdict_request.specs.declared.Verdict.{Verdict}
@@ -24,13 +23,9 @@ pub record Holding (t : Table) (f starts holders : List ℕ) (n : ℕ) : Type 0 
   pub groups : (i : ℕ) → i < n → ruleIn f (getD starts i 0) .byGroup ≡ true
       → (getD holders i 0 < length (t .groups)) × (getD (t .groups) (getD holders i 0) [] ≡ ruleIn f (getD starts i 0) .subject)
 
--- the set has the numbers of the groups that hold the user
-abbrev pub Groups : Table → Str → ℕ → Type 0
-Groups t user set = (g : ℕ) → g < length (t .groups) → hasOf set g ≡ lists (t .members) user (getD (t .groups) g [])
-
 -- whichever table the arrays hold, P is true of it
 abbrev pub OfTable : List ℕ → List ℕ → List ℕ → ℕ → Str → ℕ → (Table → Type 0) → Type 0
-OfTable f starts holders n user set P = (t : Table) → Holding t f starts holders n → Groups t user set → P t
+OfTable f starts holders n user set P = (t : Table) → Holding t f starts holders n → UserGroups t user set → P t
 
 -- the answer of either call on a table
 abbrev pub answerOn : Table → Bool → Str → ℕ → Str → Str → Verdict

@@ -11,7 +11,7 @@ use Rattle.text.specs.Test.{_and_, if_then_else_}
 use Rattle.text.specs.String.{Str, same}
 use Rattle.table_place.specs.Place.{strEnd, strIn}
 use Rattle.table_place.proofs.Cursor.{str-grows}
-use Rattle.verdict_judge.specs.Rules.{idAt, originAt, pathAt, ruleIn, ruleEnd}
+use Rattle.table_rows.specs.Rules.{idAt, originAt, pathAt, ruleIn, ruleEnd}
 use Rattle.verdict_judge.proofs.Parts.{rule-room}
 use Rattle.table_membership.specs.Set.{hasOf}
 use Rattle.verdict_concern.specs.Concern.{concernsBy, appliesBy}

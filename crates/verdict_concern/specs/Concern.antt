@@ -11,7 +11,8 @@ use Rattle.text.specs.Test.{_and_, if_then_else_}
 use Rattle.text.specs.String.{Str, same}
 use Rattle.table.specs.Table.{Rule}
 use Rattle.table_membership.specs.Set.{hasOf}
-use Rattle.verdict_judge.specs.Rules.{ruleIn, Placed}
+use Rattle.table_rows.specs.Rules.{ruleIn}
+use Rattle.verdict_judge.specs.Rules.{Placed}
 
 -- the subject is the user or a group of the user; g is its number, if it is a group
 unfoldable pub concernsBy : ℕ → ℕ → Str → Rule → Bool

@@ -5,7 +5,7 @@ ghost use Prim.Native.Nat.{_≤_, _<_};
 ghost use lib.Dec.{eqb};
 ghost use lib.ListN.{length};
 ghost use Rattle.limits.specs.Limits.{maxGroups};
-ghost use Rattle.verdict_judge.specs.Rules.{ruleIn, ruleEnd};
+ghost use Rattle.table_rows.specs.Rules.{ruleIn, ruleEnd};
 ghost use Rattle.verdict_concern.specs.Concern.{concernsBy, appliesBy, Safe, Applying};
 use table::GroupNumber;
 use table::RuleNumber;

@@ -16,7 +16,7 @@ use Rattle.verdict.specs.Pair.{meetsBoth, coversBoth}
 use Rattle.verdict_filter.specs.declared.Filter.{Filter}
 use Rattle.text_hash.specs.declared.Seed.{Seed}
 use Rattle.text_hash.specs.Mix.{mix}
-use Rattle.verdict_filter.specs.Bloom.{depthStep, none, join, digits, keyDigits, keysDigits, elemDigits, pathDigits, beyond}
+use Rattle.verdict_filter.specs.Bloom.{depthStep, none, unite, digits, keyDigits, keysDigits, elemDigits, pathDigits, beyond}
 
 -- ---- the digits of two numbers together
 
@@ -47,45 +47,45 @@ or-assoc a b c = assoc-to a a b c (omega arith)
 
 -- ---- the digits of two filters together
 
-pub join-assoc : (x y z : Filter) → join (join x y) z ≡ join x (join y z)
-unfolding join
-join-assoc x y z = rw (or-assoc (x .a) (y .a) (z .a), or-assoc (x .b) (y .b) (z .b), or-assoc (x .c) (y .c) (z .c), or-assoc (x .d) (y .d) (z .d))
+pub unite-assoc : (x y z : Filter) → unite (unite x y) z ≡ unite x (unite y z)
+unfolding unite
+unite-assoc x y z = rw (or-assoc (x .a) (y .a) (z .a), or-assoc (x .b) (y .b) (z .b), or-assoc (x .c) (y .c) (z .c), or-assoc (x .d) (y .d) (z .d))
 
-join-comm : (x y : Filter) → join x y ≡ join y x
-unfolding join
-join-comm x y = rw (or-comm (x .a) (y .a), or-comm (x .b) (y .b), or-comm (x .c) (y .c), or-comm (x .d) (y .d))
+unite-comm : (x y : Filter) → unite x y ≡ unite y x
+unfolding unite
+unite-comm x y = rw (or-comm (x .a) (y .a), or-comm (x .b) (y .b), or-comm (x .c) (y .c), or-comm (x .d) (y .d))
 
-join-self : (x : Filter) → join x x ≡ x
-unfolding join
-join-self x = rw (or-self (x .a), or-self (x .b), or-self (x .c), or-self (x .d))
+unite-self : (x : Filter) → unite x x ≡ x
+unfolding unite
+unite-self x = rw (or-self (x .a), or-self (x .b), or-self (x .c), or-self (x .d))
 
-pub join-none : (x : Filter) → join x none ≡ x
-unfolding join
-join-none x = rw (or-zero-r (x .a), or-zero-r (x .b), or-zero-r (x .c), or-zero-r (x .d))
+pub unite-none : (x : Filter) → unite x none ≡ x
+unfolding unite
+unite-none x = rw (or-zero-r (x .a), or-zero-r (x .b), or-zero-r (x .c), or-zero-r (x .d))
 
-pub fresh : (x t : Filter) → x ≡ none → t ≡ join x t
-fresh x t e = sym (rw e (join-comm none t ∙ join-none t))
+pub fresh : (x t : Filter) → x ≡ none → t ≡ unite x t
+fresh x t e = sym (rw e (unite-comm none t ∙ unite-none t))
 
 -- x has no digit that m lacks
 pub record Within (x m : Filter) : Type 0 where
-  pub same : join x m ≡ m
+  pub same : unite x m ≡ m
 
 nothing : (m : Filter) → Within none m
 nothing m = record { same = sym (fresh none m refl) }
 
 module _ {x y m : Filter} where
-  either : Within x m → Within y m → Within (join x y) m
-  either h k = record { same = join-assoc x y m ∙ ap (join x) (k .same) ∙ h .same }
+  either : Within x m → Within y m → Within (unite x y) m
+  either h k = record { same = unite-assoc x y m ∙ ap (unite x) (k .same) ∙ h .same }
 
   onward : Within x y → Within y m → Within x m
-  onward h k = record { same = ap (join x) (sym (k .same)) ∙ sym (join-assoc x y m) ∙ ap (λ (z : Filter). join z m) (h .same) ∙ k .same }
+  onward h k = record { same = ap (unite x) (sym (k .same)) ∙ sym (unite-assoc x y m) ∙ ap (λ (z : Filter). unite z m) (h .same) ∙ k .same }
 
 module _ (x y : Filter) where
-  first : Within x (join x y)
-  first = record { same = sym (join-assoc x x y) ∙ ap (λ (z : Filter). join z y) (join-self x) }
+  first : Within x (unite x y)
+  first = record { same = sym (unite-assoc x x y) ∙ ap (λ (z : Filter). unite z y) (unite-self x) }
 
-  second : Within y (join x y)
-  second = record { same = ap (join y) (join-comm x y) ∙ sym (join-assoc y y x) ∙ ap (λ (z : Filter). join z x) (join-self y) ∙ join-comm y x }
+  second : Within y (unite x y)
+  second = record { same = ap (unite y) (unite-comm x y) ∙ sym (unite-assoc y y x) ∙ ap (λ (z : Filter). unite z x) (unite-self y) ∙ unite-comm y x }
 
 -- ---- keys
 
@@ -114,7 +114,7 @@ module _ (s : Seed) (d : ℕ) (asked : List Key) where
     where
       go : (any (λ (i : Key). sameKey i k) (given ks) ≡ true → Within (keyDigits s d asked k) (keysDigits s d asked ks))
           → (sameKey j k ≡ true) ⊎ (any (λ (i : Key). sameKey i k) (given ks) ≡ true)
-          → Within (keyDigits s d asked k) (join (keyDigits s d asked j) (keysDigits s d asked ks))
+          → Within (keyDigits s d asked k) (unite (keyDigits s d asked j) (keysDigits s d asked ks))
       go ih (inl h) = rw (key-alike j k h) (first (keyDigits s d asked j) (keysDigits s d asked ks))
       go ih (inr h) = onward (ih h) (second (keyDigits s d asked j) (keysDigits s d asked ks))
 
@@ -142,7 +142,7 @@ module _ (s : Seed) (d : ℕ) where
       let n : p .name ≡ e .name = same→≡ _ _ (and-l _ _ h) in
       let x : Filter = digits (mix s d (e .name)) in
       let y : Filter = keysDigits s d [] (e .keys) in
-      either {x = digits (mix s d (p .name))} {y = keysDigits s d [] (p .keys)} {m = join x y}
+      either {x = digits (mix s d (p .name))} {y = keysDigits s d [] (p .keys)} {m = unite x y}
       (rw n (first x y))
       (onward {y = y} (keys-within s d [] (holds (given (e .keys))) y (key-held s d [] (e .keys)) (p .keys) (and-r _ _ h)) (second x y))
 
@@ -196,5 +196,5 @@ module _ (s : Seed) where
       (onward (path-both (d + depthStep) es rs ps (and-r _ _ h)) (second x y))
 
 -- a path with a digit that another lacks does not cover the joined path of that and the asked one
-pub not-both : (s : Seed) (es rs ps : Path) → (join (beyond s 0 es ps) (beyond s 0 rs ps) ≡ beyond s 0 rs ps → ⊥) → coversBoth es rs ps ≡ false
+pub not-both : (s : Seed) (es rs ps : Path) → (unite (beyond s 0 es ps) (beyond s 0 rs ps) ≡ beyond s 0 rs ps → ⊥) → coversBoth es rs ps ≡ false
 not-both s es rs ps n = by (coversBoth es rs ps) (λ h. absurd (n (path-both s 0 es rs ps h .same))) (λ h. h)

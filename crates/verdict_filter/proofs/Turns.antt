@@ -15,8 +15,8 @@ use Rattle.table_place.proofs.Cursor.{keys-cons, keys-nil, elems-cons, elems-ni
 use Rattle.verdict_filter.specs.declared.Filter.{Filter}
 use Rattle.text_hash.specs.declared.Seed.{Seed}
 use Rattle.text_hash.specs.Mix.{mix}
-use Rattle.verdict_filter.specs.Bloom.{depthStep, none, join, digits, keyDigits, keysDigits, elemDigits, pathDigits, beyond}
-use Rattle.verdict_filter.proofs.Laws.{join-assoc, join-none}
+use Rattle.verdict_filter.specs.Bloom.{depthStep, none, unite, digits, keyDigits, keysDigits, elemDigits, pathDigits, beyond}
+use Rattle.verdict_filter.proofs.Laws.{unite-assoc, unite-none}
 
 -- ---- digits
 
@@ -45,28 +45,28 @@ module _ (s : Seed) (d : ℕ) (asked : List Key) (f : List ℕ) where
   key-left q e = rw e
 
   pub keys-turn : (k q : ℕ) → 0 < k → (b : ℕ) (c x t : Filter) → b ≡ keyEnd f q → c ≡ keyDigits s d asked (keyIn f q)
-      → t ≡ join x (keysDigits s d asked (keysIn k f q)) → t ≡ join (join x c) (keysDigits s d asked (keysIn (k - 1) f b))
+      → t ≡ unite x (keysDigits s d asked (keysIn k f q)) → t ≡ unite (unite x c) (keysDigits s d asked (keysIn (k - 1) f b))
   unfolding keysDigits
-  keys-turn k q z b c x t i j e = e ∙ rw (keys-cons f k q z, i, j) (sym (join-assoc x (keyDigits s d asked (keyIn f q)) _))
+  keys-turn k q z b c x t i j e = e ∙ rw (keys-cons f k q z, i, j) (sym (unite-assoc x (keyDigits s d asked (keyIn f q)) _))
 
-  pub keys-end : (k q : ℕ) (x t : Filter) → k ≤ 0 → t ≡ join x (keysDigits s d asked (keysIn k f q)) → x ≡ t
+  pub keys-end : (k q : ℕ) (x t : Filter) → k ≤ 0 → t ≡ unite x (keysDigits s d asked (keysIn k f q)) → x ≡ t
   unfolding keysDigits
-  keys-end k q x t z e = sym (e ∙ rw (keys-nil f k q z) (join-none x))
+  keys-end k q x t z e = sym (e ∙ rw (keys-nil f k q z) (unite-none x))
 
 module _ (s : Seed) (d : ℕ) (f : List ℕ) where
   pub elem-is : (q a : ℕ) (x c : Filter) → a ≡ strEnd f q → x ≡ digits (mix s d (strIn f q)) → c ≡ keysDigits s d [] (keysIn (getD f a 0) f (a + 1))
-      → join x c ≡ elemDigits s d (elemIn f q)
+      → unite x c ≡ elemDigits s d (elemIn f q)
   unfolding elemDigits elemIn
   elem-is q a x c i h j = rw (j, h, i)
 
   pub elems-turn : (k q : ℕ) → 0 < k → (b : ℕ) (c x t : Filter) → b ≡ elemEnd f q → c ≡ elemDigits s d (elemIn f q)
-      → t ≡ join x (pathDigits s d (elemsIn k f q)) → t ≡ join (join x c) (pathDigits s (d + depthStep) (elemsIn (k - 1) f b))
+      → t ≡ unite x (pathDigits s d (elemsIn k f q)) → t ≡ unite (unite x c) (pathDigits s (d + depthStep) (elemsIn (k - 1) f b))
   unfolding pathDigits
-  elems-turn k q z b c x t i j e = e ∙ rw (elems-cons f k q z, i, j) (sym (join-assoc x (elemDigits s d (elemIn f q)) _))
+  elems-turn k q z b c x t i j e = e ∙ rw (elems-cons f k q z, i, j) (sym (unite-assoc x (elemDigits s d (elemIn f q)) _))
 
-  pub elems-end : (k q : ℕ) (x t : Filter) → k ≤ 0 → t ≡ join x (pathDigits s d (elemsIn k f q)) → x ≡ t
+  pub elems-end : (k q : ℕ) (x t : Filter) → k ≤ 0 → t ≡ unite x (pathDigits s d (elemsIn k f q)) → x ≡ t
   unfolding pathDigits
-  elems-end k q x t z e = sym (e ∙ rw (elems-nil f k q z) (join-none x))
+  elems-end k q x t z e = sym (e ∙ rw (elems-nil f k q z) (unite-none x))
 
 -- ---- a path beside the asked one
 
@@ -78,20 +78,20 @@ module _ (s : Seed) (d : ℕ) (f g : List ℕ) where
 
   pub beside-turn : (n q k p : ℕ) → 0 < n → 0 < k → (b c : ℕ) (y x t : Filter) → b ≡ elemEnd f q → c ≡ elemEnd g p
       → y ≡ keysDigits s d (elemIn g p .keys) (elemIn f q .keys)
-      → t ≡ join x (beyond s d (elemsIn n f q) (elemsIn k g p)) → t ≡ join (join x y) (beyond s (d + depthStep) (elemsIn (n - 1) f b) (elemsIn (k - 1) g c))
+      → t ≡ unite x (beyond s d (elemsIn n f q) (elemsIn k g p)) → t ≡ unite (unite x y) (beyond s (d + depthStep) (elemsIn (n - 1) f b) (elemsIn (k - 1) g c))
   unfolding beyond
   beside-turn n q k p z w b c y x t i l j e =
-      e ∙ rw (elems-cons f n q z, elems-cons g k p w, i, l, j) (sym (join-assoc x (keysDigits s d (elemIn g p .keys) (elemIn f q .keys)) _))
+      e ∙ rw (elems-cons f n q z, elems-cons g k p w, i, l, j) (sym (unite-assoc x (keysDigits s d (elemIn g p .keys) (elemIn f q .keys)) _))
 
   -- the asked path has ended
   pub beside-rest : (n q k p : ℕ) → 0 < n → k ≤ 0 → (y x t : Filter) → y ≡ pathDigits s d (elemsIn n f q)
-      → t ≡ join x (beyond s d (elemsIn n f q) (elemsIn k g p)) → join x y ≡ t
+      → t ≡ unite x (beyond s d (elemsIn n f q) (elemsIn k g p)) → unite x y ≡ t
   unfolding beyond
-  beside-rest n q k p z w y x t j e = sym (e ∙ ap (join x) (rest ∙ sym j))
+  beside-rest n q k p z w y x t j e = sym (e ∙ ap (unite x) (rest ∙ sym j))
     where
       rest : beyond s d (elemsIn n f q) (elemsIn k g p) ≡ pathDigits s d (elemsIn n f q)
       rest = rw (elems-cons f n q z, elems-nil g k p w)
 
-  pub beside-end : (n q : ℕ) (p : Path) (x t : Filter) → n ≤ 0 → t ≡ join x (beyond s d (elemsIn n f q) p) → x ≡ t
+  pub beside-end : (n q : ℕ) (p : Path) (x t : Filter) → n ≤ 0 → t ≡ unite x (beyond s d (elemsIn n f q) p) → x ≡ t
   unfolding beyond
-  beside-end n q p x t z e = sym (e ∙ rw (elems-nil f n q z) (join-none x))
+  beside-end n q p x t z e = sym (e ∙ rw (elems-nil f n q z) (unite-none x))

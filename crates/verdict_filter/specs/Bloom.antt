@@ -13,8 +13,8 @@ use Rattle.text_hash.specs.Mix.{mix}
 
 -- ---- filters
 
-unfoldable pub join : Filter → Filter → Filter
-join x y = record { a = bitOr (x .a) (y .a); b = bitOr (x .b) (y .b); c = bitOr (x .c) (y .c); d = bitOr (x .d) (y .d) }
+unfoldable pub unite : Filter → Filter → Filter
+unite x y = record { a = bitOr (x .a) (y .a); b = bitOr (x .b) (y .b); c = bitOr (x .c) (y .c); d = bitOr (x .d) (y .d) }
 
 abbrev pub none : Filter
 none = record { a = 0; b = 0; c = 0; d = 0 }
@@ -39,18 +39,18 @@ keyDigits s d asked k = if wild k or holds asked k then none else digits (mix s 
 
 unfoldable pub keysDigits : Seed → ℕ → List Key → List Key → Filter
 keysDigits s d asked [] = none
-keysDigits s d asked (k ∷ ks) = join (keyDigits s d asked k) (keysDigits s d asked ks)
+keysDigits s d asked (k ∷ ks) = unite (keyDigits s d asked k) (keysDigits s d asked ks)
 
 -- an element where nothing is asked
 unfoldable pub elemDigits : Seed → ℕ → Elem → Filter
-elemDigits s d e = join (digits (mix s d (e .name))) (keysDigits s d [] (e .keys))
+elemDigits s d e = unite (digits (mix s d (e .name))) (keysDigits s d [] (e .keys))
 
 unfoldable pub pathDigits : Seed → ℕ → Path → Filter
 pathDigits s d [] = none
-pathDigits s d (e ∷ es) = join (elemDigits s d e) (pathDigits s (d + depthStep) es)
+pathDigits s d (e ∷ es) = unite (elemDigits s d e) (pathDigits s (d + depthStep) es)
 
 -- what a path has beyond the asked one
 unfoldable pub beyond : Seed → ℕ → Path → Path → Filter
 beyond s d [] ps = none
 beyond s d (e ∷ es) [] = pathDigits s d (e ∷ es)
-beyond s d (e ∷ es) (p ∷ ps) = join (keysDigits s d (p .keys) (e .keys)) (beyond s (d + depthStep) es ps)
+beyond s d (e ∷ es) (p ∷ ps) = unite (keysDigits s d (p .keys) (e .keys)) (beyond s (d + depthStep) es ps)

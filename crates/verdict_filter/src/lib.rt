@@ -5,7 +5,7 @@ ghost use Prim.Native.Nat.{_+_, _*_, _≤_, _<_};
 ghost use lib.ListN.{length};
 ghost use Rattle.text_hash.specs.Mix.{Small, mix};
 ghost use Rattle.table_place.specs.Place.{strEnd, strIn, keyEnd, keyIn, keysEnd, keysIn, elemEnd, elemIn, elemsEnd, elemsIn};
-ghost use Rattle.verdict_filter.specs.Bloom.{none, digits, join, depthStep, keyDigits, keysDigits, elemDigits, pathDigits, beyond};
+ghost use Rattle.verdict_filter.specs.Bloom.{none, digits, unite, depthStep, keyDigits, keysDigits, elemDigits, pathDigits, beyond};
 use text_hash::Seed;
 
 // What the depth grows by from one element to the next.
@@ -31,8 +31,8 @@ pub fn empty() -> Filter
 }
 
 // The digits of both.
-fn join(x: Filter, y: Filter) -> Filter
-    ensures { λ r. ⌜ r ≡ join x y ⌝ }
+fn unite(x: Filter, y: Filter) -> Filter
+    ensures { λ r. ⌜ r ≡ unite x y ⌝ }
 {
     Filter {
         a: x.a | y.a,
@@ -97,7 +97,7 @@ fn keys_digits(
     let mut q = at;
     let mut left = n;
     while 0 < left {
-        x = join(x, key_digits(s, d, f, q, g, p, k));
+        x = unite(x, key_digits(s, d, f, q, g, p, k));
         q = table_place::key_end(f, q);
         left -= 1;
     }
@@ -112,7 +112,7 @@ fn elem_digits(s: Seed, d: usize, f: &[u8], at: usize) -> Filter
     let a = table_place::str_end(f, at);
     let n = f[a] as usize;
     let name = digits(hash_at(s, d, f, at));
-    join(name, keys_digits(s, d, f, a + 1, n, f, 0, 0))
+    unite(name, keys_digits(s, d, f, a + 1, n, f, 0, 0))
 }
 
 // The keys of the element at `at` of f, beyond those of the element at p of g.
@@ -137,7 +137,7 @@ fn path_digits(s: Seed, d: usize, f: &[u8], at: usize, n: usize) -> Filter
     let mut q = at;
     let mut left = n;
     while 0 < left {
-        x = join(x, elem_digits(s, e, f, q));
+        x = unite(x, elem_digits(s, e, f, q));
         e += DEPTH_STEP;
         q = table_place::elem_end(f, q);
         left -= 1;
@@ -158,9 +158,9 @@ pub fn beyond(s: Seed, f: &[u8], at: usize, n: usize, g: &[u8], p: usize, k: usi
     let mut more = k;
     while 0 < left {
         if more == 0 {
-            return join(x, path_digits(s, d, f, q, left));
+            return unite(x, path_digits(s, d, f, q, left));
         }
-        x = join(x, new_digits(s, d, f, q, g, c));
+        x = unite(x, new_digits(s, d, f, q, g, c));
         d += DEPTH_STEP;
         q = table_place::elem_end(f, q);
         c = table_place::elem_end(g, c);

@@ -12,7 +12,7 @@ use Rattle.text.specs.Test.{_∈_, twice}
 use Rattle.table.specs.Table.{Rule}
 use Rattle.table.specs.Refusal.{sameId}
 use Rattle.verdict.proofs.Twice.{first-alone, rest-alone}
-use Rattle.verdict_judge.specs.Rules.{ruleIn, rulesIn}
+use Rattle.table_rows.specs.Rules.{ruleIn, rulesIn}
 
 pub length-rules : (f starts : List ℕ) (n i : ℕ) → length (rulesIn f starts n i) ≡ n
 unfolding rulesIn rowsOf

@@ -19,7 +19,8 @@ use Rattle.verdict.specs.Rank.{topRank, rankBy, rank}
 use Rattle.verdict.proofs.Order.{better-rank, unless-small}
 use Rattle.table_place.specs.Place.{strEnd, strIn, elemsEnd, elemsIn, pathEnd}
 use Rattle.table_place.proofs.Cursor.{str-grows, path-room, length-elems}
-use Rattle.verdict_judge.specs.Rules.{idAt, originAt, pathAt, ruleIn, ruleEnd, Short}
+use Rattle.table_rows.specs.Rules.{idAt, originAt, pathAt, ruleIn, ruleEnd}
+use Rattle.verdict_judge.specs.Rules.{Short}
 use Rattle.verdict_judge.specs.Best.{lacks, Ranked, wins}
 use Rattle.verdict_judge.specs.declared.best.Best.{Best}
 use Rattle.verdict_judge.proofs.Counting.{few-keys}

@@ -15,7 +15,7 @@ use Rattle.table.specs.Table.{Rule}
 use Rattle.verdict.specs.Order.{Numbered, prefer, candidate, choose}
 use Rattle.verdict.proofs.Order.{Order}
 use Rattle.verdict.proofs.Choose.{prefer-assoc}
-use Rattle.verdict_judge.specs.Rules.{ruleIn, rulesIn}
+use Rattle.table_rows.specs.Rules.{ruleIn, rulesIn}
 use Rattle.verdict_judge.specs.Best.{lacks, held, wins}
 use Rattle.verdict_judge.specs.declared.best.Best.{Best}
 

@@ -14,7 +14,8 @@ use Rattle.verdict.specs.Cover.{covers}
 use Rattle.verdict.specs.Order.{Numbered, better, prefer, candidate, choose}
 use Rattle.verdict.specs.Rank.{rank}
 use Rattle.table_place.specs.Place.{elemsEnd}
-use Rattle.verdict_judge.specs.Rules.{ruleIn, ruleEnd, rulesIn, Placed, Marked}
+use Rattle.table_rows.specs.Rules.{ruleIn, ruleEnd, rulesIn}
+use Rattle.verdict_judge.specs.Rules.{Placed, Marked}
 use Rattle.verdict_judge.specs.declared.best.Best.{Best}
 
 -- there is none so far
@@ -59,7 +60,7 @@ pub record Asked (f starts on : List ℕ) (n : ℕ) (g : List ℕ) (p k : ℕ) :
   pub path : elemsEnd k g p ≤ length g
 
 -- what it answers: the best of the marked rules whose path covers p
-pub record Decided (f starts on : List ℕ) (n : ℕ) (p : Path) (b : Best) : Type 0 where
+pub record BestMarked (f starts on : List ℕ) (n : ℕ) (p : Path) (b : Best) : Type 0 where
   pub ranked : Ranked f b
   pub numbered : NumberBelow n b
   pub best : (app : Rule → Bool) → Marked app f starts on n → held f b ≡ choose better (matching app p) 0 (rulesIn f starts n 0)

@@ -5,7 +5,8 @@ ghost use lib.ListN.{length};
 ghost use Rattle.verdict.specs.Order.{better, earlier};
 ghost use Rattle.verdict.specs.Rank.{rank};
 ghost use Rattle.verdict.specs.Verdict.{action};
-ghost use Rattle.verdict_judge.specs.Rules.{ruleIn, ruleEnd, Short};
+ghost use Rattle.table_rows.specs.Rules.{ruleIn, ruleEnd};
+ghost use Rattle.verdict_judge.specs.Rules.{Short};
 ghost use Rattle.verdict_judge.specs.Best.{held, Sound, Ranked, wins};
 
 // Its number, and where its action byte stands. The weight is 0 where there is none yet; where the ranking decides, it is the rank + 1.

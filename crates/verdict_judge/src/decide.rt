@@ -2,8 +2,9 @@
 ghost use Prim.Native.Nat.{_≤_};
 ghost use lib.ListN.{length};
 ghost use Rattle.table_place.specs.Place.{elemsEnd, elemsIn};
-ghost use Rattle.verdict_judge.specs.Rules.{ruleEnd, Short};
-ghost use Rattle.verdict_judge.specs.Best.{Ranked, Taken, Asked, Decided};
+ghost use Rattle.table_rows.specs.Rules.{ruleEnd};
+ghost use Rattle.verdict_judge.specs.Rules.{Short};
+ghost use Rattle.verdict_judge.specs.Best.{Ranked, Taken, Asked, BestMarked};
 use crate::best::Best;
 
 // The best after the rule at s, whose number is i: that rule where it is marked, matches the k elements at p of g, and wins.
@@ -33,7 +34,7 @@ fn take_match(b: Best, i: usize, s: usize, mark: u8, f: &[u8], g: &[u8], p: usiz
 // The deciding rule for the k elements at p of g, of those n rules that `on` marks: they concern the request.
 pub fn decide(f: &[u8], starts: &[u16], on: &[u8], n: usize, g: &[u8], p: usize, k: usize) -> Best
     requires { ⌜ Asked (now f) (now starts) (now on) n (now g) p k ⌝ }
-    ensures { λ b. ⌜ Decided (now (f .entry)) (now (starts .entry)) (now (on .entry)) n (elemsIn k (now (g .entry)) p) b ⌝ }
+    ensures { λ b. ⌜ BestMarked (now (f .entry)) (now (starts .entry)) (now (on .entry)) n (elemsIn k (now (g .entry)) p) b ⌝ }
 {
     let mut b = Best {
         weight: 0,

@@ -6,7 +6,8 @@ ghost use Rattle.verdict.specs.Cover.{wild, given};
 ghost use Rattle.verdict.specs.Order.{oneUnless, definites};
 ghost use Rattle.verdict.specs.Rank.{rank};
 ghost use Rattle.table_place.specs.Place.{keyEnd, keyIn, keysEnd, keysIn, elemsEnd, elemsIn};
-ghost use Rattle.verdict_judge.specs.Rules.{idAt, pathAt, ruleIn, ruleEnd, Short};
+ghost use Rattle.table_rows.specs.Rules.{idAt, pathAt, ruleIn, ruleEnd};
+ghost use Rattle.verdict_judge.specs.Rules.{Short};
 
 // 1 for a definite key, 0 for a wildcard.
 fn count_key(f: &[u8], at: usize) -> usize

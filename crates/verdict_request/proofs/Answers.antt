@@ -7,7 +7,7 @@ use Prim.Native.Nat.{ℕ}
 use borrow.Author.Tests.{eq-eqb, ne-eqb}
 use Rattle.text.specs.Test.{if_then_else_}
 use Rattle.verdict.specs.Verdict.{action, word, answer}
-use Rattle.verdict_judge.specs.Rules.{ruleIn}
+use Rattle.table_rows.specs.Rules.{ruleIn}
 use Rattle.verdict_judge.specs.Best.{lacks, held}
 use Rattle.verdict_judge.specs.declared.best.Best.{Best}
 use Rattle.verdict_request.specs.Calls.{decidedBy, spread}

@@ -22,7 +22,8 @@ use Rattle.verdict.proofs.Order.{better-order, better-rank, rank-permit}
 use Rattle.verdict.proofs.Choose.{Chosen, chosen}
 use Rattle.verdict.proofs.Paths.{covers-both, covers-join-left}
 use Rattle.table_place.specs.Place.{pathIn}
-use Rattle.verdict_judge.specs.Rules.{ruleIn, rulesIn, Placed}
+use Rattle.table_rows.specs.Rules.{ruleIn, rulesIn}
+use Rattle.verdict_judge.specs.Rules.{Placed}
 use Rattle.verdict_judge.proofs.Parts.{path-in, keys-below}
 use Rattle.verdict_judge.proofs.Numbers.{rule-there, rule-number}
 use Rattle.verdict_tree.specs.Tree.{matchingBoth, permitsBoth, Weights, Paths, Heaviest}

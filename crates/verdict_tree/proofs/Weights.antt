@@ -14,7 +14,8 @@ use Rattle.table.specs.Table.{Rule}
 use Rattle.verdict.specs.Join.{agree}
 use Rattle.verdict.specs.Rank.{topRank, rank}
 use Rattle.table_place.specs.Place.{elemsIn}
-use Rattle.verdict_judge.specs.Rules.{pathAt, ruleIn, Laid}
+use Rattle.table_rows.specs.Rules.{pathAt, ruleIn}
+use Rattle.verdict_judge.specs.Rules.{RulesLaid}
 use Rattle.verdict_judge.proofs.Parts.{path-in, path-bounds}
 use Rattle.verdict_tree.specs.Tree.{weight, fitting, Packed, Fits, Paths, PathsLaid}
 
@@ -41,7 +42,7 @@ pub permit-in : (f : List ℕ) (s : ℕ) → eqb (getD f s 0) 1 ≡ ruleIn f s .
 unfolding ruleIn
 permit-in f s = refl
 
-pub paths-laid : (f starts paths : List ℕ) (n : ℕ) → Laid f starts n → Paths f starts paths n → PathsLaid f paths n
+pub paths-laid : (f starts paths : List ℕ) (n : ℕ) → RulesLaid f starts n → Paths f starts paths n → PathsLaid f paths n
 paths-laid f starts paths n h k i l = path-bounds f (getD starts i 0) (getD paths i 0) (h i l) (k i l) .1
 
 -- ---- the weight with the number

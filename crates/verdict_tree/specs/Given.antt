@@ -14,10 +14,11 @@ use Rattle.text_hash.specs.Mix.{Small}
 use Rattle.text_hash.specs.declared.Seed.{Seed}
 use Rattle.verdict_filter.specs.declared.Filter.{Filter}
 use Rattle.verdict_filter.specs.Bloom.{beyond}
-use Rattle.verdict_judge.specs.Rules.{ruleIn, rulesIn, Placed, Marked}
+use Rattle.table_rows.specs.Rules.{ruleIn, rulesIn}
+use Rattle.verdict_judge.specs.Rules.{Placed, Marked}
 use Rattle.verdict_judge.specs.Best.{held, Sound, NumberBelow}
 use Rattle.verdict_judge.specs.declared.best.Best.{Best}
-use Rattle.verdict_tree.specs.Tree.{fitting, opposing, weight, Weights, Packed, Paths, PathsLaid, filterOf, Kept}
+use Rattle.verdict_tree.specs.Tree.{fitting, opposing, weight, Weights, Packed, Paths, PathsLaid, filterOf, Prepared}
 
 -- ---- filters
 
@@ -71,7 +72,7 @@ pub record Weighing (f starts on weights paths : List ℕ) (n : ℕ) (p : Path) 
 pub record ForSearch (f starts weights paths next filters : List ℕ) (n first : ℕ) (g : List ℕ) (p k : ℕ) : Type 0 where
   pub rules : Placed f starts n
   pub paths-are : Paths f starts paths n
-  pub kept : Kept f weights paths next filters n first g p k
+  pub kept : Prepared f weights paths next filters n first g p k
 
 -- c is the witness after b and rule i
 pub record Opposed (f starts weights : List ℕ) (n : ℕ) (p : Path) (v : Bool) (b : Best) (i : ℕ) (c : Best) : Type 0 where

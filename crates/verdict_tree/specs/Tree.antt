@@ -17,7 +17,7 @@ use Rattle.table_place.specs.Place.{pathIn, pathEnd, elemsIn, elemsEnd}
 use Rattle.verdict_filter.specs.declared.Filter.{Filter}
 use Rattle.text_hash.specs.declared.Seed.{Seed}
 use Rattle.verdict_filter.specs.Bloom.{beyond}
-use Rattle.verdict_judge.specs.Rules.{pathAt, ruleIn}
+use Rattle.table_rows.specs.Rules.{pathAt, ruleIn}
 
 -- ---- the tests
 
@@ -91,7 +91,7 @@ abbrev pub Nexts : List ℕ → List ℕ → ℕ → Type 0
 Nexts weights next n = (i : ℕ) → i < n → Fits (getD weights i 0) → Below weights n (getD weights i 0) (getD next i 0)
 
 -- what is kept of n rules, k elements at p of g being asked; the first in weight is `first`
-pub record Kept (f weights paths next filters : List ℕ) (n first : ℕ) (g : List ℕ) (p k : ℕ) : Type 0 where
+pub record Prepared (f weights paths next filters : List ℕ) (n first : ℕ) (g : List ℕ) (p k : ℕ) : Type 0 where
   pub few : n ≤ maxRules
   pub asked : elemsEnd k g p ≤ length g
   pub each-weight : n ≤ length weights

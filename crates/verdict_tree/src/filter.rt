@@ -7,7 +7,7 @@ ghost use lib.Dec.{eqb};
 ghost use lib.ListN.{length, getD};
 ghost use Rattle.table_place.specs.Place.{elemsEnd, elemsIn, pathEnd, pathIn};
 ghost use Rattle.text_hash.specs.Mix.{Small};
-ghost use Rattle.verdict_filter.specs.Bloom.{join, beyond};
+ghost use Rattle.verdict_filter.specs.Bloom.{unite, beyond};
 ghost use Rattle.verdict_tree.specs.Tree.{filterOf, Fits, Filters};
 ghost use Rattle.verdict_tree.specs.Given.{Stored, ForFill};
 use text_hash::Seed;
@@ -72,7 +72,7 @@ fn has_within(filters: &[u64], q: usize, p: usize) -> bool
 pub fn is_within(filters: &[u64], j: usize, i: usize) -> bool
     requires { ⌜ (4 * j + 4 ≤ length (now filters)) × (4 * i + 4 ≤ length (now filters)) ⌝ }
     ensures { λ r. ⌜ (r ≡ false
-        → join (filterOf (now (filters .entry)) j) (filterOf (now (filters .entry)) i) ≡ filterOf (now (filters .entry)) i → ⊥) ⌝ }
+        → unite (filterOf (now (filters .entry)) j) (filterOf (now (filters .entry)) i) ≡ filterOf (now (filters .entry)) i → ⊥) ⌝ }
 {
     let q = 4 * j;
     let p = 4 * i;

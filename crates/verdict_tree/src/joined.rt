@@ -4,7 +4,7 @@ ghost use Prim.Native.Nat.{_<_};
 ghost use lib.ListN.{getD};
 ghost use Rattle.verdict.specs.Pair.{coversBoth};
 ghost use Rattle.table_place.specs.Place.{elemsIn, pathIn};
-ghost use Rattle.verdict_tree.specs.Tree.{Fits, Kept, Heaviest};
+ghost use Rattle.verdict_tree.specs.Tree.{Fits, Prepared, Heaviest};
 ghost use Rattle.verdict_tree.specs.Given.{ForCovers};
 
 // Whether the path at a of f, of rule j, covers the joined path of that at r of f, of rule i, and the k elements at p of g.
@@ -46,7 +46,7 @@ pub fn decide_joined(
     k: usize,
 ) -> usize
     requires { ⌜ (i < n) × Fits (getD (now weights) i 0)
-        × Kept (now f) (now weights) (now paths) (now next) (now filters) n first (now g) p k ⌝ }
+        × Prepared (now f) (now weights) (now paths) (now next) (now filters) n first (now g) p k ⌝ }
     ensures { λ d. ⌜ Heaviest (now (f .entry)) (now (weights .entry)) (now (paths .entry)) n (elemsIn k (now (g .entry)) p) i d ⌝ }
 {
     let r = paths[i] as usize;

@@ -4,7 +4,8 @@ ghost use Prim.Native.Nat.{_≤_};
 ghost use lib.ListN.{length};
 ghost use Rattle.limits.specs.Limits.{maxRules};
 ghost use Rattle.table_place.specs.Place.{elemsEnd, elemsIn};
-ghost use Rattle.verdict_judge.specs.Rules.{pathAt, ruleEnd, Short};
+ghost use Rattle.table_rows.specs.Rules.{pathAt, ruleEnd};
+ghost use Rattle.verdict_judge.specs.Rules.{Short};
 ghost use Rattle.verdict_judge.specs.Best.{Asked};
 ghost use Rattle.verdict_tree.specs.Given.{Weighs, Weighing};
 

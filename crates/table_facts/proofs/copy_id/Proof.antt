@@ -1,6 +1,7 @@
 -- `copy_id` stores the id of that rule.
 use borrow.Author.Needs.{needs}
 use native.Mathlib.Omega.{arith}
+use Rattle.table_rows.specs.Rules.{idAt, originAt}
 use Rattle.table_facts.proofs.Names.{id-inside, id-past, id-at}
 use Rattle.table_facts.proofs.copy_id.Statement.{statement}
 use Rattle.table_facts.proofs.copy_id.Tie as tie
@@ -23,15 +24,18 @@ add-str-end c = let at-start = c .before .before .before .before .before in
     omega (arith, c .shared-slice-known3 .given (at-start .args .k))
 
 str-end-requires : tie.Need-str-end-requires
+unfolding idAt
 str-end-requires c κs = let at-start = c .before .before .before .before .before in
     id-inside _ _ (at-start .pre .laid _ (c .before .if1 .left))
 
 copy-at-requires : tie.Need-copy-at-requires
+unfolding originAt idAt
 copy-at-requires c κs = let at-if1 = c .before .before .before in
     let at-start = at-if1 .before .before .before .before in
     rw (c .before .str-end .ensures) (at-start .pre .laid _ (at-if1 .if1 .left))
 
 returns-2 : tie.Need-returns-2
+unfolding idAt
 returns-2 c = let at-str-end = c .before .before .before .before in
     id-at _ _ _ _ _ _ _ (at-str-end .before .before .if1 .left) (rw (at-str-end .str-end .ensures) at (c .before .before .copy-at .ensures))
 

@@ -2,8 +2,8 @@ use borrow.Author.Needs.{needs}
 use native.Mathlib.Omega.{arith}
 use mathlib.Core.Path.{sym, _∙_}
 use Rattle.table.specs.Text.{tableOf}
-use Rattle.table_check.proofs.Calls.{outcome-kept, front-is, count-requires}
-use Rattle.verdict_call.proofs.Holding.{safe, holding, grouped, either-kept, refused-is}
+use Rattle.table_check.proofs.Calls.{outcome-kept, front-is, count-requires, grouped}
+use Rattle.verdict_call.proofs.Holding.{safe, holding, either-kept, refused-is}
 use Rattle.verdict_call.proofs.verdict.Statement.{statement}
 use Rattle.verdict_call.proofs.verdict.Tie as tie
 

@@ -6,7 +6,7 @@ use Prim.Native.Nat.{ℕ, _-_, _≤_, zero-le}
 use lib.Dec.{eqb}
 use lib.ListN.{length, getD, length-set}
 use Rattle.table.specs.declared.GroupNumber.{GroupNumber}
-use Rattle.verdict_judge.specs.Rules.{ruleIn}
+use Rattle.table_rows.specs.Rules.{ruleIn}
 use Rattle.text.proofs.Stores.{stored}
 use Rattle.verdict_concern.specs.Concern.{appliesBy, Applying}
 use Rattle.verdict_concern.proofs.mark.Statement.{statement}

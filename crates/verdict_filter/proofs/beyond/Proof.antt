@@ -5,7 +5,7 @@ use Prim.Native.Nat.{_+_, _*_, _≤_}
 use lib.ListN.{length}
 use Rattle.table_place.specs.Place.{elemsEnd, elemsIn}
 use Rattle.table_place.proofs.Cursor.{elems-room, elems-again}
-use Rattle.verdict_filter.specs.Bloom.{depthStep, join, beyond}
+use Rattle.verdict_filter.specs.Bloom.{depthStep, unite, beyond}
 use Rattle.verdict_filter.proofs.Laws.{fresh}
 use Rattle.verdict_filter.proofs.Turns.{beside-turn, beside-rest, beside-end}
 use Rattle.verdict_filter.proofs.beyond.Statement.{statement}
@@ -15,7 +15,7 @@ use Rattle.verdict_filter.proofs.beyond.Tie as tie
 abbrev Inv-loop : tie.InvT-loop
 Inv-loop s f at n g p k x₀ d₀ q₀ left₀ c₀ more₀ x d q left c more =
     (elemsEnd left f q ≤ length f) × (elemsEnd more g c ≤ length g) × (d + depthStep * left ≡ depthStep * n) ×
-    (beyond s 0 (elemsIn n f at) (elemsIn k g p) ≡ join x (beyond s d (elemsIn left f q) (elemsIn more g c)))
+    (beyond s 0 (elemsIn n f at) (elemsIn k g p) ≡ unite x (beyond s d (elemsIn left f q) (elemsIn more g c)))
 
 abbrev μ-loop : tie.MeasureT-loop
 μ-loop s f at n g p k x₀ d₀ q₀ left₀ c₀ more₀ x d q left c more = left
@@ -31,7 +31,7 @@ path-digits-requires c κs = let at-start = c .before .before .before .before .b
 returns : tie.Need-returns Inv-loop μ-loop
 returns c = let at-loop-test = c .before .before .before in
     let at-start = at-loop-test .before .before .before .before .before in
-    c .join .ensures ∙ beside-rest _ _ _ (at-start .args .g .now) _ _ _ (at-loop-test .before .loop .c)
+    c .unite .ensures ∙ beside-rest _ _ _ (at-start .args .g .now) _ _ _ (at-loop-test .before .loop .c)
     (at-loop-test .loop-test .taken) (omega arith) _ _ _ (c .before .path-digits .ensures) (at-loop-test .before .loop .inv .3)
 
 new-digits-requires : tie.Need-new-digits-requires Inv-loop μ-loop
@@ -59,7 +59,7 @@ loop-again c = let at-new-digits = c .before .before .before in let at-loop = at
       elems-again _ _ _ _ (at-new-digits .before .before .loop-test .taken) (at-loop .loop .inv .0) (c .before .elem-end .ensures),
       elems-again _ _ _ _ (omega arith) (at-loop .loop .inv .1) (c .elem-end2 .ensures),
       omega arith,
-      rw (c .before .before .join2 .ensures)
+      rw (c .before .before .unite2 .ensures)
           (beside-turn (at-start .args .s) (at-loop .loop .d) (at-start .args .f .now) (at-start .args .g .now)
           (at-loop .loop .left) (at-loop .loop .q) (at-loop .loop .more) (at-loop .loop .c)
           (at-new-digits .before .before .loop-test .taken) (omega arith) _ _ _ (at-loop .loop .x) _

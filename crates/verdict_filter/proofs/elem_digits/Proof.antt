@@ -35,7 +35,7 @@ keys-digits-requires c κs = let at-str-end = c .before .before .before in let a
 
 returns : tie.Need-returns
 returns c = let at-hash-at = c .before .before .before in let at-start = at-hash-at .before .before .before .before in
-    c .join .ensures ∙ elem-is _ _ _ _ _ _ _ (at-hash-at .before .before .str-end .ensures)
+    c .unite .ensures ∙ elem-is _ _ _ _ _ _ _ (at-hash-at .before .before .str-end .ensures)
     (c .before .before .digits .ensures ∙ ap digits (at-hash-at .hash-at .ensures))
     (rw (keys-nil (at-start .args .f .now) 0 0 (omega arith)) at (c .before .keys-digits .ensures))
 

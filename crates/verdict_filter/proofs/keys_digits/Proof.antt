@@ -4,7 +4,7 @@ use Prim.Native.Nat.{_≤_}
 use lib.ListN.{length}
 use Rattle.table_place.specs.Place.{keysEnd, keysIn}
 use Rattle.table_place.proofs.Cursor.{keys-room, keys-again}
-use Rattle.verdict_filter.specs.Bloom.{join, keysDigits}
+use Rattle.verdict_filter.specs.Bloom.{unite, keysDigits}
 use Rattle.verdict_filter.proofs.Laws.{fresh}
 use Rattle.verdict_filter.proofs.Turns.{keys-turn, keys-end}
 use Rattle.verdict_filter.proofs.keys_digits.Statement.{statement}
@@ -13,7 +13,7 @@ use Rattle.verdict_filter.proofs.keys_digits.Tie as tie
 -- x has the digits of the keys passed
 abbrev Inv-loop : tie.InvT-loop
 Inv-loop s d f at n g p k x₀ q₀ left₀ x q left =
-    (keysEnd left f q ≤ length f) × (keysDigits s d (keysIn k g p) (keysIn n f at) ≡ join x (keysDigits s d (keysIn k g p) (keysIn left f q)))
+    (keysEnd left f q ≤ length f) × (keysDigits s d (keysIn k g p) (keysIn n f at) ≡ unite x (keysDigits s d (keysIn k g p) (keysIn left f q)))
 
 abbrev μ-loop : tie.MeasureT-loop
 μ-loop s d f at n g p k x₀ q₀ left₀ x q left = left
@@ -33,7 +33,7 @@ loop-again : tie.Need-loop-again Inv-loop μ-loop
 loop-again c = let at-loop-test = c .before .before .before in let at-loop = at-loop-test .before in
     let at-start = at-loop .before .before .before .before in (
       keys-again _ _ _ _ (at-loop-test .loop-test .taken) (at-loop .loop .inv .0) (c .key-end .ensures),
-      rw (c .before .join .ensures) (keys-turn (at-start .args .s) (at-start .args .d) _ (at-start .args .f .now)
+      rw (c .before .unite .ensures) (keys-turn (at-start .args .s) (at-start .args .d) _ (at-start .args .f .now)
           (at-loop .loop .left) (at-loop .loop .q) (at-loop-test .loop-test .taken) _ _ (at-loop .loop .x) _
           (c .key-end .ensures) (c .before .before .key-digits .ensures) (at-loop .loop .inv .1)),
     )

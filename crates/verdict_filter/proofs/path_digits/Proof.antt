@@ -5,7 +5,7 @@ use Prim.Native.Nat.{_+_, _*_, _≤_}
 use lib.ListN.{length}
 use Rattle.table_place.specs.Place.{elemsEnd, elemsIn}
 use Rattle.table_place.proofs.Cursor.{elems-room, elems-again}
-use Rattle.verdict_filter.specs.Bloom.{depthStep, join, pathDigits}
+use Rattle.verdict_filter.specs.Bloom.{depthStep, unite, pathDigits}
 use Rattle.verdict_filter.proofs.Laws.{fresh}
 use Rattle.verdict_filter.proofs.Turns.{elems-turn, elems-end}
 use Rattle.verdict_filter.proofs.path_digits.Statement.{statement}
@@ -14,7 +14,7 @@ use Rattle.verdict_filter.proofs.path_digits.Tie as tie
 -- x has the digits of the elements passed; e is the depth of the element at q
 abbrev Inv-loop : tie.InvT-loop
 Inv-loop s d f at n x₀ e₀ q₀ left₀ x e q left =
-    (elemsEnd left f q ≤ length f) × (e + depthStep * left ≡ d + depthStep * n) × (pathDigits s d (elemsIn n f at) ≡ join x (pathDigits s e (elemsIn left f q)))
+    (elemsEnd left f q ≤ length f) × (e + depthStep * left ≡ d + depthStep * n) × (pathDigits s d (elemsIn n f at) ≡ unite x (pathDigits s e (elemsIn left f q)))
 
 abbrev μ-loop : tie.MeasureT-loop
 μ-loop s d f at n x₀ e₀ q₀ left₀ x e q left = left
@@ -38,7 +38,7 @@ loop-again c = let at-loop-test = c .before .before .before in let at-loop = at-
     let at-start = at-loop .before .before .before in (
       elems-again _ _ _ _ (at-loop-test .loop-test .taken) (at-loop .loop .inv .0) (c .elem-end .ensures),
       omega arith,
-      rw (c .before .join .ensures) (elems-turn (at-start .args .s) (at-loop .loop .e) (at-start .args .f .now)
+      rw (c .before .unite .ensures) (elems-turn (at-start .args .s) (at-loop .loop .e) (at-start .args .f .now)
           (at-loop .loop .left) (at-loop .loop .q) (at-loop-test .loop-test .taken) _ _ (at-loop .loop .x) _
           (c .elem-end .ensures) (c .before .before .elem-digits .ensures) (at-loop .loop .inv .2)),
     )

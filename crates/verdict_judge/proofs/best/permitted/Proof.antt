@@ -2,7 +2,7 @@ use native.Mathlib.Omega.{arith}
 use borrow.Author.Tests.{eq-eqb, ne-eqb}
 use Rattle.text.specs.Test.{if_then_else_}
 use Rattle.verdict.specs.Verdict.{action}
-use Rattle.verdict_judge.specs.Rules.{ruleIn}
+use Rattle.table_rows.specs.Rules.{ruleIn}
 use Rattle.verdict_judge.specs.Best.{held}
 use Rattle.verdict_judge.proofs.Parts.{rule-room}
 use Rattle.verdict_judge.proofs.best.permitted.Statement.{statement}

@@ -10,7 +10,8 @@ use Rattle.table.specs.Table.{Rule}
 use Rattle.verdict.specs.Order.{better, choose, prefer}
 use Rattle.verdict.proofs.Order.{better-order}
 use Rattle.table_place.specs.Place.{elemsIn}
-use Rattle.verdict_judge.specs.Rules.{rulesIn, Marked}
+use Rattle.table_rows.specs.Rules.{rulesIn}
+use Rattle.verdict_judge.specs.Rules.{Marked}
 use Rattle.verdict_judge.specs.Best.{held, Ranked, NumberBelow, matching}
 use Rattle.verdict_judge.specs.declared.best.Best.{Best}
 use Rattle.verdict_judge.proofs.Steps.{best-none, best-turn, best-end}

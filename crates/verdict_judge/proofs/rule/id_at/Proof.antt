@@ -1,5 +1,5 @@
 use native.Mathlib.Omega.{arith}
-use Rattle.verdict_judge.specs.Rules.{idAt}
+use Rattle.table_rows.specs.Rules.{idAt}
 use Rattle.verdict_judge.proofs.Parts.{rule-room}
 use Rattle.verdict_judge.proofs.rule.id_at.Statement.{statement}
 use Rattle.verdict_judge.proofs.rule.id_at.Tie as tie

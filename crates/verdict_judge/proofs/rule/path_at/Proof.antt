@@ -1,7 +1,7 @@
 use borrow.Author.Needs.{needs}
 use native.Mathlib.Omega.{arith}
 use mathlib.Core.Path.{sym}
-use Rattle.verdict_judge.specs.Rules.{pathAt, originAt}
+use Rattle.table_rows.specs.Rules.{pathAt, originAt}
 use Rattle.verdict_judge.proofs.Parts.{rule-room}
 use Rattle.verdict_judge.proofs.rule.path_at.Statement.{statement}
 use Rattle.verdict_judge.proofs.rule.path_at.Tie as tie

@@ -2,28 +2,28 @@ use borrow.Author.Needs.{needs}
 use mathlib.Core.Path.{sym, ap, _∙_}
 use borrow.Author.Tests.{eqb-false, not-true}
 use Rattle.verdict_filter.specs.declared.Filter.{Filter}
-use Rattle.verdict_filter.specs.Bloom.{join}
+use Rattle.verdict_filter.specs.Bloom.{unite}
 use Rattle.verdict_tree.specs.Tree.{filterOf}
 use Rattle.verdict_tree.proofs.filter.is_within.Statement.{statement}
 use Rattle.verdict_tree.proofs.filter.is_within.Tie as tie
 
 returns : tie.Need-returns
-unfolding filterOf join
+unfolding filterOf unite
 returns c =
     λ z e. eqb-false _ _ (sym (c .before .has-within .ensures) ∙ not-true _ (c .if1 .taken)) (ap (λ (x : Filter). x .a) e)
 
 returns-2 : tie.Need-returns-2
-unfolding filterOf join
+unfolding filterOf unite
 returns-2 c =
     λ z e. eqb-false _ _ (sym (c .before .has-within2 .ensures) ∙ not-true _ (c .if2 .taken)) (ap (λ (x : Filter). x .b) e)
 
 returns-3 : tie.Need-returns-3
-unfolding filterOf join
+unfolding filterOf unite
 returns-3 c =
     λ z e. eqb-false _ _ (sym (c .before .has-within3 .ensures) ∙ not-true _ (c .if3 .taken)) (ap (λ (x : Filter). x .c) e)
 
 returns-4 : tie.Need-returns-4
-unfolding filterOf join
+unfolding filterOf unite
 returns-4 c = λ z e. eqb-false _ _ (sym (c .has-within4 .ensures) ∙ z) (ap (λ (x : Filter). x .d) e)
 
 pub is-within-spec : {M : Type 1} → statement M

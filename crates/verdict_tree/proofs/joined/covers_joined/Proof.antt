@@ -2,7 +2,7 @@ use native.Mathlib.Omega.{arith}
 use mathlib.Core.Path.{sym, ap₂, _∙_}
 use borrow.Author.Tests.{not-true}
 use Rattle.table_place.proofs.Cursor.{path-room}
-use Rattle.verdict_filter.specs.Bloom.{join}
+use Rattle.verdict_filter.specs.Bloom.{unite}
 use Rattle.verdict_filter.proofs.Laws.{not-both}
 use Rattle.verdict_tree.proofs.joined.covers_joined.Statement.{statement}
 use Rattle.verdict_tree.proofs.joined.covers_joined.Tie as tie
@@ -14,7 +14,7 @@ is-within-requires c κs = let at-start = c .before .before .before in
 returns : tie.Need-returns
 returns c = let at-start = c .before .before .before .before .before in
     let h = at-start .pre .filtered in
-    sym (not-both (h .0) _ _ _ (λ e. c .before .is-within .ensures (not-true _ (c .if1 .taken)) (ap₂ join (h .1) (h .2) ∙ e ∙ sym (h .2))))
+    sym (not-both (h .0) _ _ _ (λ e. c .before .is-within .ensures (not-true _ (c .if1 .taken)) (ap₂ unite (h .1) (h .2) ∙ e ∙ sym (h .2))))
 
 shared-slice-read-n : tie.Need-shared-slice-read-n
 shared-slice-read-n c = let at-start = c .before .before .before .before .before .before in

@@ -9,7 +9,8 @@ use Rattle.limits.specs.Limits.{maxRules}
 use Rattle.path.specs.Path.{Path}
 use Rattle.table.specs.Table.{Rule}
 use Rattle.table_place.specs.Place.{elemsIn}
-use Rattle.verdict_judge.specs.Rules.{pathAt, ruleIn, Marked}
+use Rattle.table_rows.specs.Rules.{pathAt, ruleIn}
+use Rattle.verdict_judge.specs.Rules.{Marked}
 use Rattle.verdict_judge.proofs.Parts.{rule-room}
 use Rattle.text.proofs.Stores.{stored}
 use Rattle.verdict_tree.specs.Tree.{weight, Weights, Packed, Paths, fitting}
