@@ -8,7 +8,8 @@ trap 'rm -rf "$work"' EXIT
 
 table=examples/files/yard.table
 policy=examples/files/yard.json
-input=/dev/null
+input=/dev/null # what standard input is
+via=()          # by which command burgee is run
 status=0
 tried=0
 
@@ -23,7 +24,7 @@ run() {
     local expected=$1
     shift
     tried=$((tried + 1))
-    burgee "$@" >"$work/written" 2>"$work/complaint" <"$input"
+    "${via[@]}" burgee "$@" >"$work/written" 2>"$work/complaint" <"$input"
     local got=$?
     [ $got -eq "$expected" ] || fail "$*: status $got, not $expected"
 }

@@ -116,6 +116,27 @@ for file in "$work/none" "$work" "$long"; do
     step rpc '' / "$file" && complaint "${words[@]}"
 done
 
+# ---- a file that fails while it is read, after all that it holds: told, and what was read is not taken for the file
+gcc -O1 -Wall -Wextra -o "$work/torn" tests/torn.c || exit
+torn() {
+    input=$1 answer "${@:2}"
+    via=("$work/torn" "$1")
+    complaint "${@:2}"
+    via=()
+}
+torn $table table -
+torn $table show -
+torn "$work/readable" pack -
+torn $policy policy -
+torn $table groups - ann
+for command in verdict tree explain; do
+    torn $table $command - ann read '' /
+done
+torn $policy rpc - '' /
+torn "$work/headers" rpc $policy '' / -
+step upload - && torn $policy "${words[@]}"
+step rpc '' / - && torn "$work/headers" "${words[@]}"
+
 # ---- each refusal in words: what is wrong here is what the words say
 seen=
 # NUMBER WORDS CALL..: refused with this number, in these words.
