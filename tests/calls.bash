@@ -8,8 +8,7 @@ trap 'rm -rf "$work"' EXIT
 
 table=examples/files/yard.table
 policy=examples/files/yard.json
-input=/dev/null # what standard input is
-via=()          # by which command burgee is run
+input=/dev/null
 status=0
 tried=0
 
@@ -24,7 +23,7 @@ run() {
     local expected=$1
     shift
     tried=$((tried + 1))
-    "${via[@]}" burgee "$@" >"$work/written" 2>"$work/complaint" <"$input"
+    burgee "$@" >"$work/written" 2>"$work/complaint" <"$input"
     local got=$?
     [ $got -eq "$expected" ] || fail "$*: status $got, not $expected"
 }

@@ -116,26 +116,41 @@ for file in "$work/none" "$work" "$long"; do
     step rpc '' / "$file" && complaint "${words[@]}"
 done
 
-# ---- a file that fails while it is read, after all that it holds: told, and what was read is not taken for the file
-gcc -O1 -Wall -Wextra -o "$work/torn" tests/torn.c || exit
-torn() {
-    input=$1 answer "${@:2}"
-    via=("$work/torn" "$1")
-    complaint "${@:2}"
-    via=()
+# ---- a read that fails, be it the first of a file or the last, that finds its end: told, and what was read before is not taken for the file
+gcc -O1 -o "$work/stops" tests/stops.c || exit
+# The numbers of a call's reads among its system calls.
+reads() {
+    "$work/stops" list target/burgee/program "$@" 2>&1 >"$work/written" <"$input" 9>"$work/marks" | awk '$2 == "read" { print $1 }'
 }
-torn $table table -
-torn $table show -
-torn "$work/readable" pack -
-torn $policy policy -
-torn $table groups - ann
-for command in verdict tree explain; do
-    torn $table $command - ann read '' /
+started=$(reads version | wc -l) # those that start the program
+# READS WORD..: an answer that takes that many reads, and none where one of them fails.
+torn() {
+    local read all=$1
+    shift
+    answer "$@"
+    mapfile -t -s "$started" numbers < <(reads "$@")
+    [ "${#numbers[@]}" -eq "$all" ] || fail "$*: ${#numbers[@]} reads, not $all"
+    for read in "${numbers[@]}"; do
+        tried=$((tried + 1))
+        "$work/stops" fail "$read" 5 target/burgee/program "$@" >"$work/written" 2>"$work/complaint" <"$input" 9>"$work/marks"
+        [ "$(cat "$work/marks")" = 20 ] && [ ! -s "$work/written" ] && grep -q 'Input/output error' "$work/complaint" ||
+            fail "$*: its system call $read, a read, failed"
+    done
+}
+for input in /dev/null $table; do
+    file=$([ $input = $table ] && echo - || echo $table)
+    torn 2 table "$file"
+    torn 2 show "$file"
+    torn 2 groups "$file" ann
+    for command in verdict tree explain; do
+        torn 2 $command "$file" ann read '' /
+    done
 done
-torn $policy rpc - '' /
-torn "$work/headers" rpc $policy '' / -
-step upload - && torn $policy "${words[@]}"
-step rpc '' / - && torn "$work/headers" "${words[@]}"
+input=/dev/null
+torn 2 pack "$work/readable"
+torn 2 policy $policy
+torn 2 rpc $policy '' /
+torn 4 rpc $policy '' / "$work/headers"
 
 # ---- each refusal in words: what is wrong here is what the words say
 seen=

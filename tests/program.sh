@@ -74,8 +74,9 @@ silent() {
 
 # A first build says what it does, and how far it is; then it is silent.
 expect 0 'one kit' 1
-complained_of 'not built yet: its 2 crates'
+complained_of 'not built yet: of its 2 crates'
 complained_of '^burgee: proved crate 2 of 2: cli (7 s)$'
+complained_of '^burgee: it is built$'
 expect 0 'one kit' 1
 silent
 
