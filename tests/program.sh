@@ -89,10 +89,10 @@ silent
 echo three >"$here/crates/cli/src/main.rt"
 touch -d '2001-01-01' "$here/crates/cli/src/main.rt" "$here/crates/cli/src" "$here/crates/cli" "$here/crates"
 expect 0 'three kit' 3
-echo four >"$here/crates/cli/src/more.rt"
-expect 0 'three four kit' 4
+echo three >"$here/crates/cli/src/more.rt"
+expect 0 'three three kit' 4
 mv "$here/crates/cli/src/more.rt" "$here/crates/cli/src/a.rt"
-expect 0 'four three kit' 5
+expect 0 'three three kit' 5
 rm "$here/crates/cli/src/a.rt"
 expect 0 'three kit' 6
 echo another >"$here/toolchain.txt"
