@@ -33,6 +33,7 @@ burgee show $table >"$work/readable"
 printf 'site:north\n' >"$work/headers"
 takes 0 table $table
 takes 0 show $table
+misused_as pack "$work/readable" "$work/packed" more
 takes 0 policy $policy
 takes 0 groups $table ann
 takes 0 path read /
@@ -41,6 +42,10 @@ for command in verdict tree explain; do
     takes 0 $command $table ann read '' /
 done
 takes 1 rpc $policy '' / "$work/headers"
+begin table
+rm "${rotation[@]}"
+step new && misused_as "${words[@]}"
+step new table more && misused_as "${words[@]}"
 begin table
 for name in start close show; do
     step $name
@@ -226,7 +231,7 @@ truncate -s -1 "${rotation[-1]}"
 step start && says 11 'the store is shorter than 65,536 bytes' "${words[@]}"
 
 # 23 cannot come from here, where there is room for every result; its words stand with the others.
-grep -q '^ *23 the result does not fit the buffer\\n\\$' crates/cli_console/src/*.rt || fail 'refusal 23: other words'
+grep -rqF '23 the result does not fit the buffer\n' crates/cli_console || fail 'refusal 23: other words'
 seen="$seen 23"
 numbers=$(sed -n 's/^#define BURGEE_REFUSED_[A-Z_]* \([0-9]*\)u.*/\1/p' include/burgee.h)
 [ "$(printf '%s\n' $seen | sort -n)" = "$(printf '%s\n' $numbers | sort -n)" ] || fail "refusals: not those of the header are tried"
