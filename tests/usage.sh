@@ -47,6 +47,7 @@ done
 answer_is verdict $table --help read '' / < <(printf 'deny\ndefault\n')
 answer_is groups $table -h <<<'groups 0'
 misused_as table $table --help
+complaint verdict --help ann read '' /
 
 answer help version
 version="burgee $(sed -n 's/^#define BURGEE_VERSION_STRING "\(.*\)"$/\1/p' include/burgee.h)"
