@@ -28,9 +28,14 @@ run() {
     [ $got -eq "$expected" ] || fail "$*: status $got, not $expected"
 }
 
+# Nothing is complained of; a line on a user whom the table does not name is no complaint.
+quiet() {
+    ! grep -qv '^burgee: the table names no user ' "$work/complaint"
+}
+
 answer() {
     run 0 "$@"
-    [ -s "$work/written" ] && [ ! -s "$work/complaint" ] || fail "$*: no answer, or a complaint"
+    [ -s "$work/written" ] && quiet || fail "$*: no answer, or a complaint"
 }
 
 # The answer is what stands on standard input.
@@ -41,7 +46,7 @@ answer_is() {
 
 refused() {
     run 1 "$@"
-    grep -q '^refused ' "$work/written" && [ ! -s "$work/complaint" ] || fail "$*: not told as a refusal"
+    grep -q '^refused ' "$work/written" && quiet || fail "$*: not told as a refusal"
 }
 
 # REFUSAL WORD..: refused, and its first line is `refused REFUSAL`.
