@@ -142,7 +142,19 @@ for i in 1 2 3; do "$burgee" >"$work/said.$i" 2>/dev/null & done
 wait
 [ "$(cat "$work"/said.*)" = "$(printf 'seven another\n%.0s' 1 2 3)" ] || { echo 'calls at once: not all are right'; status=1; }
 expect 0 'seven another' 14
+# A build that is cut off is no build: the next call waits for what is left of it, and builds.
+echo cut >"$here/crates/cli/src/main.rt"
+"$burgee" >"$work/said.1" 2>&1 &
+sleep 0.5
+kill $!
+expect 0 'cut another' 16
 rm "$work/slow"
+# A find that does not know -files0-from: by the sum of the sources, each time.
+mkdir "$work/older"
+printf '#!/bin/sh\ncase $* in *files0-from*) exit 1 ;; esac\nexec %s "$@"\n' "$(command -v find)" >"$work/older/find"
+chmod +x "$work/older/find"
+PATH=$work/older:$PATH expect 0 'cut another' 16
+silent
 
 # A build leaves standard input alone.
 echo eight >"$here/crates/cli/src/main.rt"
@@ -155,20 +167,20 @@ ln -s ../here/bin/burgee "$work/links/relative"
 ln -s relative "$work/links/burgee"
 ln -s "$here/bin" "$work/folder"
 for link in links/whole links/relative links/burgee folder/burgee; do
-    burgee=$work/$link expect 0 'eight another' 15
+    burgee=$work/$link expect 0 'eight another' 17
     silent
 done
 [ "$(cd "$work/links" && PATH=$work/links:$PATH burgee)" = 'eight another' ] || { echo 'not by a link in the PATH'; status=1; }
 [ "$(cd "$here/bin" && sh burgee)" = 'eight another' ] || { echo 'not from its own folder'; status=1; }
 
 # The exit status is that of the marks; that of a program that does not end well is 3.
-expect 1 'eight another' 15 refused
-expect 2 'eight another' 15 complained
-expect 2 'eight another' 15 both
-expect 3 'eight another' 15 broken
+expect 1 'eight another' 17 refused
+expect 2 'eight another' 17 complained
+expect 2 'eight another' 17 both
+expect 3 'eight another' 17 broken
 complained_of 'did not end as it should'
-expect 3 'eight another' 15 killed
-expect 3 'eight another' 15 failed
+expect 3 'eight another' 17 killed
+expect 3 'eight another' 17 failed
 
 # A folder that cannot be written, and is built: it works, though chmod changes the status of every file; and once its sources have changed it is told.
 chmod -R a-w "$here"
