@@ -49,6 +49,12 @@ refused() {
     grep -q '^refused ' "$work/written" && quiet || fail "$*: not told as a refusal"
 }
 
+# The same of a command whose answer is a text: standard output holds that text or nothing, and a refusal goes to standard error.
+refused_aside() {
+    run 1 "$@"
+    grep -q '^refused' "$work/complaint" && [ ! -s "$work/written" ] || fail "$*: not told as a refusal on standard error alone"
+}
+
 # REFUSAL WORD..: refused, and its first line is `refused REFUSAL`.
 refused_as() {
     local told=$1

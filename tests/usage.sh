@@ -100,39 +100,12 @@ answer table $table
 answer verdict $table bob read '' /
 answer rpc $policy '' /
 refused table $policy
-refused show $policy
-refused pack $table
+refused_aside show $policy
+refused_aside pack $table
 refused policy $table
 refused groups $table ''
 refused verdict $table ann read '' no-path
 refused path read ''
 refused path write 01
-
-# A rotation: what is refused, or complained of, leaves both files as they were.
-same() {
-    cat "$work/record" "$work/store" | cmp -s - "$work/both" || fail "$*: a file has changed"
-}
-complaint rotate start "$work/record" "$work/store"
-complaint rotate new "$work/none/record" "$work/store" table
-[ ! -e "$work/store" ] || fail "rotate new: a store without its record"
-answer rotate new "$work/record" "$work/store" table
-answer rotate start "$work/record" "$work/store"
-answer rotate upload "$work/record" "$work/store" $table
-cat "$work/record" "$work/store" >"$work/both"
-for step in "start" "upload $policy" "rpc ann /"; do
-    read -ra words <<<"$step"
-    refused rotate "${words[0]}" "$work/record" "$work/store" "${words[@]:1}"
-    same "rotate $step"
-done
-answer rotate show "$work/record" "$work/store"
-same rotate show
-complaint rotate new "$work/record" "$work/store" table
-same rotate new
-complaint rotate upload "$work/record" "$work/store" "$work/none"
-same rotate upload
-complaint rotate close "$work/store" "$work/record"
-same rotate close
-answer rotate finalize "$work/record" "$work/store"
-refused rotate close "$work/record" "$work/store"
 
 ended usage

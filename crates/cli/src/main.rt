@@ -51,22 +51,23 @@ const TEXT_ROOM: usize = 131073;
 // As many as a large buffer (io) has. What stands after the argument is LF, which ends a line of digits.
 const DIGITS_ROOM: usize = 65536;
 
-fn on_text(command: Command, text: &[u8]) {
+fn on_text(command: Command, words: usize, text: &[u8]) {
     match command {
         Command::Table => tables::check(text),
         Command::Show => cli_readable::show_table(text),
-        Command::Pack => cli_readable::pack_table(text),
+        Command::Pack => cli_readable::pack_table(text, words),
         _ => cli_policy::check(text),
     }
 }
 
 // burgee table|show|pack|policy FILE
-fn read_text(command: Command) {
+// burgee pack FILE TABLE
+fn read_text(command: Command, words: usize) {
     let mut text = [0u8; TEXT_ROOM];
     let got = input::file(2, &mut text);
     let n = got.count;
     if got.is_good {
-        on_text(command, &text[..n]);
+        on_text(command, words, &text[..n]);
     }
 }
 
@@ -152,7 +153,7 @@ fn path() {
     }
 }
 
-// burgee rotate STEP RECORD STORE ..
+// burgee rotate STEP FILE ..
 fn rotate(words: usize) {
     let mut step = io::buffer();
     let s = input::word(2, &mut step);
@@ -171,7 +172,8 @@ fn explain_use() {
 // Whether a command takes that many words; how many a rotation takes, its step says.
 fn takes(command: Command, words: usize) -> bool {
     match command {
-        Command::Table | Command::Show | Command::Pack | Command::Policy => words == 3,
+        Command::Table | Command::Show | Command::Policy => words == 3,
+        Command::Pack => (words == 3) | (words == 4),
         Command::Groups | Command::Path => words == 4,
         Command::Verdict | Command::Tree | Command::Explain => words == 7,
         Command::Rpc => (words == 5) | (words == 6),
@@ -183,7 +185,9 @@ fn takes(command: Command, words: usize) -> bool {
 
 fn run(command: Command, name: &[u8], words: usize) {
     match command {
-        Command::Table | Command::Show | Command::Pack | Command::Policy => read_text(command),
+        Command::Table | Command::Show | Command::Pack | Command::Policy => {
+            read_text(command, words)
+        }
         Command::Groups => groups(),
         Command::Path => path(),
         Command::Verdict | Command::Tree | Command::Explain => verdict(command, name),

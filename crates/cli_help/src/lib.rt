@@ -96,7 +96,7 @@ fn all() {
         \n\
         burgee table FILE                                  checks a rule table\n\
         burgee show FILE                                   a rule table as readable text\n\
-        burgee pack FILE                                   readable text as a rule table\n\
+        burgee pack FILE [TABLE]                           readable text as a rule table\n\
         burgee groups FILE USER                            the groups that list a user\n\
         burgee verdict FILE USER read|write ORIGIN PATH    what a user may do at a path\n\
         burgee tree FILE USER read|write ORIGIN PATH       and at every path beneath it\n\
@@ -105,7 +105,7 @@ fn all() {
         burgee path write BYTES                            path bytes as path text\n\
         burgee policy FILE                                 checks an RPC policy\n\
         burgee rpc FILE IDENTITY PATH [HEADERS-FILE]       whether a client may make a call\n\
-        burgee rotate STEP RECORD STORE ..                 a rotation, tried by hand\n\
+        burgee rotate STEP FILE ..                         a rotation, tried by hand\n\
         burgee help [COMMAND]                              this page, or one command's; also burgee COMMAND --help\n\
         burgee version                                     the version of this program\n\
         \n\
@@ -139,9 +139,10 @@ fn conversion(command: &[u8], step: &[u8], part: Part) -> bool {
         step,
         part,
         b"burgee show FILE\n\
-        burgee pack FILE\n\
+        burgee pack FILE [TABLE]\n\
         \n\
         A rule table as readable text, one thing a line, and that text back as the table: show and pack undo each other.\n\
+        pack saves the table as the file TABLE, or prints it. A file that is there is replaced whole, and only where the text is accepted.\n\
         A line of the readable text is one of these, and ends with LF:\n\
         \n\
         version [VERSION] time T\n\
@@ -150,16 +151,18 @@ fn conversion(command: &[u8], step: &[u8], part: Part) -> bool {
         rule permit|deny read|write user|group [NAME] id [ID] origin [ORIGIN] PATH\n\
         \n\
         T is 16 hex digits. In brackets \\ stands before ] and \\. A line of another form is refused at its line, without a number;\n\
-        a text that makes no table is refused by the table's number and line.\n\
+        a text that makes no table is refused by the table's number and line. Refusals of the two go to standard error.\n\
         \n\
         $ burgee show examples/files/yard.table | head -n 4\n\
         version [2026-11] time 000000006553f100\n\
         group [admin]\n\
         group [engineers]\n\
         member [admin] [stevie]\n\
-        $ burgee show examples/files/yard.table | burgee pack - | cmp - examples/files/yard.table && echo the same\n\
+        $ burgee show examples/files/yard.table | burgee pack - target/help.table\n\
+        bytes 892\n\
+        $ cmp target/help.table examples/files/yard.table && echo the same\n\
         the same\n\
-        $ echo 'group admin' | burgee pack -\n\
+        $ echo 'group admin' | burgee pack - target/help.table\n\
         refused at line 1: not a line of the readable form\n\
         line: group admin\n",
     )
@@ -323,49 +326,50 @@ fn rotate(command: &[u8], step: &[u8], part: Part) -> bool {
         command,
         step,
         part,
-        b"burgee rotate new RECORD STORE policy|table\n\
-        burgee rotate show RECORD STORE\n\
-        burgee rotate start RECORD STORE\n\
-        burgee rotate upload RECORD STORE FILE\n\
-        burgee rotate verdict RECORD STORE USER read|write ORIGIN PATH\n\
-        burgee rotate tree RECORD STORE USER read|write ORIGIN PATH\n\
-        burgee rotate rpc RECORD STORE IDENTITY PATH [HEADERS-FILE]\n\
-        burgee rotate finalize RECORD STORE\n\
-        burgee rotate close RECORD STORE\n\
+        b"burgee rotate new FILE policy|table\n\
+        burgee rotate show FILE\n\
+        burgee rotate start FILE\n\
+        burgee rotate upload FILE TEXT\n\
+        burgee rotate verdict FILE USER read|write ORIGIN PATH\n\
+        burgee rotate tree FILE USER read|write ORIGIN PATH\n\
+        burgee rotate rpc FILE IDENTITY PATH [HEADERS-FILE]\n\
+        burgee rotate finalize FILE\n\
+        burgee rotate close FILE\n\
         \n\
-        A rotation tried by hand. RECORD and STORE are files that new makes, and neither may be there before;\n\
-        each step prints what the record then says, and show prints it without a step.\n\
+        A rotation tried by hand. FILE holds the record and its store; new makes it, where no file of that name is there.\n\
+        Each step prints what the record then says, and show prints it without a step.\n\
+        A step writes a new file beside FILE, flushes it to the disk and renames it: at every moment FILE is as before the step, or as after it.\n\
         A verdict, a tree answer or an RPC is judged on what is in force: the candidate, else the live text, else factory,\n\
         which denies all (table) or permits all (policy).\n\
         \n\
-        $ rm -f target/help.*\n\
-        $ burgee rotate new target/help.record target/help.store table\n\
+        $ rm -f target/help.rotation\n\
+        $ burgee rotate new target/help.rotation table\n\
         kind table\n\
         slot 0\n\
         live none\n\
         rotation off\n\
         candidate none\n\
-        $ burgee rotate verdict target/help.record target/help.store ann read '' /system\n\
+        $ burgee rotate verdict target/help.rotation ann read '' /system\n\
         deny\n\
         factory\n\
-        $ burgee rotate finalize target/help.record target/help.store\n\
+        $ burgee rotate finalize target/help.rotation\n\
         refused 13: no rotation is on\n\
-        $ burgee rotate new target/help.record target/help.store policy\n\
-        burgee: target/help.record: File exists\n\
-        $ rm target/help.*\n\
-        $ burgee rotate new target/help.record target/help.store policy | head -n 1\n\
+        $ burgee rotate new target/help.rotation policy\n\
+        burgee: target/help.rotation: it is there already\n\
+        $ rm target/help.rotation\n\
+        $ burgee rotate new target/help.rotation policy | head -n 1\n\
         kind policy\n\
-        $ burgee rotate start target/help.record target/help.store | tail -n 2\n\
+        $ burgee rotate start target/help.rotation | tail -n 2\n\
         rotation on\n\
         candidate none\n\
-        $ burgee rotate upload target/help.record target/help.store examples/files/yard.json | tail -n 1\n\
+        $ burgee rotate upload target/help.rotation examples/files/yard.json | tail -n 1\n\
         candidate 525\n\
-        $ burgee rotate rpc target/help.record target/help.store spiffe://yard/dryer /gnoi.system.System/Reboot\n\
+        $ burgee rotate rpc target/help.rotation spiffe://yard/dryer /gnoi.system.System/Reboot\n\
         deny\n\
         list deny_rules\n\
         rule 0\n\
         name no_reboot\n\
-        $ burgee rotate show target/help.record target/help.store\n\
+        $ burgee rotate show target/help.rotation\n\
         kind policy\n\
         slot 0\n\
         live none\n\
