@@ -2,6 +2,7 @@
  *
  *   stops list PROGRAM WORD..                a line for each call on standard error: its number in their order, from 1; its name; what it answered
  *   stops fail N ERRNO PROGRAM WORD..        call N is not made, and fails by that error; the exit status is the program's, or 100 after a signal
+ *   stops keeps FILE PROGRAM WORD..          PROGRAM makes FILE; where another makes it before, at any call up to the last look, that one stays
  *   stops saves FILE OLD NEW PROGRAM WORD..
  *
  * The last: PROGRAM with these words is to make of FILE, which holds what OLD does (or is missing, where OLD is -), what NEW holds. It is run over and over:
@@ -28,9 +29,9 @@
 #include <sys/wait.h>
 #include <unistd.h>
 
-enum manner { WHOLE, LIST, KILL_BEFORE, KILL_AFTER, FAIL, FULL, LIMIT };
+enum manner { WHOLE, LIST, KILL_BEFORE, KILL_AFTER, FAIL, FULL, LIMIT, TAKEN };
 
-static const char *const manner_names[] = {"whole", "listed", "killed before", "killed after", "failed", "disk full from", "limit of size"};
+static const char *const manner_names[] = {"whole", "listed", "killed before", "killed after", "failed", "disk full from", "limit of size", "taken before"};
 
 /* How a run is disturbed: at call `at`, by `error`; or by a limit on the size of a file, whose signal is ignored or not. */
 struct plan {
@@ -45,6 +46,8 @@ struct plan {
 struct seen {
     long calls;         /* how many there were */
     long loaded;        /* the last one by which the program was loaded */
+    long looked;        /* the last one that looked whether a name is taken */
+    long written;       /* the last one that wrote to the new file */
     long renamed;       /* the one that renamed the new file, or 0 */
     int killed;
     int status;
@@ -90,6 +93,8 @@ static int is_same(struct bytes a, struct bytes b)
 {
     return a.is_there == b.is_there && a.count == b.count && (a.count == 0 || memcmp(a.at, b.at, a.count) == 0);
 }
+
+static struct bytes old_bytes, new_bytes;
 
 static void restore(struct bytes old)
 {
@@ -223,6 +228,10 @@ static struct seen run(const struct plan *plan, long loaded)
     }
     close(pipes[1]);
     waitpid(child, &status, 0);
+    if (!WIFSTOPPED(status)) {
+        fprintf(stderr, "stops: %s cannot be run, or not be traced here\n", command[0]);
+        exit(1);
+    }
     ptrace(PTRACE_SETOPTIONS, child, NULL, (void *)(long)(PTRACE_O_TRACESYSGOOD | PTRACE_O_EXITKILL));
     for (;;) {
         struct user_regs_struct r;
@@ -245,6 +254,12 @@ static struct seen run(const struct plan *plan, long loaded)
             int is_here = ++seen.calls == plan->at && plan->manner != LIMIT, is_write = r.orig_rax == SYS_write && (int)r.rdi == new_fd;
             if (is_here && plan->manner == KILL_BEFORE) {
                 kill(child, SIGKILL);
+            }
+            if (is_here && plan->manner == TAKEN) {
+                restore(new_bytes);
+            }
+            if (r.orig_rax == SYS_readlink) {
+                seen.looked = seen.calls;
             }
             spoilt = (is_here && plan->manner == FAIL) || (is_full && is_write);
             if (spoilt) {
@@ -273,6 +288,7 @@ static struct seen run(const struct plan *plan, long loaded)
                 new_fd = (int)r.rax;
             } else if (r.orig_rax == SYS_write && (int)r.rdi == new_fd) {
                 is_dirty = 1;
+                seen.written = seen.calls;
             } else if (r.orig_rax == SYS_fsync && (int)r.rdi == new_fd) {
                 is_dirty = 0;
             } else if (r.orig_rax == SYS_fsync && seen.renamed != 0) {
@@ -316,8 +332,6 @@ static void fault(const struct plan *plan, const char *what)
     }
     fprintf(stderr, "\n");
 }
-
-static struct bytes old_bytes, new_bytes;
 
 /* A run, and what has to hold after it. */
 static struct seen try(const struct plan *plan, long loaded)
@@ -383,6 +397,29 @@ static void try_all(void)
     }
 }
 
+/* Another makes FILE, before each call up to the last look. */
+static void try_taken(void)
+{
+    struct plan plan = {.manner = WHOLE};
+    new_bytes = (struct bytes){(unsigned char *)"another's", 9, 1};
+    unlink(file);
+    struct seen whole = run(&plan, 0);
+    if (!whole.told_success || whole.looked < whole.written) {
+        fault(&plan, "no success, or no look once the new file is written");
+    }
+    for (long at = 1; at <= whole.looked; at++) {
+        plan = (struct plan){.manner = TAKEN, .at = at};
+        unlink(file);
+        struct seen seen = run(&plan, 0);
+        struct bytes now = read_all(file);
+        if (!seen.told_complaint || clear_folder() != 0 || !is_same(now, new_bytes)) {
+            fault(&plan, "no complaint, a file beside, or another's file is replaced");
+        }
+        free(now.at);
+    }
+    unlink(file);
+}
+
 int main(int argc, char **argv)
 {
     struct plan plan = {.manner = LIST, .is_plain = 1};
@@ -395,6 +432,13 @@ int main(int argc, char **argv)
         command = argv + 4;
         return run(&plan, 0).status;
     }
+    if (argc > 3 && strcmp(argv[1], "keeps") == 0) {
+        file = argv[2];
+        command = argv + 3;
+        try_taken();
+        printf("%ld\n", runs);
+        return faults != 0;
+    }
     if (argc > 5 && strcmp(argv[1], "saves") == 0) {
         file = argv[2];
         old_bytes = read_all(argv[3]);
@@ -405,6 +449,6 @@ int main(int argc, char **argv)
         printf("%ld\n", runs);
         return faults != 0;
     }
-    fprintf(stderr, "stops list | fail N ERRNO | saves FILE OLD NEW, then PROGRAM WORD..\n");
+    fprintf(stderr, "stops list | fail N ERRNO | keeps FILE | saves FILE OLD NEW, then PROGRAM WORD..\n");
     return 1;
 }
