@@ -45,16 +45,16 @@ pub fn number_at(text: &[u8], p: usize) -> usize {
 }
 
 // Prints the line at `at` without its LF; bytes that do not print in hex, after \x.
-fn quote_at(text: &[u8], at: usize)
+fn quote_at(to: i32, text: &[u8], at: usize)
     requires { ⌜ at ≤ length (now text) ⌝ }
 {
     let end = text_search::find(text, at, b'\n');
-    crate::say::quote(&text[at..end]);
+    crate::say::quote(to, &text[at..end]);
 }
 
 // Prints line n.
-pub fn quote(text: &[u8], n: usize) {
-    quote_at(text, start(text, n));
+pub fn quote(to: i32, text: &[u8], n: usize) {
+    quote_at(to, text, start(text, n));
 }
 
 // Whether line n has no LF at its end.
@@ -63,7 +63,7 @@ pub fn is_open(text: &[u8], n: usize) -> bool {
 }
 
 // Prints what follows `key` in the line at `at`, if that begins with it.
-fn entry_at(text: &[u8], at: usize, key: &[u8]) -> bool
+fn entry_at(to: i32, text: &[u8], at: usize, key: &[u8]) -> bool
     requires { ⌜ at ≤ length (now text) ⌝ }
 {
     if text.len() - at < key.len() {
@@ -73,15 +73,15 @@ fn entry_at(text: &[u8], at: usize, key: &[u8]) -> bool
     if !text::string::is_same(&text[at..rest], key) {
         return false;
     }
-    quote_at(text, rest);
+    quote_at(to, text, rest);
     true
 }
 
 // Prints what follows `key` in the first line that begins with it.
-pub fn entry(text: &[u8], key: &[u8]) {
+pub fn entry(to: i32, text: &[u8], key: &[u8]) {
     let mut at = 0;
     while at < text.len() {
-        if entry_at(text, at, key) {
+        if entry_at(to, text, at, key) {
             return;
         }
         at = next(text, at);

@@ -1,6 +1,32 @@
-// Printing to standard output, for the programs that run vectors.
+// Printing to standard output.
+pub mod marks;
+
+// Complains where a write to standard output failed. From then on standard output is /dev/null: what was written stays a beginning of the
+// answer, and one complaint is enough.
+fn expect(is_written: bool) {
+    if is_written {
+        return;
+    }
+    io::write_all(2, b"burgee: ");
+    os::fail(b"standard output");
+    marks::complaint();
+    libc::close(1);
+    // A descriptor gets the lowest number that is free, which is 0 where standard input is closed.
+    if os::open_append(b"/dev/null") == 0 {
+        os::open_append(b"/dev/null");
+    }
+}
+
 pub fn word(s: &[u8]) {
-    io::write_all(1, s);
+    expect(io::write_all(1, s));
+}
+
+// The same to a descriptor: 1 for standard output, 2 for standard error.
+pub fn word_to(to: i32, s: &[u8]) {
+    let is_written = io::write_all(to, s);
+    if to == 1 {
+        expect(is_written);
+    }
 }
 
 pub fn space() {
@@ -13,7 +39,13 @@ pub fn line(s: &[u8]) {
 }
 
 pub fn decimal(n: u64) {
-    io::print_decimal(1, n);
+    expect(io::print_decimal(1, n));
+}
+
+pub fn decimal_to(to: i32, n: u64) {
+    let mut digits = [0u8; 20];
+    let d = io::decimal(n, &mut digits);
+    word_to(to, &digits[..d]);
 }
 
 fn wide(b: u8) -> u64 {
@@ -29,7 +61,14 @@ pub fn number(n: u8) {
 pub fn hex(s: &[u8]) {
     let mut i = 0;
     while i < s.len() {
-        io::print_hex(1, wide(s[i]), 2);
+        expect(io::print_hex(1, wide(s[i]), 2));
         i += 1;
     }
+}
+
+// One byte.
+pub fn hex_to(to: i32, b: u8) {
+    let mut digits = [0u8; 16];
+    let d = io::hex(wide(b), 2, &mut digits);
+    word_to(to, &digits[..d]);
 }
