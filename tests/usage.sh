@@ -96,7 +96,7 @@ complaint rpc "$work/none" '' /
 complaint rpc $policy '' / "$work/none"
 
 answer table $table
-answer verdict $table bob read '' /
+answer verdict $table ann read '' /
 answer rpc $policy '' /
 refused table $policy
 refused show $policy

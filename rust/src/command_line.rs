@@ -14,8 +14,13 @@ use crate::rpc::RpcVerdict;
 use crate::table::{with_table, RuleNumber};
 use crate::verdict::{PathVerdict, TreeVerdict};
 
-/// What the program prints for these words and this standard input.
+/// What the program prints for these words and this standard input; it says nothing on standard error.
 pub fn burgee(words: &[&[u8]], input: &[u8]) -> String {
+    burgee_saying("", words, input)
+}
+
+/// The same where it says that on standard error.
+pub fn burgee_saying(said: &str, words: &[&[u8]], input: &[u8]) -> String {
     let program = PathBuf::from(env!("CARGO_MANIFEST_DIR")).join("../target/bin/cli");
     let mut child = Command::new(program)
         .args(words.iter().map(|word| OsStr::from_bytes(word)))
@@ -29,7 +34,7 @@ pub fn burgee(words: &[&[u8]], input: &[u8]) -> String {
     let output = child.wait_with_output().expect("an end");
     let shown = || words.iter().map(|word| word.escape_ascii().to_string()).collect::<Vec<_>>().join(" ");
     assert!(output.status.success(), "{}: {}", shown(), output.status);
-    assert!(output.stderr.is_empty(), "{}: {}", shown(), output.stderr.escape_ascii());
+    assert!(output.stderr == said.as_bytes(), "{}: {}, not {said}", shown(), output.stderr.escape_ascii());
     String::from_utf8(output.stdout).expect("bytes that print")
 }
 
