@@ -6,9 +6,8 @@ use Prim.Native.Nat.{ℕ, suc, _+_, _-_, _≤_, _<_}
 use native.Mathlib.Numerals.{add-one}
 use native.Mathlib.Omega.{arith}
 use borrow.Author.Tests.{eqb-true, eqb-false, eq-eqb, ne-eqb, lt-ltb, le-ltb, not-true, not-false}
-use lib.Dec.{eqb, ltb}
+use lib.Dec.{eqb}
 use lib.ListN.{length, getD, set, length-set}
-use lib.Seq.{getD-set-same, getD-set-other}
 use Rattle.text.specs.Test.{_and_, if_then_else_, any, only}
 use Rattle.text.specs.String.{Str, same}
 use Rattle.text.specs.Frame.{part}
@@ -16,7 +15,7 @@ use Rattle.text.proofs.Tests.{by, and-l, and-r, and-false, and-first}
 use Rattle.table.specs.Layout.{ruleSubjectKind, ruleSubject}
 use Rattle.table_place.specs.Place.{strEnd, strIn}
 use Rattle.table_rows.specs.Strings.{rowsOf, stringsIn, Laid, place}
-use Rattle.table_rows.proofs.Grow.{rows-grow, strings-length, place-any, place-le}
+use Rattle.table_rows.proofs.Grow.{strings-length, strings-grow, laid-grow, place-any, place-le}
 use Rattle.cli_names.specs.Names.{alike, gather}
 use Rattle.table_facts.specs.Facts.{Identified}
 use Rattle.table_facts.proofs.Names.{id-inside}
@@ -24,19 +23,12 @@ use Rattle.cli_names.specs.Positions.{subjectsIn, Pushed, Stand, Gathere
 
 -- ---- one position more
 
-module _ (f places : List ℕ) (m v : ℕ) (long : m < length places) where
+module _ (f places : List ℕ) (m v : ℕ) (laid : Laid f places m) (long : m < length places) where
   pub push-strings : stringsIn f (set places m v) (m + 1) 0 ≡ stringsIn f places m 0 ++ (strIn f v ∷ [])
-  unfolding stringsIn
-  push-strings =
-      rows-grow (λ j. strIn f (getD places j 0)) (λ j. strIn f (getD (set places m v) j 0)) m (strIn f v)
-      (λ j h. ap (strIn f) (getD-set-other places m j v 0 (λ e. let x : ⊥ = omega arith in x)))
-      (ap (strIn f) (getD-set-same places m v 0 long))
+  push-strings = rw (append-nil f) at (strings-grow f [] places m v laid long (strIn f v) (ap (λ (g : List ℕ). strIn g v) (append-nil f)))
 
-  pub push-laid : Laid f places m → strEnd f v ≤ length f → Laid f (set places m v) (m + 1)
-  push-laid l e j h =
-      by (eqb j m)
-      (λ t. let i : j ≡ m = eqb-true _ _ t in rw (i, getD-set-same places m v 0 long) e)
-      (λ t. let k : j ≡ m → ⊥ = eqb-false _ _ t in rw (getD-set-other places m j v 0 k) (l j (omega arith)))
+  pub push-laid : strEnd f v ≤ length f → Laid f (set places m v) (m + 1)
+  push-laid e = rw (append-nil f) at (laid-grow f [] places m v laid long (rw (append-nil f) e))
 
 module _ (test : Bool) (places : List ℕ) (m at : ℕ) (places′ : List ℕ) (r : ℕ) (P : Pushed test places m at places′ r) where
   pub pushed : test ≡ true → (r ≡ m + 1) × (places′ ≡ set places m at)
@@ -102,11 +94,11 @@ module _ (f starts : List ℕ) (n : ℕ) (places₀ : List ℕ) where
         record {
           within = omega arith;
           few = omega (arith, F .few);
-          laid = push-laid f places m v r (F .laid) fits;
+          laid = push-laid f places m v (F .laid) r fits;
           are =
               let e : n - i ≡ suc (n - (i + 1)) = omega arith in
               let d : subjectsIn f starts (n - i) i ≡ strIn f v ∷ subjectsIn f starts (n - (i + 1)) (i + 1) = rw (e, ne-eqb _ _ k, add-one, is) in
-              ap (λ (l : List Str). l ++ subjectsIn f starts (n - (i + 1)) (i + 1)) (push-strings f places m v r)
+              ap (λ (l : List Str). l ++ subjectsIn f starts (n - (i + 1)) (i + 1)) (push-strings f places m v (F .laid) r)
               ∙ append-assoc (stringsIn f places m 0) (strIn f v ∷ []) (subjectsIn f starts (n - (i + 1)) (i + 1))
               ∙ ap (λ (l : List Str). stringsIn f places m 0 ++ l) (sym d) ∙ F .are;
           long = length-set places m v ∙ F .long;
@@ -235,8 +227,8 @@ module _ (f starts : List ℕ) (n : ℕ) (user : Str) (kept₀ : List ℕ) (m : 
         record {
           within = omega arith;
           few = omega (arith, G .few);
-          laid = push-laid f kept count (getD starts i 0) r (G .laid) fits;
-          are = rw (push-strings f kept count (getD starts i 0) r) (sym (taken h e) ∙ G .are);
+          laid = push-laid f kept count (getD starts i 0) (G .laid) r fits;
+          are = rw (push-strings f kept count (getD starts i 0) (G .laid) r) (sym (taken h e) ∙ G .are);
           long = length-set kept count (getD starts i 0) ∙ G .long;
         }
 

@@ -1,4 +1,4 @@
--- Whom a table names as a user, and the line that is said of a user whom it does not name: a typing slip would look like a refusal otherwise.
+-- Whom a table names as a user, and the line that is said of a user whom it does not name: a typing slip looks like a user without rights.
 use Prim.Native.Nat.{ℕ, _+_, _*_}
 use mathlib.Core.Bool.{Bool, true, false, cond}
 use mathlib.Core.List.{List, [], _∷_, _++_, map}
@@ -58,8 +58,8 @@ unfoldable pub sentence : Bool → Str → List Str → Str
 sentence isGroup user names =
     bytes "burgee: the table names no user " ++ (user ++ (grouping isGroup ++ (listed true names ++ (10 ∷ []))))
 
--- of a user, where `users` are those whom the table names: nothing where it is one of them, else the sentence with the names that differ only in case,
--- each once
+-- of a user, where `users` are those whom the table names: nothing where it is one of them; else the sentence with those that are the same but for the
+-- case of letters, so that none of them is the user, each once, in their order
 unfoldable pub told : Bool → Str → List Str → Str
 told isGroup user users = if any (same user) users then [] else sentence isGroup user (gather [] (only (alike user) users))
 

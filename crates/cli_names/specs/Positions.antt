@@ -1,11 +1,11 @@
 -- Users by the positions of their names in decoded bytes, for programs.
-use Prim.Native.Nat.{ℕ, zero, suc, _+_, _≤_, _<_}
+use Prim.Native.Nat.{ℕ, zero, suc, _+_, _≤_}
 use mathlib.Core.Path.{_≡_}
 use mathlib.Core.Bool.{Bool}
 use mathlib.Core.List.{List, [], _∷_, _++_}
 use lib.Dec.{eqb}
 use lib.ListN.{length, getD, set}
-use Rattle.limits.specs.Limits.{maxMembers, maxRules, maxString}
+use Rattle.limits.specs.Limits.{maxMembers, maxRules}
 use Rattle.limits.specs.Sizes.{maxTableBytes}
 use Rattle.text.specs.Test.{if_then_else_, only}
 use Rattle.text.specs.String.{Str}

@@ -1,3 +1,4 @@
+-- `find_subjects` goes from rule to rule.
 use borrow.Author.Needs.{needs}
 use native.Mathlib.Omega.{arith}
 use mathlib.Core.Path.{refl}
@@ -5,10 +6,8 @@ use Prim.Native.Nat.{_-_}
 use Rattle.cli_names.proofs.Gathering.{Finding, finding-start, finding-turn, finding-done, subject-laid, subject-room}
 use Rattle.cli_names.proofs.find_subjects.Statement.{statement}
 use Rattle.cli_names.proofs.find_subjects.Tie as tie
-use Rattle.cli_names.proofs.find_subjects.Reads as reads
-use Rattle.cli_names.proofs.find_subjects.Lts as lts
-use Rattle.cli_names.proofs.push_where.Reads as push-where-reads
 
+-- The users of the first i rules stand at the first m places.
 abbrev Inv-loop : tie.InvT-loop
 Inv-loop f starts n places₀ m₀ i₀ places m i = Finding f starts n places₀ places m i
 

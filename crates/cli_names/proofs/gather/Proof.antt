@@ -1,14 +1,12 @@
+-- `gather` goes from name to name.
 use borrow.Author.Needs.{needs}
 use native.Mathlib.Omega.{arith}
 use Prim.Native.Nat.{_-_}
 use Rattle.cli_names.proofs.Gathering.{Gathering, gathering-start, gathering-turn, gathering-done}
 use Rattle.cli_names.proofs.gather.Statement.{statement}
 use Rattle.cli_names.proofs.gather.Tie as tie
-use Rattle.cli_names.proofs.gather.Reads as reads
-use Rattle.cli_names.proofs.gather.Lts as lts
-use Rattle.cli_names.proofs.is_new.Reads as is-new-reads
-use Rattle.cli_names.proofs.push_where.Reads as push-where-reads
 
+-- Of the first i names those that are wanted stand in `kept`, `count` with those that stood there before.
 abbrev Inv-loop : tie.InvT-loop
 Inv-loop f starts n user kept₀ m count₀ i₀ kept count i = Gathering f starts n user kept₀ m kept count i
 

@@ -1,3 +1,4 @@
+-- `is_alike` equals its definition. The invariant: what is left to compare decides.
 use borrow.Author.Needs.{needs}
 use native.Mathlib.Omega.{arith}
 use mathlib.Core.Path.{_≡_, refl, sym, _∙_}
@@ -7,10 +8,8 @@ use Rattle.cli_names.specs.Names.{alike}
 use Rattle.cli_names.proofs.Letters.{rest, alike-start, alike-lengths, alike-pass, alike-differ, alike-end}
 use Rattle.cli_names.proofs.is_alike.Statement.{statement}
 use Rattle.cli_names.proofs.is_alike.Tie as tie
-use Rattle.cli_names.proofs.is_alike.Reads as reads
-use Rattle.cli_names.proofs.is_alike.Lts as lts
-use Rattle.cli_names.proofs.small.Reads as small-reads
 
+-- a and b have the length n and are alike before i, so what follows there decides.
 abbrev Inv-loop : tie.InvT-loop
 Inv-loop a b n i₀ i = (n ≡ length a) × (n ≡ length b) × (i ≤ n) × (alike a b ≡ rest a b i)
 

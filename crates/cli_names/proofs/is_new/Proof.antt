@@ -1,3 +1,4 @@
+-- `is_new` equals its definition.
 use native.Mathlib.Omega.{arith}
 use borrow.Author.Tests.{not-true, not-false}
 use Rattle.table_rows.proofs.Strings.{room}
@@ -6,11 +7,6 @@ use Rattle.cli_names.proofs.Gathering.{other-name, first-name}
 use borrow.Author.Needs.{needs}
 use Rattle.cli_names.proofs.is_new.Statement.{statement}
 use Rattle.cli_names.proofs.is_new.Tie as tie
-use Rattle.cli_names.proofs.is_new.Reads as reads
-use Rattle.cli_names.proofs.is_new.Lts as lts
-use Rattle.cli_names.proofs.is_alike.Reads as is-alike-reads
-use Rattle.table_place.proofs.str_end.Reads as str-end-reads
-use Rattle.table_rows.proofs.find.Reads as find-reads
 
 add-start : tie.Need-add-start
 add-start c = let at-start = c .before .before .before in omega (arith, room _ _ (at-start .pre .0))

@@ -1,9 +1,8 @@
+-- `push_where` stores the position, or nothing.
 use Rattle.text.specs.Test.{if_then_else_}
 use borrow.Author.Needs.{needs}
 use Rattle.cli_names.proofs.push_where.Statement.{statement}
 use Rattle.cli_names.proofs.push_where.Tie as tie
-use Rattle.cli_names.proofs.push_where.Reads as reads
-use Rattle.cli_names.proofs.push_where.Lts as lts
 
 returns : tie.Need-returns
 unfolding if_then_else_

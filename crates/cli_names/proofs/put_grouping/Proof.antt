@@ -1,11 +1,9 @@
+-- `put_grouping` stores what is said of a group, or nothing.
 use Rattle.text.proofs.Filling.{wrote-nothing}
 use Rattle.cli_names.proofs.Storing.{grouping-said, grouping-none}
 use borrow.Author.Needs.{needs}
 use Rattle.cli_names.proofs.put_grouping.Statement.{statement}
 use Rattle.cli_names.proofs.put_grouping.Tie as tie
-use Rattle.cli_names.proofs.put_grouping.Reads as reads
-use Rattle.cli_names.proofs.put_grouping.Lts as lts
-use Rattle.cli_names.proofs.put.Reads as put-reads
 
 put-requires : tie.Need-put-requires
 put-requires c κs = let at-start = c .before .before .before .before in

@@ -1,10 +1,8 @@
+-- `put_lead` stores the words before a name.
 use Rattle.cli_names.proofs.Storing.{lead-first, lead-next}
 use borrow.Author.Needs.{needs}
 use Rattle.cli_names.proofs.put_lead.Statement.{statement}
 use Rattle.cli_names.proofs.put_lead.Tie as tie
-use Rattle.cli_names.proofs.put_lead.Reads as reads
-use Rattle.cli_names.proofs.put_lead.Lts as lts
-use Rattle.cli_names.proofs.put.Reads as put-reads
 
 put-requires : tie.Need-put-requires
 put-requires c κs = let at-start = c .before .before .before .before in

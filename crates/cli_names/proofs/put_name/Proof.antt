@@ -1,3 +1,4 @@
+-- `put_name` stores a name after its words.
 use native.Mathlib.Omega.{arith}
 use mathlib.Core.Path.{refl}
 use Rattle.table_rows.proofs.Strings.{room}
@@ -6,11 +7,6 @@ use Rattle.cli_names.proofs.Storing.{lead-room, name-room, name-led}
 use borrow.Author.Needs.{needs}
 use Rattle.cli_names.proofs.put_name.Statement.{statement}
 use Rattle.cli_names.proofs.put_name.Tie as tie
-use Rattle.cli_names.proofs.put_name.Reads as reads
-use Rattle.cli_names.proofs.put_name.Lts as lts
-use Rattle.cli_names.proofs.put.Reads as put-reads
-use Rattle.cli_names.proofs.put_lead.Reads as put-lead-reads
-use Rattle.table_place.proofs.str_end.Reads as str-end-reads
 
 put-lead-requires : tie.Need-put-lead-requires
 put-lead-requires c κs = let at-start = c .before .before .before in

@@ -1,3 +1,4 @@
+-- `put_names` goes from name to name.
 use borrow.Author.Needs.{needs}
 use native.Mathlib.Omega.{arith}
 use Prim.Native.Nat.{_-_}
@@ -5,6 +6,7 @@ use Rattle.cli_names.proofs.Storing.{Listing, listing-start, listing-ro
 use Rattle.cli_names.proofs.put_names.Statement.{statement}
 use Rattle.cli_names.proofs.put_names.Tie as tie
 
+-- The names before number i are stored, up to `to`.
 abbrev Inv-loop : tie.InvT-loop
 Inv-loop f places n out₀ at to₀ i₀ out to i = Listing f places n out₀ at out to i
 

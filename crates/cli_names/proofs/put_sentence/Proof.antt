@@ -1,12 +1,8 @@
+-- `put_sentence` stores its parts one after another.
 use Rattle.cli_names.proofs.Storing.{room-0, room-1, room-2, room-3, room-4, sentence-stored}
 use borrow.Author.Needs.{needs}
 use Rattle.cli_names.proofs.put_sentence.Statement.{statement}
 use Rattle.cli_names.proofs.put_sentence.Tie as tie
-use Rattle.cli_names.proofs.put_sentence.Reads as reads
-use Rattle.cli_names.proofs.put_sentence.Lts as lts
-use Rattle.cli_names.proofs.put.Reads as put-reads
-use Rattle.cli_names.proofs.put_grouping.Reads as put-grouping-reads
-use Rattle.cli_names.proofs.put_names.Reads as put-names-reads
 
 put-requires : tie.Need-put-requires
 put-requires c κs = let at-start = c .before .before .before .before .before .before in

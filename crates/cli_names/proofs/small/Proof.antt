@@ -1,3 +1,4 @@
+-- `small` equals its definition.
 use native.Mathlib.Omega.{arith}
 use borrow.Author.Tests.{leb-true}
 use lib.Dec.{leb}

@@ -1,14 +1,9 @@
+-- `tell_users` tells what the definition says of the positions.
 use native.Mathlib.Omega.{arith}
 use Rattle.cli_names.proofs.Users.{none-yet, told-member, told-subject, told-is, told-fits}
 use borrow.Author.Needs.{needs}
 use Rattle.cli_names.proofs.tell_users.Statement.{statement}
 use Rattle.cli_names.proofs.tell_users.Tie as tie
-use Rattle.cli_names.proofs.tell_users.Reads as reads
-use Rattle.cli_names.proofs.tell_users.Lts as lts
-use Rattle.cli_names.proofs.find_subjects.Reads as find-subjects-reads
-use Rattle.cli_names.proofs.gather.Reads as gather-reads
-use Rattle.cli_names.proofs.put_sentence.Reads as put-sentence-reads
-use Rattle.table_rows.proofs.find.Reads as find-reads
 
 returns : tie.Need-returns
 returns c = told-member _ _ _ _ _ _ _ _ _ (c .before .find .ensures) (c .if1 .taken)

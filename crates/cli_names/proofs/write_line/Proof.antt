@@ -1,3 +1,4 @@
+-- `write_line` tells what the definition says of the loaded table.
 use native.Mathlib.Omega.{arith}
 use mathlib.Core.Path.{sym, _∙_}
 use Rattle.text.proofs.Filling.{wrote-nothing}
@@ -7,12 +8,6 @@ use Rattle.cli_names.proofs.Users.{slip-refused, slip-is, groups-listed
 use borrow.Author.Needs.{needs}
 use Rattle.cli_names.proofs.write_line.Statement.{statement}
 use Rattle.cli_names.proofs.write_line.Tie as tie
-use Rattle.cli_names.proofs.write_line.Reads as reads
-use Rattle.cli_names.proofs.write_line.Lts as lts
-use Rattle.cli_names.proofs.tell_users.Reads as tell-users-reads
-use Rattle.table.proofs.is_bad_user.Reads as is-bad-user-reads
-use Rattle.table_load.proofs.load.Reads as load-reads
-use Rattle.table_rows.proofs.find.Reads as find-reads
 
 returns : tie.Need-returns
 unfolding slip
