@@ -1,45 +1,33 @@
 #!/usr/bin/env bash
 # A user whom an accepted table does not name is told on standard error, with the names that differ only in case. The answer on standard output and
 # the exit status are the same as for any other user.
-set -uo pipefail
-cd "$(dirname "$0")/.."
-export PATH="$PWD/bin:$PATH"
-work=$(mktemp -d)
-trap 'rm -rf "$work"' EXIT
+. "$(dirname "$0")/calls.bash"
 
 # The words that name a rotation's files.
 files=("$work/record" "$work/store")
-status=0
-tried=0
 
-# STATUS SAID WORD..: burgee on the words ends with that status, says that on standard error, and answers on standard output.
-run() {
-    local expected=$1 said=$2 got
+# STATUS SAID WORD..: the call ends with that status, says that on standard error, and answers on standard output.
+said() {
+    local expected=$1 line=$2
     shift 2
-    tried=$((tried + 1))
-    burgee "$@" >"$work/written" 2>"$work/said" </dev/null
-    got=$?
-    if [ $got -ne "$expected" ] || [ "$(cat "$work/said")" != "$said" ] || [ ! -s "$work/written" ] || grep -q '^burgee: ' "$work/written"; then
-        echo "burgee $*: status $got, not $expected, or it says something else than: $said"
-        head -c 2000 "$work/said"
-        status=1
-    fi
+    run "$expected" "$@"
+    [ "$(cat "$work/complaint")" = "$line" ] && [ -s "$work/written" ] && ! grep -q '^burgee: ' "$work/written" || fail "$*: not said: $line"
 }
 
 # STATUS SAID TABLE USER: the same for each command that asks a table about a user.
 asked() {
     local command
     for command in verdict tree explain; do
-        run "$1" "$2" $command "$3" "$4" read '' /
+        said "$1" "$2" $command "$3" "$4" read '' /
     done
-    run "$1" "$2" groups "$3" "$4"
+    said "$1" "$2" groups "$3" "$4"
 }
 
 # The same for the probes of the rotation.
 probed() {
     local probe
     for probe in verdict tree; do
-        run "$1" "$2" rotate $probe "${files[@]}" "$3" read '' /
+        said "$1" "$2" rotate $probe "${files[@]}" "$3" read '' /
     done
 }
 
@@ -70,9 +58,9 @@ done
 
 no='burgee: the table names no user'
 while read -r user rest; do
-    said=${rest:+$no $user${rest#nobody}}
-    asked 0 "$said" "$work/table" "$user"
-    probed 0 "$said" "$user"
+    line=${rest:+$no $user${rest#nobody}}
+    asked 0 "$line" "$work/table" "$user"
+    probed 0 "$line" "$user"
 done <<END
 ann
 carl
@@ -97,7 +85,7 @@ for user in '' "x$long" $'a\x01'; do
 done
 head -c -1 "$work/table" >"$work/refused"
 asked 1 '' "$work/refused" zed
-run 1 "$no Ann; it names ann" verdict "$work/table" Ann read '' no-path
+said 1 "$no Ann; it names ann" verdict "$work/table" Ann read '' no-path
 
 # as many names as a table can have
 {
@@ -118,5 +106,4 @@ burgee pack - <"$work/many.text" >"$work/many"
 names=$(sed -n 's/^member \[g\] \[\(.*\)\]$/\1/p; s/^rule deny read user \[\([^]]*\)\].*/\1/p' "$work/many.text" | paste -s -d , | sed 's/,/, /g')
 asked 0 "$no abcdefghij; it names $names" "$work/many" abcdefghij
 
-[ $status -eq 0 ] && echo "slips: $tried calls, ok"
-exit $status
+ended slips

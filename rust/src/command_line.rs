@@ -1,4 +1,4 @@
-//! The command line: the program that `bin/burgee` builds, and what it has to print.
+//! The command line: the program that `bin/burgee` runs, and what it has to print.
 
 use std::ffi::OsStr;
 use std::io::Write;
@@ -28,7 +28,7 @@ pub fn burgee_saying(said: &str, words: &[&[u8]], input: &[u8]) -> String {
         .stdout(Stdio::piped())
         .stderr(Stdio::piped())
         .spawn()
-        .expect("target/bin/cli, which bin/burgee builds");
+        .expect("target/bin/cli, which `rt check cli` builds");
     // It may end before it has read all.
     let _ = child.stdin.take().expect("piped").write_all(input);
     let output = child.wait_with_output().expect("an end");

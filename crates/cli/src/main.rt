@@ -195,18 +195,48 @@ fn run(command: Command, name: &[u8], words: usize) {
     }
 }
 
-fn main() {
+// Whether the one word after the command asks for its page of help. Elsewhere such a word is a user's name, say.
+fn asks_help(words: usize) -> bool {
+    let mut word = io::buffer();
+    let w = input::word(2, &mut word);
+    (words == 3) & (cli_console::lines::place(b"--help\n-h\n", &word[..w]) != 0)
+}
+
+// The page of a command; all of help where that has none of its own.
+fn show_page(name: &[u8]) {
+    if !cli_help::on(name) {
+        cli_help::on(b"");
+    }
+}
+
+// A command that was called with words that it does not take.
+fn refuse_words(command: Command, name: &[u8]) {
+    match command {
+        Command::Version => cli_console::say::misuse(b"version"),
+        Command::Help => cli_console::say::usage(b"not the arguments of help", b"", b""),
+        _ => cli_console::say::misuse(name),
+    }
+}
+
+// The command that the first word names, on the words that follow it.
+fn obey(words: usize) {
     let mut word = io::buffer();
     let w = input::word(1, &mut word);
-    let n = os::arg_count();
     let command = named(&word[..w]);
-    if n < 2 {
+    if words < 2 {
         cli_console::say::usage(b"no command is named", b"", b"");
     } else if let Command::Unknown = command {
-        run(command, &word[..w], n);
-    } else if takes(command, n) {
-        run(command, &word[..w], n);
+        run(command, &word[..w], words);
+    } else if asks_help(words) {
+        show_page(&word[..w]);
+    } else if takes(command, words) {
+        run(command, &word[..w], words);
     } else {
-        cli_console::say::misuse(&word[..w]);
+        refuse_words(command, &word[..w]);
     }
+}
+
+fn main() {
+    obey(os::arg_count());
+    cli_show::marks::end();
 }

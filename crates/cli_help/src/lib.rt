@@ -1,7 +1,97 @@
-// Help: what the commands are, and for each what it prints, with an example.
-pub fn all() {
-    io::write_all(
-        1,
+// Help: what the commands are, and for each what it prints, with an example. A page begins with how its commands are called, one to a line.
+ghost use Prim.Native.Nat.{_≤_};
+ghost use lib.ListN.{length};
+
+enum Part {
+    Page,
+    Usage,
+}
+
+// Where the word after the one at `at` begins; 0 where that is another word.
+fn after(page: &[u8], at: usize, word: &[u8]) -> usize
+    ensures { λ r. ⌜ r ≤ length (now (page .entry)) ⌝ }
+{
+    if page.len() <= at {
+        return 0;
+    }
+    if page.len() - at <= word.len() {
+        return 0;
+    }
+    let end = at + word.len();
+    if !text::string::is_same(&page[at..end], word) {
+        return 0;
+    }
+    if (page[end] == b' ') | (page[end] == b'\n') {
+        return end + 1;
+    }
+    0
+}
+
+// Whether the line at `at` tells how the command is called, or that step of it.
+fn tells(page: &[u8], at: usize, command: &[u8], step: &[u8]) -> bool {
+    let name = after(page, at, b"burgee");
+    let next = after(page, name, command);
+    if (name == 0) | (next == 0) {
+        return false;
+    }
+    (step.len() == 0) | (after(page, next, step) != 0)
+}
+
+// Prints how a command is called, where that is asked.
+fn tell(line: &[u8], part: Part) {
+    if let Part::Usage = part {
+        io::write_all(2, b"usage: ");
+        io::write_all(2, line);
+        io::write_all(2, b"\n");
+    }
+}
+
+// Where the line at `at` ends, at its LF.
+fn line_end(page: &[u8], at: usize) -> usize
+    requires { ⌜ at ≤ length (now page) ⌝ }
+    ensures { λ r. ⌜ (at ≤ r) × (r ≤ length (now (page .entry))) ⌝ }
+{
+    text_search::find(page, at, b'\n')
+}
+
+// Whether one of the lines that the page begins with tells how the command is called, or that step of it; each is printed where that is asked.
+fn tells_of(page: &[u8], command: &[u8], step: &[u8], part: Part) -> bool {
+    let mut found = false;
+    let mut at = 0;
+    while at < page.len() {
+        let end = line_end(page, at);
+        if end == at {
+            return found;
+        }
+        if page.len() <= end {
+            return found;
+        }
+        if tells(page, at, command, step) {
+            found = true;
+            tell(&page[at..end], part);
+        }
+        at = end + 1;
+    }
+    found
+}
+
+// Prints what is asked of the page, if it tells of the command: the lines of the step, or all of the command where it has no such step.
+fn print(command: &[u8], step: &[u8], part: Part, page: &[u8]) -> bool {
+    if let Part::Page = part {
+        if !tells_of(page, command, b"", part) {
+            return false;
+        }
+        cli_show::word(page);
+        return true;
+    }
+    if tells_of(page, command, step, part) {
+        return true;
+    }
+    tells_of(page, command, b"", part)
+}
+
+fn all() {
+    cli_show::word(
         b"burgee: tries rule tables and policies\n\
         \n\
         burgee table FILE                                  checks a rule table\n\
@@ -16,18 +106,20 @@ pub fn all() {
         burgee policy FILE                                 checks an RPC policy\n\
         burgee rpc FILE IDENTITY PATH [HEADERS-FILE]       whether a client may make a call\n\
         burgee rotate STEP RECORD STORE ..                 a rotation, tried by hand\n\
-        burgee help [COMMAND]                              this page, or one command's\n\
+        burgee help [COMMAND]                              this page, or one command's; also burgee COMMAND --help\n\
         burgee version                                     the version of this program\n\
         \n\
         A FILE named - is standard input. Each line of an answer is one fact.\n\
         The exit status is 0 for an answer, 1 for a refusal, 2 for a call that is not understood\n\
-        or a file that cannot be read or written.\n",
+        or a file that cannot be read or written, 3 where the program cannot be built or does not end as it should.\n",
     );
 }
 
-fn table() {
-    io::write_all(
-        1,
+fn table(command: &[u8], step: &[u8], part: Part) -> bool {
+    print(
+        command,
+        step,
+        part,
         b"burgee table FILE\n\
         \n\
         Checks a rule table: accepted, and how many groups, members and rules it has;\n\
@@ -38,12 +130,14 @@ fn table() {
         groups 2\n\
         members 3\n\
         rules 6\n",
-    );
+    )
 }
 
-fn conversion() {
-    io::write_all(
-        1,
+fn conversion(command: &[u8], step: &[u8], part: Part) -> bool {
+    print(
+        command,
+        step,
+        part,
         b"burgee show FILE\n\
         burgee pack FILE\n\
         \n\
@@ -68,12 +162,14 @@ fn conversion() {
         $ echo 'group admin' | burgee pack -\n\
         refused at line 1: not a line of the readable form\n\
         line: group admin\n",
-    );
+    )
 }
 
-fn groups() {
-    io::write_all(
-        1,
+fn groups(command: &[u8], step: &[u8], part: Part) -> bool {
+    print(
+        command,
+        step,
+        part,
         b"burgee groups FILE USER\n\
         \n\
         How many groups of a rule table list the user, and the number and name of each.\n\
@@ -83,12 +179,14 @@ fn groups() {
         groups 2\n\
         group 0 admin\n\
         group 1 engineers\n",
-    );
+    )
 }
 
-fn verdict() {
-    io::write_all(
-        1,
+fn verdict(command: &[u8], step: &[u8], part: Part) -> bool {
+    print(
+        command,
+        step,
+        part,
         b"burgee verdict FILE USER read|write ORIGIN PATH\n\
         \n\
         What the user may do at one path: permit or deny, and the deciding rule's number and id,\n\
@@ -104,12 +202,14 @@ fn verdict() {
         burgee: the table names no user Ann; it names ann\n\
         deny\n\
         default\n",
-    );
+    )
 }
 
-fn tree() {
-    io::write_all(
-        1,
+fn tree(command: &[u8], step: &[u8], part: Part) -> bool {
+    print(
+        command,
+        step,
+        part,
         b"burgee tree FILE USER read|write ORIGIN PATH\n\
         \n\
         What the user may do at a path and at every path beneath it, also those that no machine has yet: ALL, NONE or MIXED.\n\
@@ -121,12 +221,14 @@ fn tree() {
         MIXED\n\
         rule 5\n\
         id eng-no-keys\n",
-    );
+    )
 }
 
-fn explain() {
-    io::write_all(
-        1,
+fn explain(command: &[u8], step: &[u8], part: Part) -> bool {
+    print(
+        command,
+        step,
+        part,
         b"burgee explain FILE USER read|write ORIGIN PATH\n\
         \n\
         The verdict, and then every rule that matches, in ranking order: the first decides, and of each other one\n\
@@ -146,12 +248,14 @@ fn explain() {
         deny\n\
         default\n\
         no rule matches\n",
-    );
+    )
 }
 
-fn path() {
-    io::write_all(
-        1,
+fn path(command: &[u8], step: &[u8], part: Part) -> bool {
+    print(
+        command,
+        step,
+        part,
         b"burgee path read TEXT\n\
         burgee path write BYTES\n\
         \n\
@@ -163,13 +267,16 @@ fn path() {
         /a[k=*]\n\
         $ burgee path write 0x01\n\
         burgee: path bytes are pairs of the digits 0-9a-f\n\
+        usage: burgee path write BYTES\n\
         Try: burgee help path\n",
-    );
+    )
 }
 
-fn policy() {
-    io::write_all(
-        1,
+fn policy(command: &[u8], step: &[u8], part: Part) -> bool {
+    print(
+        command,
+        step,
+        part,
         b"burgee policy FILE\n\
         \n\
         Checks an RPC policy: accepted, and how many rules each list has;\n\
@@ -182,12 +289,14 @@ fn policy() {
         $ sed 22d examples/files/yard.json | burgee policy -\n\
         refused 31 at line 22: not one JSON value, in printable bytes, nested to depth 16 at most\n\
         line: }\n",
-    );
+    )
 }
 
-fn rpc() {
-    io::write_all(
-        1,
+fn rpc(command: &[u8], step: &[u8], part: Part) -> bool {
+    print(
+        command,
+        step,
+        part,
         b"burgee rpc FILE IDENTITY PATH [HEADERS-FILE]\n\
         \n\
         Whether a policy permits an RPC: permit or deny, and the deciding rule's list, number and name,\n\
@@ -212,12 +321,14 @@ fn rpc() {
         $ burgee rpc examples/files/yard.json '' /gnmi.gNMI/Set\n\
         deny\n\
         default\n",
-    );
+    )
 }
 
-fn rotate() {
-    io::write_all(
-        1,
+fn rotate(command: &[u8], step: &[u8], part: Part) -> bool {
+    print(
+        command,
+        step,
+        part,
         b"burgee rotate new RECORD STORE policy|table\n\
         burgee rotate show RECORD STORE\n\
         burgee rotate start RECORD STORE\n\
@@ -266,48 +377,53 @@ fn rotate() {
         live none\n\
         rotation on\n\
         candidate 525\n",
-    );
+    )
 }
 
-fn about_version() {
-    io::write_all(
-        1,
+fn about_version(command: &[u8], step: &[u8], part: Part) -> bool {
+    print(
+        command,
+        step,
+        part,
         b"burgee version\n\
         \n\
         The version of this program, which is that of include/burgee.h; also burgee --version.\n\
         \n\
         $ burgee version\n\
         burgee 0.1.0\n",
-    );
+    )
 }
 
 // The version of the product, as include/burgee.h has it.
 pub fn version() {
-    io::write_all(1, b"burgee 0.1.0\n");
+    cli_show::word(b"burgee 0.1.0\n");
+}
+
+// What is to be printed of the page that tells of a command; false where no page does.
+fn find(command: &[u8], step: &[u8], part: Part) -> bool {
+    table(command, step, part)
+        | conversion(command, step, part)
+        | groups(command, step, part)
+        | verdict(command, step, part)
+        | tree(command, step, part)
+        | explain(command, step, part)
+        | path(command, step, part)
+        | policy(command, step, part)
+        | rpc(command, step, part)
+        | rotate(command, step, part)
+        | about_version(command, step, part)
 }
 
 // One command's help, or all of it; false where there is no such command.
 pub fn on(command: &[u8]) -> bool {
-    let page = cli_console::lines::place(
-        b"table\nshow\npack\ngroups\nverdict\ntree\nexplain\npath\npolicy\nrpc\nrotate\nhelp\nversion\n\n",
-        command,
-    );
-    match page {
-        0 => {
-            return false;
-        }
-        1 => table(),
-        2 | 3 => conversion(),
-        4 => groups(),
-        5 => verdict(),
-        6 => tree(),
-        7 => explain(),
-        8 => path(),
-        9 => policy(),
-        10 => rpc(),
-        11 => rotate(),
-        13 => about_version(),
-        _ => all(),
+    if (command.len() == 0) | text::string::is_same(command, b"help") {
+        all();
+        return true;
     }
-    true
+    find(command, b"", Part::Page)
+}
+
+// Prints to standard error how a command is called, or that step of it.
+pub fn usage(command: &[u8], step: &[u8]) {
+    find(command, step, Part::Usage);
 }

@@ -1,6 +1,24 @@
-// Printing to standard output, for the programs that run vectors.
+// Printing to standard output.
+pub mod marks;
+
+// Complains where a write to standard output failed. From then on standard output is /dev/null: what was written stays a beginning of the
+// answer, and one complaint is enough.
+fn expect(is_written: bool) {
+    if is_written {
+        return;
+    }
+    io::write_all(2, b"burgee: ");
+    os::fail(b"standard output");
+    marks::complaint();
+    libc::close(1);
+    // A descriptor gets the lowest number that is free, which is 0 where standard input is closed.
+    if os::open_append(b"/dev/null") == 0 {
+        os::open_append(b"/dev/null");
+    }
+}
+
 pub fn word(s: &[u8]) {
-    io::write_all(1, s);
+    expect(io::write_all(1, s));
 }
 
 pub fn space() {
@@ -13,7 +31,7 @@ pub fn line(s: &[u8]) {
 }
 
 pub fn decimal(n: u64) {
-    io::print_decimal(1, n);
+    expect(io::print_decimal(1, n));
 }
 
 fn wide(b: u8) -> u64 {
@@ -29,7 +47,7 @@ pub fn number(n: u8) {
 pub fn hex(s: &[u8]) {
     let mut i = 0;
     while i < s.len() {
-        io::print_hex(1, wide(s[i]), 2);
+        expect(io::print_hex(1, wide(s[i]), 2));
         i += 1;
     }
 }
