@@ -44,8 +44,10 @@ for word in help --help -h; do
     answer_is $word < <(burgee help)
     answer_is $word --help < <(burgee help)
 done
-answer_is verdict $table --help read '' / < <(printf 'deny\ndefault\n')
-answer_is groups $table -h <<<'groups 0'
+run 0 verdict $table --help read '' /
+cmp -s "$work/written" <(printf 'deny\ndefault\n') || fail "verdict of a user named --help: another answer"
+run 0 groups $table -h
+cmp -s "$work/written" <(echo 'groups 0') || fail "groups of a user named -h: another answer"
 misused_as table $table --help
 complaint verdict --help ann read '' /
 
@@ -97,7 +99,7 @@ complaint rpc "$work/none" '' /
 complaint rpc $policy '' / "$work/none"
 
 answer table $table
-answer verdict $table bob read '' /
+answer verdict $table ann read '' /
 answer rpc $policy '' /
 refused table $policy
 refused_aside show $policy

@@ -30,6 +30,7 @@ pub mod refusal;
 pub mod request;
 pub mod rotation;
 pub mod rpc;
+pub mod slip;
 pub mod table;
 pub mod tally;
 pub mod vectors;

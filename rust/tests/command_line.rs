@@ -5,7 +5,9 @@ use std::fs;
 use std::os::unix::ffi::OsStrExt;
 use std::path::Path;
 
-use burgee_rust::command_line::{assert_policy_refused, assert_refused, burgee, path_lines, rpc_lines, tree_lines};
+use burgee_rust::command_line::{
+    assert_policy_refused, assert_refused, burgee, burgee_saying, path_lines, rpc_lines, tree_lines,
+};
 use burgee_rust::generate::any::{
     any, Kind, HEADERS, IDENTITY, ORIGIN, PATH_BYTES, PATH_TEXT, POLICY, RPC_PATH, TABLE, USER,
 };
@@ -15,6 +17,7 @@ use burgee_rust::policy::read_policy;
 use burgee_rust::random::Random;
 use burgee_rust::request::PathRequest;
 use burgee_rust::rpc::{rpc_verdict, RpcRequest};
+use burgee_rust::slip::slip_line;
 use burgee_rust::table::{check_table, group_count};
 use burgee_rust::tally::Tally;
 use burgee_rust::verdict::{path_verdict, tree_verdict};
@@ -86,7 +89,8 @@ fn verdicts_are_told() {
         let [user, origin, path] = [USER, ORIGIN, PATH_TEXT].map(|kind| word(&mut random, &kind));
         let mode = random.between(1, 2) as u32;
         let mode_word: &[u8] = if mode == 1 { b"read" } else { b"write" };
-        let ask = |command: &[u8]| burgee(&[command, b"-", &user, mode_word, &origin, &path], &table);
+        let said = slip_line(&table, &user);
+        let ask = |command: &[u8]| burgee_saying(&said, &[command, b"-", &user, mode_word, &origin, &path], &table);
         let request = PathRequest { user: &user, mode, origin: &origin, path: &path };
 
         let (told, explained) = (ask(b"verdict"), ask(b"explain"));
@@ -117,7 +121,7 @@ fn groups_are_told() {
     let (mut random, mut tally) = (Random::new(0x94), Tally::default());
     for _ in 0..ROUNDS {
         let (table, user) = (any(&mut random, &TABLE), word(&mut random, &USER));
-        let told = burgee(&[b"groups", b"-", &user], &table);
+        let told = burgee_saying(&slip_line(&table, &user), &[b"groups", b"-", &user], &table);
         tally.count(match group_count(&table, &user) {
             Ok(groups) => {
                 let mut lines = told.lines();

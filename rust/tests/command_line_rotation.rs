@@ -5,7 +5,7 @@ use std::io::Write;
 use std::os::unix::ffi::OsStrExt;
 use std::path::{Path, PathBuf};
 
-use burgee_rust::command_line::{burgee, path_lines, record_lines, rpc_lines, tree_lines};
+use burgee_rust::command_line::{burgee_saying, path_lines, record_lines, rpc_lines, tree_lines};
 use burgee_rust::generate::policy::Rpc;
 use burgee_rust::generate::rotation::{some_call, Ask, Call};
 use burgee_rust::hosts::bytes_of;
@@ -13,6 +13,7 @@ use burgee_rust::limits::SLOT;
 use burgee_rust::random::Random;
 use burgee_rust::refusal::Refusal;
 use burgee_rust::rotation::{self, Record};
+use burgee_rust::slip::slip_line;
 use burgee_rust::tally::Tally;
 
 /// A record and its store, and the file in which the command line keeps them; what stands behind them there.
@@ -34,10 +35,20 @@ impl Trial {
         trial
     }
 
-    /// What a step or a probe prints.
-    fn told(&self, step: &str, words: &[&[u8]], input: &[u8]) -> String {
+    /// What a step or a probe prints; `said` is what it says on standard error.
+    fn told_saying(&self, said: &str, step: &str, words: &[&[u8]], input: &[u8]) -> String {
         let file = self.file.as_os_str().as_bytes();
-        burgee(&[&[b"rotate", step.as_bytes(), file], words].concat(), input)
+        burgee_saying(said, &[&[b"rotate", step.as_bytes(), file], words].concat(), input)
+    }
+
+    fn told(&self, step: &str, words: &[&[u8]], input: &[u8]) -> String {
+        self.told_saying("", step, words, input)
+    }
+
+    /// What a probe of a table prints.
+    fn asked(&self, probe: &str, ask: &Ask) -> String {
+        let said = if self.record.kind == 2 { slip_line(self.in_force().0, &ask.user) } else { String::new() };
+        self.told_saying(&said, probe, &words_of(ask), b"")
     }
 
     /// Makes a call, and compares what is printed; gives the refusal's number, or 0.
@@ -68,14 +79,14 @@ impl Trial {
     }
 
     fn probe_path(&self, ask: &Ask) -> u64 {
-        let told = self.told("verdict", &words_of(ask), b"");
+        let told = self.asked("verdict", ask);
         let (text, else_by) = self.in_force();
         let answer = rotation::probe_path(&self.record, &self.store, &ask.request());
         compare(&told, answer.map(|verdict| path_lines(text, verdict, else_by)))
     }
 
     fn probe_tree(&self, ask: &Ask) -> u64 {
-        let told = self.told("tree", &words_of(ask), b"");
+        let told = self.asked("tree", ask);
         let (text, else_by) = self.in_force();
         let factory = if else_by == "factory" { "factory\n" } else { "" };
         let answer = rotation::probe_tree(&self.record, &self.store, &ask.request());

@@ -176,6 +176,7 @@ fn groups(command: &[u8], step: &[u8], part: Part) -> bool {
         b"burgee groups FILE USER\n\
         \n\
         How many groups of a rule table list the user, and the number and name of each.\n\
+        Standard error says where the table names no such user, and the names that differ only in case.\n\
         \n\
         $ burgee groups examples/files/yard.table stevie\n\
         groups 2\n\
@@ -194,12 +195,14 @@ fn verdict(command: &[u8], step: &[u8], part: Part) -> bool {
         What the user may do at one path: permit or deny, and the deciding rule's number and id,\n\
         or default where no rule matches.\n\
         USER is named as in the table. ORIGIN is the path's origin, mostly empty: ''. PATH is path text, as / or /NAME[KEY=VALUE]/NAME.\n\
+        Standard error says where the table names no such user, and the names that differ only in case.\n\
         \n\
         $ burgee verdict examples/files/yard.table ann write '' '/interfaces/interface[name=uplink]/config'\n\
         permit\n\
         rule 2\n\
         id eng-ports\n\
-        $ burgee verdict examples/files/yard.table bob read '' /system\n\
+        $ burgee verdict examples/files/yard.table Ann read '' /system\n\
+        burgee: the table names no user Ann; it names ann\n\
         deny\n\
         default\n",
     )
@@ -215,6 +218,7 @@ fn tree(command: &[u8], step: &[u8], part: Part) -> bool {
         What the user may do at a path and at every path beneath it, also those that no machine has yet: ALL, NONE or MIXED.\n\
         With MIXED comes, of the rules by which some path beneath gets the other answer than PATH itself, the one with the smallest id.\n\
         USER is named as in the table. ORIGIN is the path's origin, mostly empty: ''. PATH is path text, as / or /NAME[KEY=VALUE]/NAME.\n\
+        Standard error says where the table names no such user, and the names that differ only in case.\n\
         \n\
         $ burgee tree examples/files/yard.table stevie read '' /system\n\
         MIXED\n\
@@ -234,6 +238,7 @@ fn explain(command: &[u8], step: &[u8], part: Part) -> bool {
         the line says at which step of the ranking it lost to the first. The steps are, in this order:\n\
         elements, definite keys, user over group, deny over permit, smaller id.\n\
         USER is named as in the table. ORIGIN is the path's origin, mostly empty: ''. PATH is path text, as / or /NAME[KEY=VALUE]/NAME.\n\
+        Standard error says where the table names no such user, and the names that differ only in case.\n\
         \n\
         $ burgee explain examples/files/yard.table ann write '' '/interfaces/interface[name=uplink]/config'\n\
         permit\n\
@@ -242,6 +247,7 @@ fn explain(command: &[u8], step: &[u8], part: Part) -> bool {
         1 decides: rule 2, permit, elements 3, definite keys 0, group, id eng-ports\n\
         2 lost at elements: rule 3, deny, elements 2, definite keys 1, user, id ann-no-uplink\n\
         $ burgee explain examples/files/yard.table bob read '' /system\n\
+        burgee: the table names no user bob\n\
         deny\n\
         default\n\
         no rule matches\n",

@@ -17,6 +17,7 @@ fn answer_table(
     none: &[u8],
     nowhere: &[u8],
 ) {
+    cli_names::tell(text, user);
     if is_tree {
         let a = rotation_probe::probe_tree(r, store, user, mode, origin, path);
         cli_answers::tree(text, a, nowhere);

@@ -126,6 +126,7 @@ fn list(text: &[u8], user: &[u8], mode: u32, origin: &[u8], path: &[u8]) {
 
 // The verdict, and the rules that match where one decides.
 pub fn all(text: &[u8], user: &[u8], mode: u32, origin: &[u8], path: &[u8]) {
+    cli_names::tell(text, user);
     let a = verdict_call::path_verdict(text, user, mode, origin, path);
     cli_answers::path(text, a, b"default\nno rule matches\n");
     match a {

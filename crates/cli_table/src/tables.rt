@@ -42,6 +42,7 @@ fn list(text: &[u8], user: &[u8]) {
 
 // How many groups list the user, and each of them.
 pub fn groups(text: &[u8], user: &[u8]) {
+    cli_names::tell(text, user);
     let c = table_check::count_groups(text, user);
     match c {
         Counted::Count { count, first } => {
@@ -55,6 +56,7 @@ pub fn groups(text: &[u8], user: &[u8]) {
 
 // The action, and the deciding rule's number and id.
 pub fn verdict(text: &[u8], user: &[u8], mode: u32, origin: &[u8], path: &[u8]) {
+    cli_names::tell(text, user);
     cli_answers::path(
         text,
         verdict_call::path_verdict(text, user, mode, origin, path),
@@ -64,6 +66,7 @@ pub fn verdict(text: &[u8], user: &[u8], mode: u32, origin: &[u8], path: &[u8]) 
 
 // The tree answer, and the number and id of the rule that MIXED names.
 pub fn tree(text: &[u8], user: &[u8], mode: u32, origin: &[u8], path: &[u8]) {
+    cli_names::tell(text, user);
     cli_answers::tree(
         text,
         verdict_call::tree_verdict(text, user, mode, origin, path),

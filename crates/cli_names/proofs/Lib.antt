@@ -1,0 +1,4 @@
+pub mod Letters
+pub mod Gathering
+pub mod Storing
+pub mod Users
