@@ -6,7 +6,8 @@ use std::hint::black_box;
 use burgee_rust::boundary::policy as proved_policy;
 use burgee_rust::boundary::rpc as proved_rpc;
 use burgee_rust::generate::policy::{
-    list_of_objects, many_header_lines, nested_object, object_of_members, policy_of_headers, policy_of_length, Names,
+    list_of_objects, many_header_lines, names_alike, nested_object, object_of_members, policy_of_headers,
+    policy_of_length, policy_of_one_header, shortest_names, Names,
 };
 use burgee_rust::limits;
 use burgee_rust::measure::Table;
@@ -46,7 +47,18 @@ fn main() {
     }
     let (text, headers) = (policy_of_headers(), many_header_lines());
     verdict_row(&printed, &format!("384 headers, {} bytes, and 8 KB of header lines", text.len()), &text, &headers);
+    let row = |what: &str, text: &[u8], headers: &[u8]| {
+        verdict_row(&printed, &format!("one header 372 times, {} bytes, and {what}", text.len()), text, headers)
+    };
+    row("1,170 names that begin, end and are centred alike", &policy_of_one_header("x0-0x", ""), &names_alike());
+    row("the most names that fit", &policy_of_one_header("k", ""), &shortest_names(0));
+    row("the same, made for its bucket", &policy_of_one_header("k", ""), &shortest_names(FULLEST));
+    row("2,730 lines of it", &policy_of_one_header("k", "*"), &b"k:\n".repeat(2_730));
+    row("8 KB in one line of it", &policy_of_one_header("k", "*"), &[b"k:", &[b'v'; 8_189][..], b"\n"].concat());
 }
+
+/// The number with which most of the names share the header's bucket, of the first 3,000,000.
+const FULLEST: usize = 269_512;
 
 fn check_row(printed: &Table, name: &str, text: &[u8]) {
     printed.row(

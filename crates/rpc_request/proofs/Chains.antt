@@ -3,7 +3,7 @@ use mathlib.Core.Path.{_≡_, refl, sym, ap, _∙_, subst}
 use mathlib.Core.Bool.{true, false}
 use mathlib.Core.List.{List, [], _∷_, _++_}
 use mathlib.Core.Option.{Option, none, some}
-use Prim.Native.Nat.{ℕ, suc, _+_, _-_, _/_, _≤_, _<_}
+use Prim.Native.Nat.{ℕ, suc, _+_, _-_, _*_, _/_, _≤_, _<_}
 use native.Mathlib.Omega.{arith}
 use lib.Dec.{eqb, ltb}
 use lib.ListN.{length, take, drop, getD, set, length-set, length-drop, drop-of-length-le}
@@ -19,18 +19,13 @@ use Rattle.text.proofs.Tests.{by, clash}
 use Rattle.text.proofs.Frames.{no-part}
 use Rattle.text.proofs.Filling.{wrote-long}
 use Rattle.text_affix.specs.Affix.{empty}
+use Rattle.text_hash.specs.Mix.{Small}
+use Rattle.text_hash.specs.declared.Seed.{Seed}
 use Rattle.rpc.specs.Request.{Line, longer, cutAt, lineOf, cons, linesOf, headersOf, readable, badHeaders, joined, valuesOf, headerValue}
 use Rattle.rpc_request.specs.Steps.{cutHere, Cut, commaed, lineValue}
-use Rattle.rpc_request.specs.Index.{bucketCount, placeCount, bucketOf, inBucket, LineAt, Chain, stop, link, onto, Blank, Indexed}
+use Rattle.rpc_request.specs.Index.{bucketCount, bucketOf, inBucket, LineAt, Chain, stop, link, onto, Blank, Indexed}
 use Rattle.rpc_request.proofs.Lines.{part-long, here-some, here-none, fueled, read-is, Reading, reading-on, lines-cut, lines-uncut, lines-bad, lines-on, lines-over, headers-short, headers-read}
 use Rattle.rpc_request.proofs.Values.{gather, gather-nil, gather-cons, gathered, one-bucket, commaed-nil, commaed-append, joined-is, line-value}
-
--- ---- bucket
-
-pub bucket-empty : (s : Str) → length s ≡ 0 → 0 ≡ bucketOf s
-unfolding bucketOf
-bucket-empty [] e = refl
-bucket-empty (c ∷ s) e = absurd (omega (arith, e))
 
 -- ---- the line at a position
 
@@ -68,8 +63,8 @@ cut-same b h i e f x y =
 third-other : (p i : ℕ) → p + 3 ≤ i → p / 3 ≡ i / 3 → ⊥
 third-other p i l e = omega (arith, e)
 
-pub third-small : (i : ℕ) → i < maxHeaderLines → i / 3 < placeCount
-third-small i l = omega arith
+pub third-small : (i n m : ℕ) → i < n → n ≤ 3 * m → i / 3 < m
+third-small i n m l k = omega arith
 
 -- a link that is set above a chain is no part of it
 chain-set : (h before : Str) (i v : ℕ) {top p : ℕ} {l : List Line} → Chain h before top p l → top ≤ i → Chain h (set before (i / 3) v) top p l
@@ -100,40 +95,41 @@ onto-cons : (x : Line) (l r : List Line) → onto (x ∷ l) r ≡ onto l (x ∷ 
 unfolding onto
 onto-cons x l r = refl
 
-module _ (b : ℕ) where
-  only-nil : only (inBucket b) [] ≡ []
+module _ (seed : Seed) (b : ℕ) where
+  only-nil : only (inBucket seed b) [] ≡ []
   unfolding only
   only-nil = refl
 
-  only-in : (x : Line) (l : List Line) → inBucket b x ≡ true → only (inBucket b) (x ∷ l) ≡ x ∷ only (inBucket b) l
+  only-in : (x : Line) (l : List Line) → inBucket seed b x ≡ true → only (inBucket seed b) (x ∷ l) ≡ x ∷ only (inBucket seed b) l
   unfolding only if_then_else_
   only-in x l t = rw t
 
-  only-out : (x : Line) (l : List Line) → inBucket b x ≡ false → only (inBucket b) (x ∷ l) ≡ only (inBucket b) l
+  only-out : (x : Line) (l : List Line) → inBucket seed b x ≡ false → only (inBucket seed b) (x ∷ l) ≡ only (inBucket seed b) l
   unfolding only if_then_else_
   only-out x l t = rw t
 
-  bucket-is : (x : Line) → inBucket b x ≡ true → bucketOf (x .name) ≡ b
+  bucket-is : (x : Line) → inBucket seed b x ≡ true → bucketOf seed (x .name) ≡ b
   unfolding inBucket
   bucket-is x t = eqb-true _ _ t
 
-  bucket-not : (x : Line) → inBucket b x ≡ false → bucketOf (x .name) ≡ b → ⊥
+  bucket-not : (x : Line) → inBucket seed b x ≡ false → bucketOf seed (x .name) ≡ b → ⊥
   unfolding inBucket
   bucket-not x t = eqb-false _ _ t
 
 -- the lines before i are in the chains
-pub record Indexing (h last before : Str) (i : ℕ) : Type 0 where
+pub record Indexing (seed : Seed) (h last before : Str) (i : ℕ) : Type 0 where
   pub fuel : ℕ
   pub reading : Reading h i fuel
   pub good : readable (linesOf fuel (drop i h)) ≡ true
   pub back : List Line
   pub is : orNothing (headersOf h) ≡ onto back (orNothing (linesOf fuel (drop i h)))
   pub buckets : length last ≡ bucketCount
-  pub places : length before ≡ placeCount
-  pub chains : (b : ℕ) → b < bucketCount → Chain h before i (getD last b 0) (only (inBucket b) back)
+  pub places : length h ≤ 3 * length before
+  pub small : Small seed
+  pub chains : (b : ℕ) → b < bucketCount → Chain h before i (getD last b 0) (only (inBucket seed b) back)
 
-pub indexing-start : (h last before : Str) → Blank h last before → Indexing h last before 0
-indexing-start h last before x = record {
+pub indexing-start : (seed : Seed) (h last before : Str) → Blank seed h last before → Indexing seed h last before 0
+indexing-start seed h last before x = record {
   fuel = length h;
   reading = record { inside = omega arith; enough = omega arith };
   good = headers-read h (x .good);
@@ -141,10 +137,11 @@ indexing-start h last before x = record {
   is = sym (onto-nil _);
   buckets = x .buckets;
   places = x .places;
-  chains = λ n l. subst (Chain h before 0 (getD last n 0)) (sym (only-nil n)) (stop (let s = headers-short h (x .good) in let z = x .empty n l in omega arith));
+  small = x .small;
+  chains = λ n l. subst (Chain h before 0 (getD last n 0)) (sym (only-nil seed n)) (stop (let s = headers-short h (x .good) in let z = x .empty n l in omega arith));
 }
 
-module _ (h last before : Str) (i e : ℕ) (l : i < length h) (k : Cut 10 h i e) (j : Indexing h last before i) where
+module _ (seed : Seed) (h last before : Str) (i e : ℕ) (l : i < length h) (k : Cut 10 h i e) (j : Indexing seed h last before i) where
   turn : (g : ℕ) × (Reading h i (suc g)) × (readable (linesOf (suc g) (drop i h)) ≡ true) × (orNothing (headersOf h) ≡ onto (j .back) (orNothing (linesOf (suc g) (drop i h))))
   turn =
       let f = fueled h i e l k (j .fuel) (j .reading) in
@@ -164,31 +161,31 @@ module _ (h last before : Str) (i e : ℕ) (l : i < length h) (k : Cut 10 h i e)
       let o = read-is _ a in
       (a, ap orNothing (lines-cut h i e g l k indexing-cut ∙ ap (λ (z : Option Line). cons z (linesOf g (drop (e + 1) h))) q ∙ ap (cons (some x)) (o .1) ∙ cons-some x (o .0)) ∙ written-some _ ∙ ap (λ (z : List Line). x ∷ z) (sym (written-some _) ∙ ap orNothing (sym (o .1))))
 
-  pub third-place : length h ≤ maxHeaderLines → i / 3 < length before
-  third-place s = let z = third-small i (omega arith) in omega (arith, j .places)
+  pub third-place : i / 3 < length before
+  third-place = third-small i (length h) (length before) l (j .places)
 
-  module _ (b : ℕ) (small : b < bucketCount) (named : (x : Line) → lineOf (cutAt 58 (part h i e)) ≡ some x → b ≡ bucketOf (x .name)) (short : length h ≤ maxHeaderLines) where
+  module _ (b : ℕ) (small : b < bucketCount) (named : (x : Line) → lineOf (cutAt 58 (part h i e)) ≡ some x → b ≡ bucketOf seed (x .name)) where
     abbrev last′ : Str
     last′ = set last b i
 
     abbrev before′ : Str
     before′ = set before (i / 3) (getD last b 0)
 
-    chains-on : (x : Line) → lineOf (cutAt 58 (part h i e)) ≡ some x → (n : ℕ) → n < bucketCount → Chain h before′ (e + 1) (getD last′ n 0) (only (inBucket n) (x ∷ j .back))
+    chains-on : (x : Line) → lineOf (cutAt 58 (part h i e)) ≡ some x → (n : ℕ) → n < bucketCount → Chain h before′ (e + 1) (getD last′ n 0) (only (inBucket seed n) (x ∷ j .back))
     chains-on x q n s =
         let low = k .low in
-        by (inBucket n x)
+        by (inBucket seed n x)
         (λ t.
-        let z : n ≡ b = sym (named x q ∙ bucket-is n x t) in
+        let z : n ≡ b = sym (named x q ∙ bucket-is seed n x t) in
         let w : getD last′ n 0 ≡ i = ap (λ (m : ℕ). getD last′ m 0) z ∙ getD-set-same last b i 0 (omega (arith, j .buckets)) in
-        let v : getD before′ (i / 3) 0 ≡ getD last n 0 = getD-set-same before (i / 3) (getD last b 0) 0 (third-place short) ∙ ap (λ (m : ℕ). getD last m 0) (sym z) in
-        let c : Chain h before′ i (getD before′ (i / 3) 0) (only (inBucket n) (j .back)) = subst (λ (m : ℕ). Chain h before′ i m (only (inBucket n) (j .back))) (sym v) (chain-set h before i (getD last b 0) (j .chains n s) (omega arith)) in
-        subst (Chain h before′ (e + 1) (getD last′ n 0)) (sym (only-in n x (j .back) t)) (subst (λ (m : ℕ). Chain h before′ (e + 1) m (x ∷ only (inBucket n) (j .back))) (sym w) (link (record { cut = k; inside = indexing-cut; is = q }) (omega arith) c)))
+        let v : getD before′ (i / 3) 0 ≡ getD last n 0 = getD-set-same before (i / 3) (getD last b 0) 0 third-place ∙ ap (λ (m : ℕ). getD last m 0) (sym z) in
+        let c : Chain h before′ i (getD before′ (i / 3) 0) (only (inBucket seed n) (j .back)) = subst (λ (m : ℕ). Chain h before′ i m (only (inBucket seed n) (j .back))) (sym v) (chain-set h before i (getD last b 0) (j .chains n s) (omega arith)) in
+        subst (Chain h before′ (e + 1) (getD last′ n 0)) (sym (only-in seed n x (j .back) t)) (subst (λ (m : ℕ). Chain h before′ (e + 1) m (x ∷ only (inBucket seed n) (j .back))) (sym w) (link (record { cut = k; inside = indexing-cut; is = q }) (omega arith) c)))
         (λ t.
-        let w : getD last′ n 0 ≡ getD last n 0 = getD-set-other last b n i 0 (λ z. bucket-not n x t (sym (named x q) ∙ sym z)) in
-        subst (Chain h before′ (e + 1) (getD last′ n 0)) (sym (only-out n x (j .back) t)) (subst (λ (m : ℕ). Chain h before′ (e + 1) m (only (inBucket n) (j .back))) (sym w) (chain-under h before′ (chain-set h before i (getD last b 0) (j .chains n s) (omega arith)) (omega arith))))
+        let w : getD last′ n 0 ≡ getD last n 0 = getD-set-other last b n i 0 (λ z. bucket-not seed n x t (sym (named x q) ∙ sym z)) in
+        subst (Chain h before′ (e + 1) (getD last′ n 0)) (sym (only-out seed n x (j .back) t)) (subst (λ (m : ℕ). Chain h before′ (e + 1) m (only (inBucket seed n) (j .back))) (sym w) (chain-under h before′ (chain-set h before i (getD last b 0) (j .chains n s) (omega arith)) (omega arith))))
 
-    pub indexing-on : Indexing h last′ before′ (e + 1)
+    pub indexing-on : Indexing seed h last′ before′ (e + 1)
     indexing-on =
         let t = turn in
         let x = read-is _ indexing-line in
@@ -200,15 +197,17 @@ module _ (h last before : Str) (i e : ℕ) (l : i < length h) (k : Cut 10 h i e)
           back = x .0 ∷ j .back;
           is = t .3 ∙ ap (onto (j .back)) (r .1) ∙ sym (onto-cons (x .0) (j .back) _);
           buckets = length-set last b i ∙ j .buckets;
-          places = length-set before (i / 3) (getD last b 0) ∙ j .places;
+          places = omega (arith, length-set before (i / 3) (getD last b 0), j .places);
+          small = j .small;
           chains = chains-on (x .0) (x .1);
         }
 
-pub indexing-done : (h last before : Str) (i : ℕ) → badHeaders h ≡ false → Indexing h last before i → length h ≤ i → Indexed h last before
-indexing-done h last before i g j l = record {
+pub indexing-done : (seed : Seed) (h last before : Str) (i : ℕ) → badHeaders h ≡ false → Indexing seed h last before i → length h ≤ i → Indexed seed h last before
+indexing-done seed h last before i g j l = record {
   back = j .back;
   is = j .is ∙ ap (onto (j .back)) (ap orNothing (lines-over h i (j .fuel) l) ∙ written-some []);
   short = headers-short h g;
+  small = j .small;
   buckets = j .buckets;
   places = j .places;
   chains = λ b s. chain-under h before (j .chains b s) (j .reading .inside);
@@ -228,13 +227,13 @@ pub record Gathering (key h before out : Str) (p at : ℕ) : Type 0 where
   pub high : at ≤ length out
   pub room : length out + top ≤ at + length h
 
-pub gathering-start : (key h last before out : Str) (b : ℕ) → Indexed h last before → b ≡ bucketOf key → b < bucketCount → Gathering key h before out (getD last b 0) (length out)
-gathering-start key h last before out b x q s = record {
+pub gathering-start : (seed : Seed) (key h last before out : Str) (b : ℕ) → Indexed seed h last before → b ≡ bucketOf seed key → b < bucketCount → Gathering key h before out (getD last b 0) (length out)
+gathering-start seed key h last before out b x q s = record {
   top = length h;
-  left = only (inBucket b) (x .back);
+  left = only (inBucket seed b) (x .back);
   got = [];
   chain = x .chains b s;
-  is = ap (valuesOf key) (x .is) ∙ gathered key (x .back) ∙ one-bucket key b (sym q) (x .back) [];
+  is = ap (valuesOf key) (x .is) ∙ gathered key (x .back) ∙ one-bucket seed key b (sym q) (x .back) [];
   stored = let z : length out ≤ length out = omega arith in drop-of-length-le out z ∙ sym commaed-nil;
   low = omega arith;
   high = omega arith;
@@ -284,8 +283,8 @@ module _ (key h before out : Str) (p at e : ℕ) (l : p < length h) (k : Cut 10 
     pub linked-room : length h ≤ length out → length (part h p e) ≤ at
     linked-room w = omega (arith, linked-long, g .room, g .under, g .low)
 
-    pub linked-place : length h ≤ maxHeaderLines → length before ≡ placeCount → p / 3 < length before
-    linked-place s q = let z = third-small p (omega arith) in omega (arith, q)
+    pub linked-place : length h ≤ 3 * length before → p / 3 < length before
+    linked-place q = third-small p (length h) (length before) l q
 
     -- a chain falls
     chain-falls : {q : ℕ} {r : List Line} → Chain h before p q r → steps h q < suc p

@@ -17,6 +17,7 @@ use Rattle.text.proofs.Tests.{by, clash, same→≡}
 use Rattle.text.proofs.Filling.{wrote-before, wrote-nothing, put-length}
 use Rattle.rpc.specs.Request.{Line, cutAt, lineOf, readable, joined, valuesOf}
 use Rattle.rpc_request.specs.Steps.{Cut, commaed, oneLine, lineValue}
+use Rattle.text_hash.specs.declared.Seed.{Seed}
 use Rattle.rpc_request.specs.Index.{bucketOf, inBucket, onto}
 use Rattle.rpc_request.proofs.Lines.{line-there, line-whole}
 
@@ -69,16 +70,16 @@ pub gathered : (key : Str) (l : List Line) → valuesOf key (onto l []) ≡ gath
 gathered key l = gathered-onto key l [] ∙ ap (gather key l) (values-nil key)
 
 -- a line of another bucket has another name
-module _ (key : Str) (b : ℕ) (q : bucketOf key ≡ b) where
-  other-bucket : (x : Line) → inBucket b x ≡ false → valuesOf key (x ∷ []) ≡ []
+module _ (seed : Seed) (key : Str) (b : ℕ) (q : bucketOf seed key ≡ b) where
+  other-bucket : (x : Line) → inBucket seed b x ≡ false → valuesOf key (x ∷ []) ≡ []
   unfolding inBucket
-  other-bucket x f = by (same (x .name) key) (λ t. clash (eq-eqb (bucketOf (x .name)) b (ap bucketOf (same→≡ (x .name) key t) ∙ q)) f) (λ t. alone-miss key x t)
+  other-bucket x f = by (same (x .name) key) (λ t. clash (eq-eqb (bucketOf seed (x .name)) b (ap (bucketOf seed) (same→≡ (x .name) key t) ∙ q)) f) (λ t. alone-miss key x t)
 
-  pub one-bucket : (l : List Line) (r : List Str) → gather key l r ≡ gather key (only (inBucket b) l) r
+  pub one-bucket : (l : List Line) (r : List Str) → gather key l r ≡ gather key (only (inBucket seed b) l) r
   unfolding gather only if_then_else_
   one-bucket [] r = refl
   one-bucket (x ∷ l) r =
-      by (inBucket b x)
+      by (inBucket seed b x)
       (λ t. rw t (one-bucket l (valuesOf key (x ∷ []) ++ r)))
       (λ t. rw t (ap (λ (v : List Str). gather key l (v ++ r)) (other-bucket x t) ∙ one-bucket l r))
 
@@ -121,8 +122,8 @@ some-is : {a b : Line} → some a ≡ some b → a ≡ b
 some-is e = cc
 
 -- line_bucket
-pub line-bucket : (l : Str) (c : ℕ) → Cut 58 l 0 c → readable (lineOf (cutAt 58 l)) ≡ true → (r : ℕ) → r ≡ bucketOf (part l 0 c) → (x : Line) → lineOf (cutAt 58 l) ≡ some x → r ≡ bucketOf (x .name)
-line-bucket l c k g r e x q = e ∙ ap (λ (y : Line). bucketOf (y .name)) (some-is (sym (line-whole l c k g) ∙ q))
+pub line-bucket : (seed : Seed) (l : Str) (c : ℕ) → Cut 58 l 0 c → readable (lineOf (cutAt 58 l)) ≡ true → (r : ℕ) → r ≡ bucketOf seed (part l 0 c) → (x : Line) → lineOf (cutAt 58 l) ≡ some x → r ≡ bucketOf seed (x .name)
+line-bucket seed l c k g r e x q = e ∙ ap (λ (y : Line). bucketOf seed (y .name)) (some-is (sym (line-whole l c k g) ∙ q))
 
 module _ (l : Str) (c : ℕ) (k : Cut 58 l 0 c) (g : readable (lineOf (cutAt 58 l)) ≡ true) (key out : Str) (at : ℕ) where
   line-other : same (part l 0 c) key ≡ false → lineValue key l ≡ []

@@ -5,52 +5,69 @@ ghost use mathlib.Core.Option.{some};
 ghost use Prim.Native.Nat.{_+_, _≤_, _<_};
 ghost use lib.ListN.{length};
 ghost use Rattle.text.specs.Steps.{Wrote};
+ghost use Rattle.text_hash.specs.Mix.{Small};
 ghost use Rattle.rpc.specs.Request.{Line, cutAt, lineOf, readable};
 ghost use Rattle.rpc_request.specs.Steps.{lineValue, Joined};
 ghost use Rattle.rpc_request.specs.Index.{bucketCount, bucketOf, Blank, Indexed, Ready};
+use text_hash::Seed;
 
-// The lengths of the two arrays of an index: any number of buckets would do; a line has three bytes or more, so no two lines have the same third of where
-// they start.
+// Any number of buckets would do.
 pub const BUCKETS: usize = 256;
 
+// How many links the index of the longest header lines needs: a line has three bytes or more, so no two lines have the same third of where they start.
 pub const PLACES: usize = limits::MAX_HEADER_LINES / 3 + 1;
+
+// The same for header lines of at most `FEW_BYTES` bytes, whose arrays are quicker to clear.
+pub const FEW_BYTES: usize = limits::MAX_HEADER_LINES / 16;
+
+pub const FEW_PLACES: usize = FEW_BYTES / 3 + 1;
 
 // Stands for no line: no line starts there.
 pub const NO_LINE: u16 = limits::MAX_HEADER_LINES as u16;
 
-// A number that equal names share.
-fn bucket(name: &[u8]) -> usize
-    ensures { λ r. ⌜ (r ≡ bucketOf (now (name .entry))) × (r < bucketCount) ⌝ }
+// How many bytes of a policy the factors are drawn from.
+const SAMPLE: usize = 64;
+
+// Factors drawn from the middle of a text.
+fn sample(t: &[u8]) -> Seed
+    ensures { λ s. ⌜ Small s ⌝ }
 {
-    let n = name.len();
-    if n == 0 {
-        return 0;
+    let n = t.len();
+    let start = text_hash::factors::start();
+    if n <= SAMPLE {
+        return text_hash::factors::absorb(start, t);
     }
-    let first = name[0] as usize;
-    let middle = name[n / 2] as usize;
-    let last = name[n - 1] as usize;
-    (n % BUCKETS + 3 * first + 5 * middle + 7 * last) % BUCKETS
+    let from = (n - SAMPLE) / 2;
+    let to = from + SAMPLE;
+    text_hash::factors::absorb(start, &t[from..to])
+}
+
+// The factors of the buckets: from the policy, which the client does not write and may not know, and from all header lines.
+pub fn factors(policy: &[u8], headers: &[u8]) -> Seed
+    ensures { λ s. ⌜ Small s ⌝ }
+{
+    text_hash::factors::draw_after(sample(policy), headers)
 }
 
 // The bucket of a line's name.
-fn line_bucket(l: &[u8]) -> usize
-    requires { ⌜ readable (lineOf (cutAt 58 (now l))) ≡ true ⌝ }
-    ensures { λ r. ⌜ (r < bucketCount) × ((x : Line) → lineOf (cutAt 58 (now (l .entry))) ≡ some x → r ≡ bucketOf (x .name)) ⌝ }
+fn line_bucket(seed: Seed, l: &[u8]) -> usize
+    requires { ⌜ Small seed × (readable (lineOf (cutAt 58 (now l))) ≡ true) ⌝ }
+    ensures { λ r. ⌜ (r < bucketCount) × ((x : Line) → lineOf (cutAt 58 (now (l .entry))) ≡ some x → r ≡ bucketOf seed (x .name)) ⌝ }
 {
     let c = crate::headers::byte_from(l, 0, b':');
-    bucket(&l[0..c])
+    text_hash::place(seed, BUCKETS, &l[0..c])
 }
 
 // Stores where the last line of each bucket starts and, at a third of where a line starts, where the line of its bucket before it does.
-pub fn index_lines(h: &[u8], last: &mut [u16], before: &mut [u16])
-    requires { ⌜ Blank (now h) (now last) (now before) ⌝ }
-    ensures { λ _. ⌜ Indexed (now (h .entry)) (now (last .exit)) (now (before .exit)) ⌝ }
+pub fn index_lines(seed: Seed, h: &[u8], last: &mut [u16], before: &mut [u16])
+    requires { ⌜ Blank seed (now h) (now last) (now before) ⌝ }
+    ensures { λ _. ⌜ Indexed seed (now (h .entry)) (now (last .exit)) (now (before .exit)) ⌝ }
 {
     let n = h.len();
     let mut i = 0;
     while i < n {
         let e = crate::headers::byte_from(h, i, b'\n');
-        let b = line_bucket(&h[i..e]);
+        let b = line_bucket(seed, &h[i..e]);
         before[i / 3] = last[b];
         last[b] = i as u16;
         i = e + 1;
@@ -84,13 +101,20 @@ pub struct Span {
 }
 
 // The value of the header `key`, at the end of `out`: the values of its lines, each after a comma, without the first comma.
-pub fn header_value(h: &[u8], last: &[u16], before: &[u16], key: &[u8], out: &mut [u8]) -> Span
-    requires { ⌜ Ready (now h) (now last) (now before) (now out) ⌝ }
+pub fn header_value(
+    seed: Seed,
+    h: &[u8],
+    last: &[u16],
+    before: &[u16],
+    key: &[u8],
+    out: &mut [u8],
+) -> Span
+    requires { ⌜ Ready seed (now h) (now last) (now before) (now out) ⌝ }
     ensures { λ r. ⌜ Joined (now (key .entry)) (now (h .entry)) (now (out .exit)) r ⌝ }
 {
     let n = h.len();
     let end = out.len();
-    let b = bucket(key);
+    let b = text_hash::place(seed, BUCKETS, key);
     let mut p = last[b] as usize;
     let mut at = end;
     while p < n {

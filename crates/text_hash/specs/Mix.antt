@@ -29,3 +29,16 @@ wordsIn n = (n + 3) / 4
 -- from h on
 unfoldable pub mix : Seed → ℕ → Str → ℕ
 mix s h t = mixFrom s t (wordsIn (length t)) 0 0 h
+
+-- a hash of 32 bits times the number of places fits 64
+abbrev pub maxPlaces : ℕ
+maxPlaces = 65536
+
+-- the hash of a string from a number on that the factors give
+abbrev pub hashOf : Seed → Str → ℕ
+hashOf s t = mix s (middle (s .first * s .second)) t
+
+-- The place of a string, of `size` places, from the middle of its hash's square: the hash of a short string is nearly linear in its bytes, and
+-- some factors would leave many such strings in few places.
+unfoldable pub placeOf : Seed → ℕ → Str → ℕ
+placeOf s size t = middle (hashOf s t * hashOf s t) * size / 4294967296

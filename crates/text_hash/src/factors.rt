@@ -3,15 +3,15 @@ ghost use Prim.Native.Nat.{_<_};
 ghost use Rattle.text_hash.specs.Mix.{Small};
 use crate::Seed;
 
-// A factor from the middle of a product.
+// A factor from the middle of a product: odd, and of 31 bits, since small factors would leave many short strings in few places.
 fn factor(x: usize) -> usize
     ensures { λ r. ⌜ r < 2147483648 ⌝ }
 {
-    x / 65536 % 1073741824 * 2 + 1
+    x / 65536 % 536870912 * 2 + 1073741825
 }
 
 // The factors after two words at a time, the last few bytes left out.
-fn absorb(s: Seed, f: &[u8]) -> Seed
+pub fn absorb(s: Seed, f: &[u8]) -> Seed
     requires { ⌜ Small s ⌝ }
     ensures { λ r. ⌜ Small r ⌝ }
 {
@@ -33,15 +33,29 @@ fn absorb(s: Seed, f: &[u8]) -> Seed
     }
 }
 
-// Factors drawn from a text's own bytes, in two passes, so that its author cannot simply choose names by their hashes, nor bytes that give
-// certain factors. Nothing depends on what they are.
+// Factors drawn from a text's own bytes, after those of `start`, in two passes, so that its author cannot simply choose names by their hashes, nor bytes
+// that give certain factors. Nothing depends on what they are.
+pub fn draw_after(start: Seed, f: &[u8]) -> Seed
+    requires { ⌜ Small start ⌝ }
+    ensures { λ s. ⌜ Small s ⌝ }
+{
+    let once = absorb(start, f);
+    absorb(once, f)
+}
+
+// The factors to start with.
+pub fn start() -> Seed
+    ensures { λ s. ⌜ Small s ⌝ }
+{
+    Seed {
+        first: 1640531527,
+        second: 2146121005,
+    }
+}
+
+// The same from the start.
 pub fn draw(f: &[u8]) -> Seed
     ensures { λ s. ⌜ Small s ⌝ }
 {
-    let start = Seed {
-        first: 1640531527,
-        second: 2146121005,
-    };
-    let once = absorb(start, f);
-    absorb(once, f)
+    draw_after(start(), f)
 }

@@ -3,8 +3,8 @@ pub mod factors;
 pub mod word;
 
 ghost use mathlib.Core.Path.{_≡_};
-ghost use Prim.Native.Nat.{_<_};
-ghost use Rattle.text_hash.specs.Mix.{Small, middle, mix};
+ghost use Prim.Native.Nat.{_≤_, _<_};
+ghost use Rattle.text_hash.specs.Mix.{Small, middle, mix, maxPlaces, placeOf};
 
 // The factors, odd numbers.
 pub struct Seed {
@@ -36,4 +36,14 @@ pub fn mix(s: Seed, h: usize, t: &[u8]) -> usize
         left -= 1;
     }
     y
+}
+
+// The place of t, of `size` places: from the middle of its hash's square. The hash begins with a number that the factors give.
+pub fn place(s: Seed, size: usize, t: &[u8]) -> usize
+    requires { ⌜ Small s × (size ≤ maxPlaces) ⌝ }
+    ensures { λ r. ⌜ r ≡ placeOf s size (now (t .entry)) ⌝ }
+{
+    let from = middle(s.first * s.second);
+    let h = mix(s, from, t);
+    middle(h * h) * size / 4294967296
 }

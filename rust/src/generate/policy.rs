@@ -331,11 +331,23 @@ pub fn list_of_objects(len: usize) -> Bytes {
 /// each of them has to be looked for in every line.
 pub fn policy_of_headers() -> Bytes {
     let header = |number: usize| Header { key: format!("x-{number:02}").into(), values: vec![b"".to_vec()] };
-    let headers: Vec<Header> = (0..limits::POLICY_ENTRIES).map(header).collect();
+    policy_of((0..limits::POLICY_ENTRIES).map(header).collect())
+}
+
+/// The same with one header again and again, which has to match `value`.
+pub fn policy_of_one_header(key: &str, value: &str) -> Bytes {
+    policy_of(vec![Header { key: key.into(), values: vec![value.into()] }; limits::POLICY_ENTRIES])
+}
+
+/// A policy of twelve rules, none of which matches, with all of these headers but the last in each.
+fn policy_of(headers: Vec<Header>) -> Bytes {
     let rule = |number: usize| Rule {
         name: number.to_string().into_bytes(),
         source: None,
-        request: Some(Request { paths: None, headers: Some([&headers[..31], &[never(number)]].concat()) }),
+        request: Some(Request {
+            paths: None,
+            headers: Some([&headers[..limits::POLICY_ENTRIES - 1], &[never(number)]].concat()),
+        }),
     };
     let policy = Policy { name: b"p".to_vec(), deny_rules: None, allow_rules: (0..12).map(rule).collect() };
     let mut random = Random::new(1);
@@ -350,4 +362,32 @@ fn never(number: usize) -> Header {
 /// Header lines of 8,192 bytes, 2,048 of them.
 pub fn many_header_lines() -> Bytes {
     b"z:v\n".repeat(limits::HEADER_LINES / 4)
+}
+
+/// Bytes of which header names may consist.
+const NAME_BYTES: &[u8] = b"abcdefghijklmnopqrstuvwxyz0123456789-_.";
+
+/// Header lines with as many of these names as fit after the first line, each with an empty value.
+fn lines_of(first: Bytes, names: impl Iterator<Item = Bytes>) -> Bytes {
+    let mut lines = first;
+    for name in names.filter(|name| name != b"k") {
+        if lines.len() + name.len() + 2 <= limits::HEADER_LINES {
+            lines.extend([&name[..], b":\n"].concat());
+        }
+    }
+    lines
+}
+
+/// Header lines with as many names as fit. The first line has a number, by which requests differ.
+pub fn shortest_names(number: usize) -> Bytes {
+    let one = NAME_BYTES.iter().map(|a| vec![*a]);
+    let two = NAME_BYTES.iter().flat_map(|a| NAME_BYTES.iter().map(move |b| vec![*a, *b]));
+    let three = NAME_BYTES.iter().flat_map(|a| NAME_BYTES.iter().map(move |b| vec![b'a', *a, *b]));
+    lines_of(format!("number:{number:08}\n").into(), one.chain(two).chain(three))
+}
+
+/// Header lines with as many names as fit that have the length, the first, the middle and the last byte of `x0-0x`.
+pub fn names_alike() -> Bytes {
+    let pairs = NAME_BYTES.iter().flat_map(|a| NAME_BYTES.iter().map(move |b| vec![b'x', *a, b'-', *b, b'x']));
+    lines_of(Bytes::new(), pairs.filter(|name| name != b"x0-0x"))
 }

@@ -5,6 +5,7 @@ use mathlib.Core.Path.{_≡_, refl, sym, _∙_}
 use Prim.Native.Nat.{_/_}
 use lib.ListN.{length}
 use Rattle.rpc_request.proofs.Chains.{Gathering, gathering-start, steps, linked, linked-line, linked-room, linked-place, linked-kept, steps-fall, gathering-on, joined-empty, joined-value}
+use Rattle.text_hash.proofs.Mixing.{place-within}
 use Rattle.rpc_request.proofs.index.header_value.Statement.{statement}
 use Rattle.rpc_request.proofs.index.header_value.Tie as tie
 
@@ -16,18 +17,18 @@ abbrev μ-loop : tie.MeasureT-loop
 μ-loop h last before key out₀ n end b p₀ at₀ out p at = steps h p
 
 mul-p : tie.Need-mul-p Inv-loop μ-loop
-mul-p c = omega (arith, c .bucket .ensures .1)
+mul-p c = omega (arith, place-within _ _ _ _ (c .place .ensures) (omega arith))
 
 shared-slice-read-p : tie.Need-shared-slice-read-p Inv-loop μ-loop
 shared-slice-read-p c = let at-start = c .before .before .before .before .before .before .before in
-    omega (arith, c .before .bucket .ensures .1, at-start .pre .indexed .buckets)
+    omega (arith, place-within _ _ _ _ (c .before .place .ensures) (omega arith), at-start .pre .indexed .buckets)
 
 cast-p : tie.Need-cast-p Inv-loop μ-loop
-cast-p c = omega (arith, c .shared-slice-known5 .given (c .before .bucket .result))
+cast-p c = omega (arith, c .shared-slice-known5 .given (c .before .place .result))
 
 loop-holds : tie.Need-loop-holds Inv-loop μ-loop
 loop-holds c = let at-start = c .before .before .before .before .before .before .before in
-    (refl, gathering-start _ _ _ _ _ _ (at-start .pre .indexed) (c .before .bucket .ensures .0) (c .before .bucket .ensures .1))
+    (refl, gathering-start _ _ _ _ _ _ _ (at-start .pre .indexed) (c .before .place .ensures) (place-within _ _ _ _ (c .before .place .ensures) (omega arith)))
 
 join-line-requires : tie.Need-join-line-requires Inv-loop μ-loop
 join-line-requires c κs = let at-loop-test = c .before .before .before in
@@ -36,7 +37,7 @@ join-line-requires c κs = let at-loop-test = c .before .before .before in
     (at-loop-test .before .loop .inv .1) in (
       linked-line _ _ _ _ _ _ _ (at-loop-test .loop-test .taken) (c .before .before .byte-from .ensures) g,
       linked-room _ _ _ _ _ _ _ (at-loop-test .loop-test .taken) (c .before .before .byte-from .ensures) g
-          (omega (arith, at-loop-test .before .loop .inv .0, at-start .pre .room, at-start .pre .indexed .short)),
+          (omega (arith, at-loop-test .before .loop .inv .0, at-start .pre .room)),
       g .high,
     )
 
@@ -51,7 +52,7 @@ shared-slice-read-p-2 c = let at-byte-from = c .before .before .before .before .
     let g = linked _ _ _ _ _ _ _ (at-byte-from .before .loop-test .taken) (at-byte-from .byte-from .ensures)
     (at-byte-from .before .before .loop .inv .1) in
     linked-place _ _ _ _ _ _ _ (at-byte-from .before .loop-test .taken) (at-byte-from .byte-from .ensures) g
-    (at-start .pre .indexed .short) (at-start .pre .indexed .places)
+    (at-start .pre .indexed .places)
 
 cast-p-2 : tie.Need-cast-p-2 Inv-loop μ-loop
 cast-p-2 c = let at-loop = c .before .before .before .before .before .before .before .before in
@@ -86,8 +87,8 @@ returns c =
       high = omega (arith, c .before .before .loop .inv .0);
     }
 
-add-t12 : tie.Need-add-t12 Inv-loop μ-loop
-add-t12 c = omega (arith, c .if1 .left, c .before .before .loop .inv .0, c .before .before .loop .inv .1 .high)
+add-t13 : tie.Need-add-t13 Inv-loop μ-loop
+add-t13 c = omega (arith, c .if1 .left, c .before .before .loop .inv .0, c .before .before .loop .inv .1 .high)
 
 same-length-2 : tie.Need-same-length-2 Inv-loop μ-loop
 same-length-2 c = c .before .before .loop .inv .0
@@ -104,4 +105,4 @@ returns-2 c = let at-loop = c .before .before in
 pub header-value-spec : {M : Type 1} → statement M
 header-value-spec = tie.close (tie.spec Inv-loop μ-loop (λ c κs. search needs) mul-p shared-slice-read-p cast-p
     loop-holds (λ c κs. search needs) (λ c. search needs) (λ c. search needs) (λ c. search needs) join-line-requires
-    mul-p-2 shared-slice-read-p-2 cast-p-2 loop-less loop-again same-length returns add-t12 same-length-2 returns-2)
+    mul-p-2 shared-slice-read-p-2 cast-p-2 loop-less loop-again same-length returns add-t13 same-length-2 returns-2)
