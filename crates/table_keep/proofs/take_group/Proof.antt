@@ -2,6 +2,7 @@
 use borrow.Author.Needs.{needs}
 use native.Mathlib.Omega.{arith}
 use mathlib.Core.Path.{refl, sym, _∙_}
+use Prim.Native.Nat.{_<_}
 use Rattle.limits.specs.Limits.{maxGroups}
 use Rattle.text.specs.Refusal.{clear}
 use Rattle.text.proofs.Frames.{string-ends}
@@ -9,6 +10,14 @@ use Rattle.table_keep.proofs.Groups.{below, group-short, group-long, gr
 use mathlib.Core.List.{[]}
 use Rattle.table_keep.proofs.take_group.Statement.{statement}
 use Rattle.table_keep.proofs.take_group.Tie as tie
+
+-- where it began, from where the number is clear; and that there is room for a group
+abbrev start : tie.Else3 → tie.Start
+start c = c .before .before .before .before .before .before .before .before .before .before .before .before .before .before .before .before .before
+
+few : (c : tie.Else3) → start c .args .n < maxGroups
+few c = let at-is-unsized = c .before .before .before .before .before .before in
+    below clear maxGroups (start c .args .n) _ _ _ _ _ _ (at-is-unsized .is-unsized .ensures) (c .before .number .ensures) (c .if3 .left)
 
 returns : tie.Need-returns
 returns c = let at-start = c .before .before .before .before .before in
@@ -58,9 +67,7 @@ returns-4 c = let at-all-print = c .before .before .before .before .before in
     )
 
 add-from : tie.Need-add-from
-add-from c =
-    let at-start = c .before .before .before .before .before .before .before .before .before .before .before .before .before .before .before .before .before in
-    omega (arith, at-start .pre .room)
+add-from c = omega (arith, start c .pre .room)
 
 add-to : tie.Need-add-to
 add-to c =
@@ -70,43 +77,26 @@ add-to c =
 
 insert-requires : tie.Need-insert-requires
 insert-requires c κs = let at-find = c .before .before .before in
-    let at-is-unsized = at-find .before .before .before .before in
-    let at-e = at-is-unsized .before .before .before .before .before .before in
+    let at-e = at-find .before .before .before .before .before .before .before .before .before .before in
     let at-start = at-e .before .before .before .before .before in
     let h = string-ends _ _ _ (at-e .before .before .string-end .ensures) _ (at-e .e .given .1) in
-    let l = below clear maxGroups (at-start .args .n) _ _ _ _ _ _ (at-is-unsized .is-unsized .ensures)
-    (c .before .before .number .ensures) (c .before .if3 .left) in
+    let l = few (c .before) in
     (at-find .find .ensures .placed .fits, omega arith, omega (arith, h .1, h .2, at-start .pre .room), omega (arith, h .1, h .2, at-start .pre .room))
 
 add-starts : tie.Need-add-starts
-add-starts c =
-    let at-start = c .before .before .before .before .before .before .before .before .before .before .before .before .before .before .before .before .before .before .before in
-    omega (arith, at-start .pre .room)
+add-starts c = omega (arith, start (c .before .before) .pre .room)
 
 cast-starts : tie.Need-cast-starts
-cast-starts c =
-    let at-start = c .before .before .before .before .before .before .before .before .before .before .before .before .before .before .before .before .before .before .before in
-    omega (arith, at-start .pre .room)
+cast-starts c = omega (arith, start (c .before .before) .pre .room)
 
 mul-starts : tie.Need-mul-starts
-mul-starts c = let at-number = c .before .before .before in
-    let at-is-unsized = at-number .before .before .before .before .before in
-    let at-start = at-is-unsized .before .before .before .before .before .before .before .before .before .before .before in
-    let h = below clear maxGroups (at-start .args .n) _ _ _ _ _ _ (at-is-unsized .is-unsized .ensures)
-    (at-number .number .ensures) (c .before .before .if3 .left) in omega arith
+mul-starts c = let h = few (c .before .before) in omega arith
 
 element-write-starts : tie.Need-element-write-starts
-element-write-starts c = let at-number = c .before .before .before in
-    let at-is-unsized = at-number .before .before .before .before .before in
-    let at-start = at-is-unsized .before .before .before .before .before .before .before .before .before .before .before in
-    below clear maxGroups (at-start .args .n) _ _ _ _ _ _ (at-is-unsized .is-unsized .ensures) (at-number .number .ensures) (c .before .before .if3 .left)
+element-write-starts c = few (c .before .before)
 
 cast-hints : tie.Need-cast-hints
-cast-hints c = let at-if3 = c .before .before .before in
-    let at-is-unsized = at-if3 .before .before .before .before .before .before in
-    let at-start = at-is-unsized .before .before .before .before .before .before .before .before .before .before .before in
-    let h = below clear maxGroups (at-start .args .n) _ _ _ _ _ _ (at-is-unsized .is-unsized .ensures)
-    (at-if3 .before .number .ensures) (at-if3 .if3 .left) in omega arith
+cast-hints c = let h = few (c .before .before .before) in omega arith
 
 returns-5 : tie.Need-returns-5
 returns-5 c = let at-if3 = c .before .before .before in
@@ -121,8 +111,7 @@ returns-5 c = let at-if3 = c .before .before .before in
       λ x. group-kept _ (at-start .pre .kind) _ (at-e .before .before .string-end .ensures)
           (record { kind = at-start .args .last; groups = []; members = []; rules = [] }) _ refl _ (at-e .e .given .1)
           (at-if2 .before .before .if1 .left) _ (at-if2 .before .is-out-of-order .ensures) _ _ _
-          (below clear maxGroups (at-start .args .n) _ _ _ _ _ _ (at-all-print .before .is-unsized .ensures)
-          (at-if3 .before .number .ensures) (at-if3 .if3 .left)) (at-start .pre .room) (at-start .args .names .now)
+          (few at-if3) (at-start .pre .room) (at-start .args .names .now)
           (omega arith) (at-start .pre .named) _ _ _ _ (at-if3 .before .number .ensures) (at-if3 .if3 .left)
           (at-if3 .before .before .find .ensures) _ (c .before .insert .ensures),
     )

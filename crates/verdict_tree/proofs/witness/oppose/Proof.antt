@@ -15,6 +15,11 @@ use Rattle.verdict_tree.proofs.Deciding.{oppose-in}
 use Rattle.verdict_tree.proofs.witness.oppose.Statement.{statement}
 use Rattle.verdict_tree.proofs.witness.oppose.Tie as tie
 
+-- what is asked of a rule that fits: with the asked path it makes a path whose verdict is not v
+abbrev also : tie.Start → (Rule → Bool) → Rule → Bool
+also s test r = let a = s .args in
+    xor (permitsBoth test (rulesIn (a .f .now) (a .starts .now) (a .n) 0) (r .path) (elemsIn (a .k) (a .g .now) (a .p))) (a .v)
+
 mul-if1 : tie.Need-mul-if1
 mul-if1 c = omega arith
 
@@ -25,13 +30,10 @@ returns : tie.Need-returns
 returns c = let at-start = c .before .before .before .before .before .before .before .before .before in
     let w = at-start .pre .2 .kept .few in
     let f = at-start .args .f .now in
-    let also : (Rule → Bool) → Rule → Bool = λ test r. xor (permitsBoth test
-    (rulesIn f (at-start .args .starts .now) (at-start .args .n) 0) (r .path)
-    (elemsIn (at-start .args .k) (at-start .args .g .now) (at-start .args .p))) (at-start .args .v) in
     record {
       sound = at-start .pre .1;
       numbered = λ e. e;
-      best = λ test h. step-off earlier f (at-start .args .b) _ _ test (also test) (unfit test _ _ _ (omega arith) (h _ (at-start .pre .0)) (c .if1 .taken));
+      best = λ test h. step-off earlier f (at-start .args .b) _ _ test (also at-start test) (unfit test _ _ _ (omega arith) (h _ (at-start .pre .0)) (c .if1 .taken));
     }
 
 mul-s : tie.Need-mul-s
@@ -53,13 +55,10 @@ returns-2 : tie.Need-returns-2
 returns-2 c =
     let at-start = c .before .before .before .before .before .before .before .before .before .before .before .before in
     let f = at-start .args .f .now in
-    let also : (Rule → Bool) → Rule → Bool = λ test r. xor (permitsBoth test
-    (rulesIn f (at-start .args .starts .now) (at-start .args .n) 0) (r .path)
-    (elemsIn (at-start .args .k) (at-start .args .g .now) (at-start .args .p))) (at-start .args .v) in
     record {
       sound = at-start .pre .1;
       numbered = λ e. e;
-      best = λ test h. step-keep earlier f (at-start .args .b) _ _ test (also test) (sym (c .before .wins-earlier .ensures) ∙ not-true _ (c .if2 .taken));
+      best = λ test h. step-keep earlier f (at-start .args .b) _ _ test (also at-start test) (sym (c .before .wins-earlier .ensures) ∙ not-true _ (c .if2 .taken));
     }
 
 decide-joined-requires : tie.Need-decide-joined-requires
@@ -91,13 +90,10 @@ returns-3 c = let at-decide-joined = c .before .before .before .before in
     let w = at-start .pre .2 .kept .few in
     let a = at-start .args in
     let f = a .f .now in
-    let also : (Rule → Bool) → Rule → Bool = λ test r. xor (permitsBoth test
-    (rulesIn f (at-start .args .starts .now) (at-start .args .n) 0) (r .path)
-    (elemsIn (at-start .args .k) (at-start .args .g .now) (at-start .args .p))) (at-start .args .v) in
     record {
       sound = at-start .pre .1;
       numbered = λ e. e;
-      best = λ test h. step-miss earlier f (at-start .args .b) _ _ test (also test)
+      best = λ test h. step-miss earlier f (at-start .args .b) _ _ test (also at-start test)
           (oppose-in f (a .starts .now) (a .weights .now) (a .paths .now) (a .n) w (at-start .pre .2 .rules)
           (at-start .pre .2 .paths-are) test h _ (a .i) _ (at-start .pre .0)
           (at-decide-joined .decide-joined .ensures) _ _ _ (permit-in _ _) (c .before .unlike .ensures) ∙ not-true _ (c .if3 .taken));
@@ -110,13 +106,10 @@ returns-4 c = let at-decide-joined = c .before .before .before .before in
     let w = at-start .pre .2 .kept .few in
     let a = at-start .args in
     let f = a .f .now in
-    let also : (Rule → Bool) → Rule → Bool = λ test r. xor (permitsBoth test
-    (rulesIn f (at-start .args .starts .now) (at-start .args .n) 0) (r .path)
-    (elemsIn (at-start .args .k) (at-start .args .g .now) (at-start .args .p))) (at-start .args .v) in
     record {
       sound = λ z. at-start .pre .2 .rules .laid _ (at-start .pre .0);
       numbered = λ e z. at-start .pre .0;
-      best = λ test h. step-take earlier f (at-start .args .b) _ _ test (also test) 1 (λ z. absurd (omega arith))
+      best = λ test h. step-take earlier f (at-start .args .b) _ _ test (also at-start test) 1 (λ z. absurd (omega arith))
           (fit test _ _ _ (omega arith) (h _ (at-start .pre .0)) (omega (arith, at-if1 .if1 .left)))
           (oppose-in f (a .starts .now) (a .weights .now) (a .paths .now) (a .n) w (at-start .pre .2 .rules)
           (at-start .pre .2 .paths-are) test h _ (a .i) _ (at-start .pre .0)

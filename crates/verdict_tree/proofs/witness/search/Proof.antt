@@ -34,18 +34,18 @@ Inv-loop f starts weights paths next filters n first v g p k b₀ i₀ b i = Wit
 abbrev μ-loop : tie.MeasureT-loop
 μ-loop f starts weights paths next filters n first v g p k b₀ i₀ b i = n - i
 
+-- the rules that fit and oppose
+abbrev against : tie.Start Inv-loop μ-loop → (Rule → Bool) → Rule → Bool
+against s test = let a = s .args in opposing test (rulesIn (a .f .now) (a .starts .now) (a .n) 0) (elemsIn (a .k) (a .g .now) (a .p)) (a .v)
+
 loop-holds : tie.Need-loop-holds Inv-loop μ-loop
 loop-holds c = let at-start = c .before .before .before .before .before .before .before in
-    let f = at-start .args .f .now in
-    let starts = at-start .args .starts .now in
-    let n = at-start .args .n in
-    let against : (Rule → Bool) → Rule → Bool = λ test. opposing test (rulesIn f starts n 0)
-    (elemsIn (at-start .args .k) (at-start .args .g .now) (at-start .args .p)) (at-start .args .v) in
+    let a = at-start .args in
     record {
       inside = zero-le;
       sound = λ z. clash (eq-eqb 0 0 refl) z;
       numbered = λ z. clash (eq-eqb 0 0 refl) z;
-      best = λ test h. best-none earlier earlier-order (against test) f starts n;
+      best = λ test h. best-none earlier earlier-order (against at-start test) (a .f .now) (a .starts .now) (a .n);
     }
 
 oppose-requires : tie.Need-oppose-requires Inv-loop μ-loop
@@ -61,30 +61,22 @@ loop-less c = omega arith
 loop-again : tie.Need-loop-again Inv-loop μ-loop
 loop-again c = let at-loop = c .before .before in
     let at-start = at-loop .before .before .before .before .before .before .before .before in
-    let f = at-start .args .f .now in
-    let starts = at-start .args .starts .now in
-    let n = at-start .args .n in
-    let against : (Rule → Bool) → Rule → Bool = λ test. opposing test (rulesIn f starts n 0)
-    (elemsIn (at-start .args .k) (at-start .args .g .now) (at-start .args .p)) (at-start .args .v) in
+    let a = at-start .args in
     record {
       inside = omega arith;
       sound = c .oppose .ensures .sound;
       numbered = c .oppose .ensures .numbered (at-loop .loop .inv .numbered);
-      best = λ test h. best-turn earlier earlier-order (against test) f starts n _ (at-loop .loop .b) _
+      best = λ test h. best-turn earlier earlier-order (against at-start test) (a .f .now) (a .starts .now) (a .n) _ (at-loop .loop .b) _
           (at-loop .loop .i) (c .before .loop-test .taken) (c .oppose .ensures .best test h) (at-loop .loop .inv .best test h);
     }
 
 returns : tie.Need-returns Inv-loop μ-loop
 returns c = let at-start = c .before .before .before .before .before .before .before .before .before in
-    let f = at-start .args .f .now in
-    let starts = at-start .args .starts .now in
-    let n = at-start .args .n in
-    let against : (Rule → Bool) → Rule → Bool = λ test. opposing test (rulesIn f starts n 0)
-    (elemsIn (at-start .args .k) (at-start .args .g .now) (at-start .args .p)) (at-start .args .v) in
+    let a = at-start .args in
     record {
       sound = c .before .loop .inv .sound;
       numbered = c .before .loop .inv .numbered;
-      best = λ test h. best-end earlier earlier-order (against test) f starts n _ (c .before .loop .b)
+      best = λ test h. best-end earlier earlier-order (against at-start test) (a .f .now) (a .starts .now) (a .n) _ (c .before .loop .b)
           (c .before .loop .i) (c .loop-test .left) (c .before .loop .inv .best test h);
     }
 
