@@ -9,7 +9,6 @@ use lib.Dec.{eqb, ltb}
 use lib.ListN.{length, take, drop, getD, set, length-set, length-drop, drop-of-length-le}
 use lib.Seq.{take-all, drop-at, drop-drop, length-take-le, getD-set-same, getD-set-other}
 use borrow.Author.Tests.{eqb-true, eqb-false, ltb-true, ltb-false, lt-ltb, le-ltb}
-use Rattle.limits.specs.Limits.{maxHeaderLines}
 use Rattle.text.specs.Test.{_and_, if_then_else_, only, orNothing}
 use Rattle.text.specs.String.{Str}
 use Rattle.text.specs.Frame.{part}
