@@ -5,6 +5,7 @@
     review.py repeats [LINES] [MOST]     runs of LINES lines (8) or more with the same shape, names and numbers aside; the MOST (12) longest
     review.py contracts                  public functions that promise little: no `ensures`; `ensures` that equate nothing; a `&mut` lent and
                                          nothing said of its `.exit`; an exported function with a `requires`
+    review.py names                      names of definitions that stand in more than one crate, with the files
     review.py wide                       lines over 160 columns in src/ and specs/, over 300 in proofs/
 """
 import glob
@@ -116,6 +117,24 @@ def promises_little(text, exported):
         yield "is exported and has a requires"
 
 
+# ---- names
+
+DEFINED = re.compile(r"^(?:  )?(?:(?:unfoldable|abbrev)(?: pub)?|pub (?:data|record)|data|record) (?!mutual)([^\s:(){}]+)", re.M)
+
+
+def names():
+    files = defaultdict(set)
+    for path in sources(endings=(".antt",)):
+        if "/specs/" in path:
+            for name in DEFINED.findall(read(path)):
+                files[name].add(path)
+    crates = {name: {p.split("/")[1] for p in paths} for name, paths in files.items()}
+    rows = sorted(name for name in files if len(crates[name]) > 1)
+    for name in rows:
+        print(f"{name}: {', '.join(sorted(files[name]))}")
+    print(f"{len(rows)} of {len(files)} names")
+
+
 # ---- widths
 
 def wide():
@@ -127,7 +146,7 @@ def wide():
     return bool(rows)
 
 
-COMMANDS = {"unused": unused, "repeats": repeats, "contracts": contracts, "wide": wide}
+COMMANDS = {"unused": unused, "repeats": repeats, "contracts": contracts, "names": names, "wide": wide}
 
 if __name__ == "__main__":
     command, *rest = sys.argv[1:] or ["help"]
