@@ -1,6 +1,18 @@
-// Printing to standard output, for the programs that run vectors.
+// Printing to standard output.
+pub mod add;
+
+ghost use Prim.Native.Nat.{_≤_};
+ghost use lib.ListN.{length};
+
 pub fn word(s: &[u8]) {
     io::write_all(1, s);
+}
+
+// The first n bytes of a buffer.
+pub fn first(out: &[u8], n: usize)
+    requires { ⌜ n ≤ length (now out) ⌝ }
+{
+    word(&out[..n]);
 }
 
 pub fn space() {
