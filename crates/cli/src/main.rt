@@ -195,10 +195,10 @@ fn run(command: Command, name: &[u8], words: usize) {
     }
 }
 
-fn main() {
+// The command that the first word names, on the words that follow it.
+fn obey(n: usize) {
     let mut word = io::buffer();
     let w = input::word(1, &mut word);
-    let n = os::arg_count();
     let command = named(&word[..w]);
     if n < 2 {
         cli_console::say::usage(b"no command is named", b"", b"");
@@ -209,4 +209,9 @@ fn main() {
     } else {
         cli_console::say::misuse(&word[..w]);
     }
+}
+
+fn main() {
+    obey(os::arg_count());
+    cli_show::marks::end();
 }

@@ -38,9 +38,16 @@ fn meaning(number: u8) {
     );
 }
 
+// The word that a refusal begins with.
+pub fn begin() {
+    cli_show::word(b"refused");
+    cli_show::marks::refusal();
+}
+
 // `refused N: what it means`, or `refused N at line L: what it means` where the refusal carries a line.
 pub fn at(number: u8, line: usize) {
-    cli_show::word(b"refused ");
+    begin();
+    cli_show::word(b" ");
     cli_show::decimal(number as u64);
     if line != 0 {
         cli_show::word(b" at line ");

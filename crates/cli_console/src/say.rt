@@ -69,6 +69,7 @@ pub fn usage(what: &[u8], word: &[u8], page: &[u8]) {
     }
     io::write_all(2, page);
     io::write_all(2, b"\n");
+    cli_show::marks::complaint();
 }
 
 // The command was called with arguments that it does not take.
@@ -80,4 +81,5 @@ pub fn misuse(command: &[u8]) {
 pub fn failure(name: &[u8]) {
     io::write_all(2, b"burgee: ");
     os::fail(name);
+    cli_show::marks::complaint();
 }

@@ -1,7 +1,6 @@
 // Help: what the commands are, and for each what it prints, with an example.
 pub fn all() {
-    io::write_all(
-        1,
+    cli_show::word(
         b"burgee: tries rule tables and policies\n\
         \n\
         burgee table FILE                                  checks a rule table\n\
@@ -26,8 +25,7 @@ pub fn all() {
 }
 
 fn table() {
-    io::write_all(
-        1,
+    cli_show::word(
         b"burgee table FILE\n\
         \n\
         Checks a rule table: accepted, and how many groups, members and rules it has;\n\
@@ -42,8 +40,7 @@ fn table() {
 }
 
 fn conversion() {
-    io::write_all(
-        1,
+    cli_show::word(
         b"burgee show FILE\n\
         burgee pack FILE\n\
         \n\
@@ -72,8 +69,7 @@ fn conversion() {
 }
 
 fn groups() {
-    io::write_all(
-        1,
+    cli_show::word(
         b"burgee groups FILE USER\n\
         \n\
         How many groups of a rule table list the user, and the number and name of each.\n\
@@ -86,8 +82,7 @@ fn groups() {
 }
 
 fn verdict() {
-    io::write_all(
-        1,
+    cli_show::word(
         b"burgee verdict FILE USER read|write ORIGIN PATH\n\
         \n\
         What the user may do at one path: permit or deny, and the deciding rule's number and id,\n\
@@ -105,8 +100,7 @@ fn verdict() {
 }
 
 fn tree() {
-    io::write_all(
-        1,
+    cli_show::word(
         b"burgee tree FILE USER read|write ORIGIN PATH\n\
         \n\
         What the user may do at a path and at every path beneath it, also those that no machine has yet: ALL, NONE or MIXED.\n\
@@ -121,8 +115,7 @@ fn tree() {
 }
 
 fn explain() {
-    io::write_all(
-        1,
+    cli_show::word(
         b"burgee explain FILE USER read|write ORIGIN PATH\n\
         \n\
         The verdict, and then every rule that matches, in ranking order: the first decides, and of each other one\n\
@@ -144,8 +137,7 @@ fn explain() {
 }
 
 fn path() {
-    io::write_all(
-        1,
+    cli_show::word(
         b"burgee path read TEXT\n\
         burgee path write BYTES\n\
         \n\
@@ -162,8 +154,7 @@ fn path() {
 }
 
 fn policy() {
-    io::write_all(
-        1,
+    cli_show::word(
         b"burgee policy FILE\n\
         \n\
         Checks an RPC policy: accepted, and how many rules each list has;\n\
@@ -180,8 +171,7 @@ fn policy() {
 }
 
 fn rpc() {
-    io::write_all(
-        1,
+    cli_show::word(
         b"burgee rpc FILE IDENTITY PATH [HEADERS-FILE]\n\
         \n\
         Whether a policy permits an RPC: permit or deny, and the deciding rule's list, number and name,\n\
@@ -210,8 +200,7 @@ fn rpc() {
 }
 
 fn rotate() {
-    io::write_all(
-        1,
+    cli_show::word(
         b"burgee rotate new RECORD STORE policy|table\n\
         burgee rotate show RECORD STORE\n\
         burgee rotate start RECORD STORE\n\
@@ -264,8 +253,7 @@ fn rotate() {
 }
 
 fn about_version() {
-    io::write_all(
-        1,
+    cli_show::word(
         b"burgee version\n\
         \n\
         The version of this program, which is that of include/burgee.h; also burgee --version.\n\
@@ -277,7 +265,7 @@ fn about_version() {
 
 // The version of the product, as include/burgee.h has it.
 pub fn version() {
-    io::write_all(1, b"burgee 0.1.0\n");
+    cli_show::word(b"burgee 0.1.0\n");
 }
 
 // One command's help, or all of it; false where there is no such command.

@@ -14,13 +14,17 @@ fn answer(c: Converted, text: &[u8], made: &[u8]) {
         Converted::Length(n) => print(made, n),
         Converted::Refused { number, line } => cli_console::refusal::of_text(text, number, line),
         Converted::Unread { line } => {
-            cli_show::word(b"refused at line ");
+            cli_console::refusal::begin();
+            cli_show::word(b" at line ");
             cli_show::decimal(line as u64);
             cli_show::line(b": not a line of the readable form");
             cli_console::refusal::quote_line(text, line);
             cli_console::refusal::tell_end(text, line);
         }
-        Converted::NoRoom => cli_show::line(b"refused: too long for a table"),
+        Converted::NoRoom => {
+            cli_console::refusal::begin();
+            cli_show::line(b": too long for a table");
+        }
     }
 }
 
