@@ -242,7 +242,10 @@ code() {
                 sub(/\/\/.*/, "")
                 open = open || sub(/b".*/, "")
             }
-            !program { sub(/(^|[ \t])--([ \t].*)?$/, "") }
+            !program {
+                gsub(/"[^"]*"/, "")
+                sub(/(^|[ \t])--([ \t].*)?$/, "")
+            }
             {
                 for (i = 1; i <= n; i++)
                     while (at = index($0, allowed[i])) $0 = substr($0, 1, at - 1) substr($0, at + length(allowed[i]))

@@ -6,7 +6,7 @@ use lib.ListN.{length, length-append}
 use Rattle.text.proofs.Filling.{wrote-long, wrote-more, wrote-nothing}
 use Rattle.cli_show.specs.Added.{Added}
 
-infixr 30 _then_
+infixl 30 _then_
 pub _then_ : {d s d′ t d″ : List ℕ} {at e e′ : ℕ} → Added d at s d′ e → Added d′ e t d″ e′ → Added d at (s ++ t) d″ e′
 _then_ {d} {s} {d′} {t} {d″} {at} {e} {e′} w v = record {
   wrote = wrote-more d at s d′ e (w .wrote) (w .fits) t d″ e′ (v .wrote);

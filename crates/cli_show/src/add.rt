@@ -3,7 +3,10 @@ ghost use mathlib.Core.Path.{_≡_};
 ghost use Prim.Native.Nat.{_+_, _≤_};
 ghost use lib.ListN.{length};
 ghost use Rattle.cli_show.specs.Added.{Added, AddedUpTo};
-ghost use Rattle.cli_show.specs.Text.{fact as Text·fact, decimal as Text·decimal};
+ghost use Rattle.cli_show.specs.Text.{upTo, fact as Text·fact, decimal as Text·decimal};
+
+// Room for the lines of any answer, but for a refusal.
+pub const MAX_LINES: usize = 320;
 
 pub fn string(s: &[u8], out: &mut [u8], at: usize) -> usize
     requires { ⌜ at + length (now s) ≤ length (now out) ⌝ }
@@ -11,6 +14,17 @@ pub fn string(s: &[u8], out: &mut [u8], at: usize) -> usize
 {
     text::fill::copy(s, out, at);
     at + s.len()
+}
+
+// Nothing of a string that is longer than `most`.
+pub fn string_up_to(most: usize, s: &[u8], out: &mut [u8], at: usize) -> usize
+    requires { ⌜ at + most ≤ length (now out) ⌝ }
+    ensures { λ r. ⌜ AddedUpTo most (now (out .entry)) at (upTo most (now (s .entry))) (now (out .exit)) r ⌝ }
+{
+    if most < s.len() {
+        return at;
+    }
+    string(s, out, at)
 }
 
 pub fn decimal(n: u64, out: &mut [u8], at: usize) -> usize
