@@ -1,32 +1,25 @@
 // A rule table's check, a user's groups, the verdicts.
+use cli_answers::lines::Fallback;
 use table::Counted;
 use table::GroupNumber;
-use table_facts::Row;
 use table_facts::Rows;
 
 // How many rows of each kind an accepted table has, or why it is refused.
 pub fn check(text: &[u8]) {
     let r = table_facts::count_rows(text);
-    match r {
-        Rows::Count {
-            groups,
-            members,
-            rules,
-        } => {
-            cli_console::say::count(b"accepted\ngroups ", groups);
-            cli_console::say::count(b"members ", members);
-            cli_console::say::count(b"rules ", rules);
-        }
-        Rows::Refused { number, line } => cli_console::refusal::of_text(text, number, line),
+    let mut out = [0u8; cli_show::add::MAX_LINES];
+    let n = cli_answers::rows::counts(r, &mut out);
+    cli_show::first(&out, n);
+    if let Rows::Refused { number, line } = r {
+        cli_console::refusal::of_text(text, number, line);
     }
 }
 
 // The number and the name of a group.
 fn group(text: &[u8], number: GroupNumber) {
-    cli_show::word(b"group ");
-    cli_show::decimal(number.0 as u64);
-    cli_show::space();
-    cli_answers::name(text, Row::Group(number));
+    let mut out = [0u8; cli_show::add::MAX_LINES];
+    let n = cli_answers::rows::group(text, number, &mut out);
+    cli_show::first(&out, n);
 }
 
 // Each group that lists the user.
@@ -44,12 +37,12 @@ fn list(text: &[u8], user: &[u8]) {
 // How many groups list the user, and each of them.
 pub fn groups(text: &[u8], user: &[u8]) {
     let c = table_check::count_groups(text, user);
+    let mut out = [0u8; cli_show::add::MAX_LINES];
+    let n = cli_answers::rows::groups(c, &mut out);
+    cli_show::first(&out, n);
     match c {
-        Counted::Count { count, first } => {
-            cli_console::say::fact(b"groups ", count as u64);
-            list(text, user);
-        }
-        Counted::NoGroup => cli_show::line(b"groups 0"),
+        Counted::Count { count, first } => list(text, user),
+        Counted::NoGroup => {}
         Counted::Declined { number, line } => cli_console::refusal::of_text(text, number, line),
     }
 }
@@ -59,7 +52,7 @@ pub fn verdict(text: &[u8], user: &[u8], mode: u32, origin: &[u8], path: &[u8]) 
     cli_answers::path(
         text,
         verdict_call::path_verdict(text, user, mode, origin, path),
-        b"default\n",
+        Fallback::Default,
     );
 }
 
@@ -68,6 +61,6 @@ pub fn tree(text: &[u8], user: &[u8], mode: u32, origin: &[u8], path: &[u8]) {
     cli_answers::tree(
         text,
         verdict_call::tree_verdict(text, user, mode, origin, path),
-        b"",
+        Fallback::Default,
     );
 }
