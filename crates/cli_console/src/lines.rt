@@ -1,15 +1,7 @@
 // The lines of a text.
-ghost use Prim.Native.Nat.{_≤_, _<_};
+ghost use Prim.Native.Nat.{_≤_};
 ghost use lib.ListN.{length};
-
-// Where the line after the one at `at` begins.
-pub fn next(text: &[u8], at: usize) -> usize
-    requires { ⌜ at < length (now text) ⌝ }
-    ensures { λ r. ⌜ (at < r) × (r ≤ length (now (text .entry))) ⌝ }
-{
-    let end = text_search::find(text, at, b'\n');
-    if end < text.len() { end + 1 } else { end }
-}
+use cli_refusal::entry::next;
 
 // Where line n begins, counted from 1.
 fn start(text: &[u8], n: usize) -> usize
@@ -60,32 +52,6 @@ pub fn quote(to: i32, text: &[u8], n: usize) {
 // Whether line n has no LF at its end.
 pub fn is_open(text: &[u8], n: usize) -> bool {
     text_search::find(text, start(text, n), b'\n') == text.len()
-}
-
-// Prints what follows `key` in the line at `at`, if that begins with it.
-fn entry_at(to: i32, text: &[u8], at: usize, key: &[u8]) -> bool
-    requires { ⌜ at ≤ length (now text) ⌝ }
-{
-    if text.len() - at < key.len() {
-        return false;
-    }
-    let rest = at + key.len();
-    if !text::string::is_same(&text[at..rest], key) {
-        return false;
-    }
-    quote_at(to, text, rest);
-    true
-}
-
-// Prints what follows `key` in the first line that begins with it.
-pub fn entry(to: i32, text: &[u8], key: &[u8]) {
-    let mut at = 0;
-    while at < text.len() {
-        if entry_at(to, text, at, key) {
-            return;
-        }
-        at = next(text, at);
-    }
 }
 
 // Whether the line at `at` is `word`.

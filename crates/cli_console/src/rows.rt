@@ -26,7 +26,7 @@ pub fn find(text: &[u8], kind: u8, number: usize) -> usize
             }
             left -= 1;
         }
-        at = crate::lines::next(text, at);
+        at = cli_refusal::entry::next(text, at);
     }
     at
 }

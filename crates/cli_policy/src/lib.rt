@@ -1,4 +1,5 @@
 // The commands on a policy: its check, and the RPC verdict.
+pub mod lines;
 pub mod refusal;
 pub mod rpcs;
 
@@ -7,11 +8,10 @@ use policy_facts::Rules;
 // Prints how many rules each list of an accepted policy has, or why it is refused.
 pub fn check(text: &[u8]) {
     let r = policy_facts::count_rules(text);
-    match r {
-        Rules::Count { deny, allow } => {
-            cli_console::say::count(b"accepted\ndeny_rules ", deny);
-            cli_console::say::count(b"allow_rules ", allow);
-        }
-        Rules::Refused(number) => crate::refusal::tell(text, number),
+    let mut out = [0u8; cli_show::add::MAX_LINES];
+    let n = lines::counts(r, &mut out);
+    cli_show::first(&out, n);
+    if let Rules::Refused(number) = r {
+        crate::refusal::tell(text, number);
     }
 }

@@ -1,31 +1,15 @@
 // The RPC verdict.
 ghost use Rattle.io.specs.Counts.{Counts};
 use cli_console::input::Read;
-use policy_facts::name::Listed;
 use rpc::verdict::Verdict;
 
-// The name of a rule of the policy.
-fn name(policy: &[u8], rule: Listed) {
-    let n = policy_facts::name::rule_name(policy, rule);
-    let from = n.from;
-    let to = n.to;
-    cli_show::word(b"name ");
-    cli_show::line(&policy[from..to]);
-}
-
-// The action, and the list, the number and the name of the deciding rule.
+// Prints the action, and the list, the number and the name of the deciding rule; or the refusal.
 pub fn answer(policy: &[u8], v: Verdict) {
-    match v {
-        Verdict::Permitted(rule) => {
-            cli_console::say::decided(b"permit\nlist allow_rules", rule as u64);
-            name(policy, Listed::Allow(rule));
-        }
-        Verdict::Denied(rule) => {
-            cli_console::say::decided(b"deny\nlist deny_rules", rule as u64);
-            name(policy, Listed::Deny(rule));
-        }
-        Verdict::Default => cli_show::line(b"deny\ndefault"),
-        Verdict::Refused(number) => crate::refusal::tell(policy, number),
+    let mut out = [0u8; cli_show::add::MAX_LINES];
+    let n = crate::lines::rpc(policy, v, &mut out);
+    cli_show::first(&out, n);
+    if let Verdict::Refused(number) = v {
+        crate::refusal::tell(policy, number);
     }
 }
 

@@ -7,9 +7,9 @@ fn save(i: usize, table: &[u8]) {
         cli_console::say::usage(b"a table is saved in a file", b"", b"pack");
         return;
     }
-    let begun = cli_console::saving::begin(i, true);
-    let written = cli_console::saving::add(begun, table);
-    if cli_console::saving::finish(written) {
+    let begun = cli_saving::begin(i, true);
+    let written = cli_saving::add(begun, table);
+    if cli_saving::finish(written) {
         cli_console::say::count(b"bytes ", table.len());
     }
 }

@@ -1,10 +1,11 @@
 // The probes of a rotation: a request judged on what is in force.
+use cli_answers::lines::Fallback;
 use rotation::Record;
 use rotation_probe::force::Source;
 use rotation_probe::rpcs::RpcAnswer;
 use rpc::verdict::Verdict;
 
-// What is asked of a path; `text` names the rules, and `none` is said where no rule decides, `nowhere` where no path is permitted.
+// What is asked of a path; `text` names the rules.
 fn answer_table(
     r: Record,
     store: &[u8],
@@ -14,16 +15,15 @@ fn answer_table(
     mode: u32,
     origin: &[u8],
     path: &[u8],
-    none: &[u8],
-    nowhere: &[u8],
+    fallback: Fallback,
 ) {
     cli_names::tell(text, user);
     if is_tree {
         let a = rotation_probe::probe_tree(r, store, user, mode, origin, path);
-        cli_answers::tree(text, a, nowhere);
+        cli_answers::tree(text, a, fallback);
     } else {
         let a = rotation_probe::probe_path(r, store, user, mode, origin, path);
-        cli_answers::path(text, a, none);
+        cli_answers::path(text, a, fallback);
     }
 }
 
@@ -49,8 +49,7 @@ fn judge(
             mode,
             origin,
             path,
-            b"factory\n",
-            b"factory\n",
+            Fallback::Factory,
         ),
         Source::Part { start, end } => answer_table(
             r,
@@ -61,8 +60,7 @@ fn judge(
             mode,
             origin,
             path,
-            b"default\n",
-            b"",
+            Fallback::Default,
         ),
     }
 }

@@ -71,14 +71,6 @@ pub fn factory(kind: u32) -> Record {
     }
 }
 
-fn print_length(n: u32) {
-    if n == rotation::NO_LENGTH {
-        cli_show::line(b"none");
-    } else {
-        cli_console::say::fact(b"", n as u64);
-    }
-}
-
 // Prints what a record says, unless it or its store of n bytes is refused.
 pub fn tell(r: Record, n: usize) {
     let number = rotation::state::refusal(r, n, limits::CLEAR);
@@ -91,19 +83,7 @@ pub fn tell(r: Record, n: usize) {
 
 // Prints what a record says.
 pub fn print(r: Record) {
-    if r.kind == 1 {
-        cli_show::line(b"kind policy");
-    } else {
-        cli_show::line(b"kind table");
-    }
-    cli_console::say::fact(b"slot ", r.live_slot as u64);
-    cli_show::word(b"live ");
-    print_length(r.live_len);
-    if r.rotating == 0 {
-        cli_show::line(b"rotation off");
-    } else {
-        cli_show::line(b"rotation on");
-    }
-    cli_show::word(b"candidate ");
-    print_length(r.candidate_len);
+    let mut out = [0u8; cli_show::add::MAX_LINES];
+    let n = crate::lines::record(r, &mut out);
+    cli_show::first(&out, n);
 }

@@ -6,11 +6,11 @@ use table::Checked;
 // Writes the record and the store to the file, and behind them what is left to read of `from`; prints the record where all went well.
 fn keep(r: Record, store: &[u8], from: i32) {
     let bytes = crate::record::to_bytes(r);
-    let begun = cli_console::saving::begin(3, true);
-    let with_record = cli_console::saving::add(begun, &bytes);
-    let with_store = cli_console::saving::add(with_record, store);
-    let with_rest = cli_console::saving::add_rest(with_store, from);
-    if cli_console::saving::finish(with_rest) {
+    let begun = cli_saving::begin(3, true);
+    let with_record = cli_saving::add(begun, &bytes);
+    let with_store = cli_saving::add(with_record, store);
+    let with_rest = cli_saving::add_rest(with_store, from);
+    if cli_saving::finish(with_rest) {
         crate::record::print(r);
     }
 }
@@ -52,10 +52,10 @@ fn new() {
 fn make(r: Record) {
     let bytes = crate::record::to_bytes(r);
     let store = [0u8; limits::STORE_LENGTH];
-    let begun = cli_console::saving::begin(3, false);
-    let with_record = cli_console::saving::add(begun, &bytes);
-    let with_store = cli_console::saving::add(with_record, &store);
-    if cli_console::saving::finish(with_store) {
+    let begun = cli_saving::begin(3, false);
+    let with_record = cli_saving::add(begun, &bytes);
+    let with_store = cli_saving::add(with_record, &store);
+    if cli_saving::finish(with_store) {
         crate::record::print(r);
     }
 }

@@ -1,5 +1,9 @@
 // Printing to standard output.
+pub mod add;
 pub mod marks;
+
+ghost use Prim.Native.Nat.{_≤_};
+ghost use lib.ListN.{length};
 
 // Complains where a write to standard output failed. From then on standard output is /dev/null: what was written stays a beginning of the
 // answer, and one complaint is enough.
@@ -27,6 +31,19 @@ pub fn word_to(to: i32, s: &[u8]) {
     if to == 1 {
         expect(is_written);
     }
+}
+
+// The first n bytes of a buffer.
+pub fn first_to(to: i32, out: &[u8], n: usize)
+    requires { ⌜ n ≤ length (now out) ⌝ }
+{
+    word_to(to, &out[..n]);
+}
+
+pub fn first(out: &[u8], n: usize)
+    requires { ⌜ n ≤ length (now out) ⌝ }
+{
+    first_to(1, out, n);
 }
 
 pub fn space() {

@@ -4,65 +4,18 @@ ghost use lib.ListN.{length};
 ghost use Rattle.table_rows.specs.Rules.{ruleEnd};
 ghost use Rattle.verdict_judge.specs.Rules.{Placed};
 ghost use Rattle.verdict_explain.specs.Ranking.{RuleNumbers};
+use cli_answers::lines::Fallback;
 use path_read::Filled;
 use table_load::Loaded;
-use verdict_explain::Standing;
-use verdict_explain::Step;
 use verdict_request::PathAnswer;
 
-fn name_step(s: Step) {
-    match s {
-        Step::Elements => cli_show::word(b"elements"),
-        Step::Keys => cli_show::word(b"definite keys"),
-        Step::Subject => cli_show::word(b"user over group"),
-        Step::Action => cli_show::word(b"deny over permit"),
-        Step::Id => cli_show::word(b"smaller id"),
-    }
-}
-
-fn name_standing(s: Standing) {
-    if s.permit {
-        cli_show::word(b", permit, elements ");
-    } else {
-        cli_show::word(b", deny, elements ");
-    }
-    cli_show::decimal(s.elements as u64);
-    cli_show::word(b", definite keys ");
-    cli_show::decimal(s.keys as u64);
-    if s.group {
-        cli_show::word(b", group, id ");
-    } else {
-        cli_show::word(b", user, id ");
-    }
-}
-
-// The id of the rule at s.
-fn name_id(f: &[u8], s: usize)
-    requires { ⌜ ruleEnd (now f) s ≤ length (now f) ⌝ }
-{
-    let i = verdict_judge::rule::id_at(f, s);
-    let a = i + 1;
-    let e = table_place::str_end(f, i);
-    cli_show::line(&f[a..e]);
-}
-
-// One of the rules that match, in its place. It stands at s, and the first at `best`.
+// Prints one of the rules that match, in its place. It stands at s, and the first at `best`.
 fn rule(f: &[u8], place: usize, number: u16, s: usize, best: usize)
     requires { ⌜ (ruleEnd (now f) s ≤ length (now f)) × (ruleEnd (now f) best ≤ length (now f)) ⌝ }
 {
-    let own = verdict_explain::standing_at(f, s);
-    let first = verdict_explain::standing_at(f, best);
-    cli_show::decimal(place as u64);
-    if place == 1 {
-        cli_show::word(b" decides: rule ");
-    } else {
-        cli_show::word(b" lost at ");
-        name_step(verdict_explain::lost_at(own, first));
-        cli_show::word(b": rule ");
-    }
-    cli_show::decimal(number as u64);
-    name_standing(own);
-    name_id(f, s);
+    let mut out = [0u8; cli_show::add::MAX_LINES];
+    let n = cli_answers::explained::line(f, place, number, s, best, &mut out);
+    cli_show::first(&out, n);
 }
 
 // The first m rules of `order`, of n in all.
@@ -128,7 +81,7 @@ fn list(text: &[u8], user: &[u8], mode: u32, origin: &[u8], path: &[u8]) {
 pub fn all(text: &[u8], user: &[u8], mode: u32, origin: &[u8], path: &[u8]) {
     cli_names::tell(text, user);
     let a = verdict_call::path_verdict(text, user, mode, origin, path);
-    cli_answers::path(text, a, b"default\nno rule matches\n");
+    cli_answers::path(text, a, Fallback::Explained);
     match a {
         PathAnswer::Permit(rule) => list(text, user, mode, origin, path),
         PathAnswer::Deny(rule) => list(text, user, mode, origin, path),

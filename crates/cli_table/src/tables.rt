@@ -1,28 +1,25 @@
 // A rule table's check, a user's groups, the verdicts.
+use cli_answers::lines::Fallback;
 use table::Counted;
 use table::GroupNumber;
 use table_check::Seen;
-use table_facts::Row;
 
 // How many rows of each kind an accepted table has, or why it is refused.
 pub fn check(text: &[u8]) {
-    let l = table_check::look(text, b"");
-    match l {
-        Seen::Table { counts, set } => {
-            cli_console::say::count(b"accepted\ngroups ", counts.groups);
-            cli_console::say::count(b"members ", counts.members);
-            cli_console::say::count(b"rules ", counts.rules);
-        }
-        Seen::Refused { number, line } => cli_console::refusal::of_text(text, number, line),
+    let s = table_check::look(text, b"");
+    let mut out = [0u8; cli_show::add::MAX_LINES];
+    let n = cli_answers::rows::counts(s, &mut out);
+    cli_show::first(&out, n);
+    if let Seen::Refused { number, line } = s {
+        cli_console::refusal::of_text(text, number, line);
     }
 }
 
 // The number and the name of a group.
 fn group(text: &[u8], number: GroupNumber) {
-    cli_show::word(b"group ");
-    cli_show::decimal(number.0 as u64);
-    cli_show::space();
-    cli_answers::name(text, Row::Group(number));
+    let mut out = [0u8; cli_show::add::MAX_LINES];
+    let n = cli_answers::rows::group(text, number, &mut out);
+    cli_show::first(&out, n);
 }
 
 // Each group that lists the user.
@@ -44,12 +41,12 @@ fn list(text: &[u8], user: &[u8]) {
 pub fn groups(text: &[u8], user: &[u8]) {
     cli_names::tell(text, user);
     let c = table_check::count_groups(text, user);
+    let mut out = [0u8; cli_show::add::MAX_LINES];
+    let n = cli_answers::rows::groups(c, &mut out);
+    cli_show::first(&out, n);
     match c {
-        Counted::Count { count, first } => {
-            cli_console::say::fact(b"groups ", count as u64);
-            list(text, user);
-        }
-        Counted::NoGroup => cli_show::line(b"groups 0"),
+        Counted::Count { count, first } => list(text, user),
+        Counted::NoGroup => {}
         Counted::Declined { number, line } => cli_console::refusal::of_text(text, number, line),
     }
 }
@@ -60,7 +57,7 @@ pub fn verdict(text: &[u8], user: &[u8], mode: u32, origin: &[u8], path: &[u8]) 
     cli_answers::path(
         text,
         verdict_call::path_verdict(text, user, mode, origin, path),
-        b"default\n",
+        Fallback::Default,
     );
 }
 
@@ -70,6 +67,6 @@ pub fn tree(text: &[u8], user: &[u8], mode: u32, origin: &[u8], path: &[u8]) {
     cli_answers::tree(
         text,
         verdict_call::tree_verdict(text, user, mode, origin, path),
-        b"",
+        Fallback::Default,
     );
 }

@@ -18,6 +18,5 @@ part-answer-table-end c = let at-find-source = c .before .before .before in
 
 pub judge-spec : {M : Type 1} → statement M
 judge-spec = tie.close (tie.spec (λ c κs. search needs) (λ c. search needs) (λ c κs. search needs) (λ c. search needs)
-    (λ c. search needs) (λ c. search needs) (λ c. search needs) (λ c κs. search needs) (λ c. search needs)
-    sub-answer-table part-answer-table-start part-answer-table-end (λ c. search needs) (λ c. search needs)
-    (λ c κs. search needs) (λ c. search needs) (λ c. search needs) (λ c. search needs))
+    (λ c. search needs) (λ c κs. search needs) (λ c. search needs) sub-answer-table part-answer-table-start
+    part-answer-table-end (λ c κs. search needs) (λ c. search needs) (λ c. search needs) (λ c. search needs))

@@ -1,0 +1,21 @@
+use Rattle.cli_answers.specs.Lines.{byRule}
+use Rattle.cli_show.proofs.Adding.{_then_}
+use borrow.Author.Needs.{needs}
+use Rattle.cli_answers.proofs.lines.by_rule.Statement.{statement}
+use Rattle.cli_answers.proofs.lines.by_rule.Tie as tie
+use Rattle.cli_answers.proofs.lines.by_rule.Reads as reads
+use Rattle.cli_answers.proofs.lines.by_rule.Lts as lts
+use Rattle.cli_answers.proofs.lines.name.Reads as name-reads
+use Rattle.cli_show.proofs.add.fact.Reads as fact-reads
+use Rattle.cli_show.proofs.add.string.Reads as string-reads
+
+returns : tie.Need-returns
+unfolding byRule
+returns c = let at-name = c .before .before .before .before .before .before .before in
+    let at-string = at-name .before .before .before .before in
+    let at-fact = at-string .before .before .before .before .before in
+    at-fact .fact .ensures .added then at-string .string .ensures then at-name .name .ensures .added then c .before .before .string2 .ensures
+
+pub by-rule-spec : {M : Type 1} → statement M
+by-rule-spec = tie.close (tie.spec (λ c. search needs) (λ c κs. search needs) (λ c. search needs) (λ c κs. search needs)
+    (λ c κs. search needs) (λ c. search needs) (λ c κs. search needs) (λ c. search needs) returns)

@@ -1,0 +1,26 @@
+-- `groups` is the definition.
+use borrow.Author.Needs.{needs}
+use native.Mathlib.Omega.{arith}
+use Rattle.cli_show.proofs.Adding.{nothing-added}
+use Rattle.cli_answers.specs.Rows.{groupsLine}
+use Rattle.cli_answers.proofs.rows.groups.Statement.{statement}
+use Rattle.cli_answers.proofs.rows.groups.Tie as tie
+
+returns : tie.Need-returns
+unfolding groupsLine
+returns c = let at-c = c .before .before .before .before .before .before in
+    rw (at-c .c .given .1) (c .before .before .fact .ensures .added)
+
+returns-2 : tie.Need-returns-2
+unfolding groupsLine
+returns-2 c = let at-enum-told = c .before .before .before .before .before in
+    rw (at-enum-told .enum-told .given .1) (c .before .before .string .ensures)
+
+returns-3 : tie.Need-returns-3
+unfolding groupsLine
+returns-3 c = rw (c .before .c2 .given .1) (nothing-added _ _ (omega arith))
+
+pub groups-spec : {M : Type 1} → statement M
+groups-spec = tie.close (tie.spec (λ c. search needs) (λ c. search needs) (λ c. search needs) (λ c κs. search needs)
+    (λ c. search needs) (λ c. search needs) (λ c κs. search needs) (λ c. search needs) (λ c. search needs) returns
+    (λ c. search needs) returns-2 returns-3)
