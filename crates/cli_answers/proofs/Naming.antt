@@ -14,15 +14,15 @@ use Rattle.text.specs.Steps.{Wrote}
 use Rattle.text.proofs.Tests.{by}
 use Rattle.text.proofs.Filling.{wrote-long}
 use Rattle.readable_parts.proofs.Stored.{front}
-use Rattle.table_facts.specs.Facts.{nameOf, fitting}
+use Rattle.table_facts.specs.Facts.{nameOf, storedOf}
 use Rattle.table_facts.specs.declared.Row.{Row}
 use Rattle.table.specs.Text.{check, tableOf}
 use Rattle.cli_show.specs.Added.{Added, AddedUpTo}
 use Rattle.cli_show.specs.Text.{upTo}
 use Rattle.cli_answers.specs.Lines.{nameIn}
 
-short-fits : (d : List ℕ) (s : Str) → length d ≡ maxString → fitting d s ≡ upTo maxString s
-unfolding fitting upTo
+short-fits : (d : List ℕ) (s : Str) → length d ≡ maxString → storedOf d s ≡ upTo maxString s
+unfolding storedOf upTo
 short-fits d s l = rw l
 
 short-length : (s : Str) → length (upTo maxString s) ≤ maxString
@@ -30,12 +30,12 @@ unfolding upTo if_then_else_
 short-length s = by (ltb maxString (length s)) (λ u. rw u (omega arith)) (λ u. rw u (omega (arith, ltb-false maxString (length s) u)))
 
 -- z is the buffer as it was, and b as it is with the name
-module _ (text : Str) (row : Row) (z b : List ℕ) (n : ℕ) (l : length z ≡ maxString) (w : Wrote z 0 (fitting z (nameOf (check text) (tableOf text) row)) b n) where
+module _ (text : Str) (row : Row) (z b : List ℕ) (n : ℕ) (l : length z ≡ maxString) (w : Wrote z 0 (storedOf z (nameOf (check text) (tableOf text) row)) b n) where
   name-there : take n b ≡ nameIn text row
   unfolding nameIn
   name-there = front z _ b n w ∙ short-fits z _ l
 
-  stored : length (fitting z (nameOf (check text) (tableOf text) row)) ≤ maxString
+  stored : length (storedOf z (nameOf (check text) (tableOf text) row)) ≤ maxString
   stored = rw (short-fits z (nameOf (check text) (tableOf text) row) l) (short-length _)
 
   pub name-length : n ≤ maxString

@@ -10,12 +10,12 @@ returns : tie.Need-returns
 unfolding rowLines
 returns c = let at-fact2 = c .before .before .before .before .before .before .before in
     let at-fact = at-fact2 .before .before .before .before .before in
-    let at-r = at-fact .before .before .before .before in
-    rw (at-r .r .given .1) (at-fact .fact .ensures .added then at-fact2 .fact2 .ensures .added then c .before .before .fact3 .ensures .added)
+    let at-s = at-fact .before .before .before .before in
+    rw (at-s .s .given .1) (at-fact .fact .ensures .added then at-fact2 .fact2 .ensures .added then c .before .before .fact3 .ensures .added)
 
 returns-2 : tie.Need-returns-2
 unfolding rowLines
-returns-2 c = rw (c .before .r2 .given .1) (nothing-added _ _ (omega arith))
+returns-2 c = rw (c .before .s2 .given .1) (nothing-added _ _ (omega arith))
 
 pub counts-spec : {M : Type 1} → statement M
 counts-spec = tie.close (tie.spec (λ c. search needs) (λ c. search needs) (λ c κs. search needs) (λ c. search needs)
