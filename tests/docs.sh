@@ -6,6 +6,7 @@
 set -uo pipefail
 cd "$(dirname "$0")/.."
 export PATH="$PWD/bin:$PATH"
+burgee version >/dev/null || exit # builds it, where that is to be done, before anything is compared
 work=$(mktemp -d)
 trap 'rm -rf "$work"' EXIT
 

@@ -134,7 +134,7 @@ length over {SLOT_LENGTH}, candidate while off
 identity or path over {MAX_REQUEST_STRING} bytes or a byte outside 0x20 to 0x7E
 or over {MAX_HEADER_LINES} bytes together |
 The store is two slots of {SLOT_LENGTH} bytes
-a store in a file of {STORE_LENGTH} bytes.
+then the store's {STORE_LENGTH}.
 END
 
 says docs/DAEMON.md <<'END'
@@ -203,6 +203,9 @@ leb 32 c                a byte that prints
 ltb c 32                a byte that does not
 within 32 126           the bytes that print
 r < 256                 a byte, a bucket
+r ≤ 255                 the same
+b = [0u8; 4]            a number by chance
+digits = [0u8; 16]      the digits of a number, as io makes them
 b < 256                 a byte, a bucket
 g < 256                 a group's number as it is stored, in a byte
 n < 16                  a hex digit

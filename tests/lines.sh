@@ -114,9 +114,9 @@ expect 38 24 '21s/$/,\n{ "name": "x" },\n{ "request": {},\n"name": "officers" }/
 edit='19s/site/host/'
 sed "$edit" examples/files/yard.json >"$work/policy"
 judge 37 19 "$(bin/burgee rpc "$work/policy" spiffe://yard/officer/1 /gnmi.gNMI/Get)"
-bin/burgee rotate new "$work/record" "$work/store" policy >"$work/written"
-bin/burgee rotate start "$work/record" "$work/store" >"$work/written"
-judge 37 19 "$(bin/burgee rotate upload "$work/record" "$work/store" "$work/policy")"
+bin/burgee rotate new "$work/rotation" policy >"$work/written"
+bin/burgee rotate start "$work/rotation" >"$work/written"
+judge 37 19 "$(bin/burgee rotate upload "$work/rotation" "$work/policy")"
 
 [ $status -eq 0 ] && echo "lines: $tried faults, ok"
 exit $status

@@ -1,4 +1,4 @@
-//! The command line: the program that `bin/burgee` builds, and what it has to print.
+//! The command line: the program that `bin/burgee` runs, and what it has to print.
 
 use std::ffi::OsStr;
 use std::io::Write;
@@ -14,7 +14,8 @@ use crate::rpc::RpcVerdict;
 use crate::table::{with_table, RuleNumber};
 use crate::verdict::{PathVerdict, TreeVerdict};
 
-/// What the program prints for these words and this standard input.
+/// What the program prints for these words and this standard input: its answer, or a refusal, which `show` and `pack`
+/// tell on standard error.
 pub fn burgee(words: &[&[u8]], input: &[u8]) -> String {
     let program = PathBuf::from(env!("CARGO_MANIFEST_DIR")).join("../target/bin/cli");
     let mut child = Command::new(program)
@@ -23,14 +24,26 @@ pub fn burgee(words: &[&[u8]], input: &[u8]) -> String {
         .stdout(Stdio::piped())
         .stderr(Stdio::piped())
         .spawn()
-        .expect("target/bin/cli, which bin/burgee builds");
+        .expect("target/bin/cli, which `rt check cli` builds");
     // It may end before it has read all.
     let _ = child.stdin.take().expect("piped").write_all(input);
-    let output = child.wait_with_output().expect("an end");
+    let mut output = child.wait_with_output().expect("an end");
+    take_hint(&mut output.stderr);
     let shown = || words.iter().map(|word| word.escape_ascii().to_string()).collect::<Vec<_>>().join(" ");
     assert!(output.status.success(), "{}: {}", shown(), output.status);
-    assert!(output.stderr.is_empty(), "{}: {}", shown(), output.stderr.escape_ascii());
-    String::from_utf8(output.stdout).expect("bytes that print")
+    let is_text = matches!(words.first(), Some(&b"show" | &b"pack"));
+    let is_aside = is_text && output.stderr.starts_with(b"refused");
+    let (told, other) = if is_aside { (output.stderr, output.stdout) } else { (output.stdout, output.stderr) };
+    assert!(other.is_empty(), "{}: {}", shown(), other.escape_ascii());
+    String::from_utf8(told).expect("bytes that print")
+}
+
+/// Takes away the line that tells of a user whom the table does not name.
+fn take_hint(told: &mut Vec<u8>) {
+    if told.starts_with(b"burgee: the table names no user ") {
+        let end = told.iter().position(|byte| *byte == b'\n').expect("a whole line");
+        told.drain(..=end);
+    }
 }
 
 /// Line n of a text, counted from 1, with bytes that do not print in hex.

@@ -1,6 +1,7 @@
-//! Rotations by hand, with the record and the store in files, beside the Rust implementation.
+//! Rotations by hand, with the record and the store in a file, beside the Rust implementation.
 
-use std::fs;
+use std::fs::{self, OpenOptions};
+use std::io::Write;
 use std::os::unix::ffi::OsStrExt;
 use std::path::{Path, PathBuf};
 
@@ -14,27 +15,29 @@ use burgee_rust::refusal::Refusal;
 use burgee_rust::rotation::{self, Record};
 use burgee_rust::tally::Tally;
 
-/// A record and its store, and the files in which the command line keeps them.
+/// A record and its store, and the file in which the command line keeps them; what stands behind them there.
 struct Trial {
     record: Record,
     store: Vec<u8>,
-    record_file: PathBuf,
-    store_file: PathBuf,
+    file: PathBuf,
+    rest: Vec<u8>,
 }
 
 impl Trial {
-    fn new(folder: &Path, kind: u32) -> Trial {
+    fn new(folder: &Path, kind: u32, rest: Vec<u8>) -> Trial {
         let (record, store) = (Record::factory(kind), vec![0; 2 * SLOT]);
-        let trial = Trial { record, store, record_file: folder.join("record"), store_file: folder.join("store") };
+        let trial = Trial { record, store, file: folder.join("rotation"), rest };
         let kind: &[u8] = if kind == 1 { b"policy" } else { b"table" };
         assert_eq!(trial.told("new", &[kind], b""), record_lines(&trial.record));
+        let mut file = OpenOptions::new().append(true).open(&trial.file).expect("the file");
+        file.write_all(&trial.rest).expect("room");
         trial
     }
 
     /// What a step or a probe prints.
     fn told(&self, step: &str, words: &[&[u8]], input: &[u8]) -> String {
-        let files = [&self.record_file, &self.store_file].map(|file| file.as_os_str().as_bytes());
-        burgee(&[&[b"rotate", step.as_bytes()], &files[..], words].concat(), input)
+        let file = self.file.as_os_str().as_bytes();
+        burgee(&[&[b"rotate", step.as_bytes(), file], words].concat(), input)
     }
 
     /// Makes a call, and compares what is printed; gives the refusal's number, or 0.
@@ -91,10 +94,14 @@ impl Trial {
         rotation::in_force(&self.record, &self.store).map_or((b"", "factory"), |text| (text, "default"))
     }
 
-    /// The files hold what record and store do, and the record is shown.
-    fn assert_files(&self) {
-        assert_eq!(fs::read(&self.record_file).expect("the record"), bytes_of(&self.record));
-        assert!(fs::read(&self.store_file).expect("the store") == self.store, "the store's file differs");
+    /// The file holds what record and store do, and then what it held before; it is alone in its folder, and the record is shown.
+    fn assert_file(&self) {
+        let held = fs::read(&self.file).expect("the file");
+        let (record, store) = held.split_at(20);
+        assert_eq!(record, bytes_of(&self.record));
+        assert!(*store == [&self.store[..], &self.rest].concat(), "the store, or what stands behind it, differs");
+        let folder = self.file.parent().expect("a folder");
+        assert_eq!(fs::read_dir(folder).expect("a folder").count(), 1);
         assert_eq!(self.told("show", &[], b""), record_lines(&self.record));
     }
 }
@@ -139,12 +146,13 @@ fn rotations_are_tried() {
         let kind = 1 + round % 2;
         let _ = fs::remove_dir_all(&folder);
         fs::create_dir(&folder).expect("a folder");
-        let mut trial = Trial::new(&folder, kind);
+        let rest = if round % 4 < 2 { Vec::new() } else { b"left alone".repeat(10_000 * round as usize) };
+        let mut trial = Trial::new(&folder, kind, rest);
         for _ in 0..30 {
             let call = some_call(&mut random, kind);
             if is_sayable(&call) {
                 tally.count(trial.call(&call));
-                trial.assert_files();
+                trial.assert_file();
             }
         }
     }

@@ -51,22 +51,23 @@ const TEXT_ROOM: usize = 131073;
 // As many as a large buffer (io) has. What stands after the argument is LF, which ends a line of digits.
 const DIGITS_ROOM: usize = 65536;
 
-fn on_text(command: Command, text: &[u8]) {
+fn on_text(command: Command, words: usize, text: &[u8]) {
     match command {
         Command::Table => tables::check(text),
         Command::Show => cli_readable::show_table(text),
-        Command::Pack => cli_readable::pack_table(text),
+        Command::Pack => cli_readable::pack_table(text, words),
         _ => cli_policy::check(text),
     }
 }
 
 // burgee table|show|pack|policy FILE
-fn read_text(command: Command) {
+// burgee pack FILE TABLE
+fn read_text(command: Command, words: usize) {
     let mut text = [0u8; TEXT_ROOM];
     let got = input::file(2, &mut text);
     let n = got.count;
     if got.is_good {
-        on_text(command, &text[..n]);
+        on_text(command, words, &text[..n]);
     }
 }
 
@@ -152,7 +153,7 @@ fn path() {
     }
 }
 
-// burgee rotate STEP RECORD STORE ..
+// burgee rotate STEP FILE ..
 fn rotate(words: usize) {
     let mut step = io::buffer();
     let s = input::word(2, &mut step);
@@ -171,7 +172,8 @@ fn explain_use() {
 // Whether a command takes that many words; how many a rotation takes, its step says.
 fn takes(command: Command, words: usize) -> bool {
     match command {
-        Command::Table | Command::Show | Command::Pack | Command::Policy => words == 3,
+        Command::Table | Command::Show | Command::Policy => words == 3,
+        Command::Pack => (words == 3) | (words == 4),
         Command::Groups | Command::Path => words == 4,
         Command::Verdict | Command::Tree | Command::Explain => words == 7,
         Command::Rpc => (words == 5) | (words == 6),
@@ -183,7 +185,9 @@ fn takes(command: Command, words: usize) -> bool {
 
 fn run(command: Command, name: &[u8], words: usize) {
     match command {
-        Command::Table | Command::Show | Command::Pack | Command::Policy => read_text(command),
+        Command::Table | Command::Show | Command::Pack | Command::Policy => {
+            read_text(command, words)
+        }
         Command::Groups => groups(),
         Command::Path => path(),
         Command::Verdict | Command::Tree | Command::Explain => verdict(command, name),
@@ -195,19 +199,44 @@ fn run(command: Command, name: &[u8], words: usize) {
     }
 }
 
+// Whether the one word after the command asks for its page of help. Elsewhere such a word is a user's name, say.
+fn asks_help(words: usize) -> bool {
+    let mut word = io::buffer();
+    let w = input::word(2, &mut word);
+    (words == 3) & (cli_console::lines::place(b"--help\n-h\n", &word[..w]) != 0)
+}
+
+// The page of a command; all of help where that has none of its own.
+fn show_page(name: &[u8]) {
+    if !cli_help::on(name) {
+        cli_help::on(b"");
+    }
+}
+
+// A command that was called with words that it does not take.
+fn refuse_words(command: Command, name: &[u8]) {
+    match command {
+        Command::Version => cli_console::say::misuse(b"version"),
+        Command::Help => cli_console::say::usage(b"not the arguments of help", b"", b""),
+        _ => cli_console::say::misuse(name),
+    }
+}
+
 // The command that the first word names, on the words that follow it.
-fn obey(n: usize) {
+fn obey(words: usize) {
     let mut word = io::buffer();
     let w = input::word(1, &mut word);
     let command = named(&word[..w]);
-    if n < 2 {
+    if words < 2 {
         cli_console::say::usage(b"no command is named", b"", b"");
     } else if let Command::Unknown = command {
-        run(command, &word[..w], n);
-    } else if takes(command, n) {
-        run(command, &word[..w], n);
+        run(command, &word[..w], words);
+    } else if asks_help(words) {
+        show_page(&word[..w]);
+    } else if takes(command, words) {
+        run(command, &word[..w], words);
     } else {
-        cli_console::say::misuse(&word[..w]);
+        refuse_words(command, &word[..w]);
     }
 }
 

@@ -22,18 +22,20 @@ pub fn within(n: usize, buf: &[u8]) -> usize
 // Whether argument i is `-`, standard input.
 pub fn is_standard(i: usize) -> bool {
     let mut name = io::buffer();
-    let n = os::arg(i, &mut name);
+    let n = word(i, &mut name);
     text::string::is_same(&name[..n], b"-")
 }
 
-// A descriptor of the file of that name, 0 for `-`; or -1, after a complaint.
-fn open(name: &[u8]) -> i32 {
-    if text::string::is_same(name, b"-") {
+// A descriptor of the file that argument i names, 0 for `-`; or -1, after a complaint.
+pub fn open(i: usize) -> i32 {
+    let mut name = io::buffer();
+    let n = word(i, &mut name);
+    if text::string::is_same(&name[..n], b"-") {
         return 0;
     }
-    let fd = os::open_read(name);
+    let fd = os::open_read(&name[..n]);
     if fd < 0 {
-        crate::say::failure(name);
+        crate::say::failure(&name[..n]);
     }
     fd
 }
@@ -44,19 +46,12 @@ pub struct Read {
     pub count: usize,
 }
 
-// Puts what the file holds that argument i names, or standard input for `-`, at the start of buf, as far as there is room; or complains.
-pub fn file(i: usize, buf: &mut [u8]) -> Read
+// Puts what is left to read of a descriptor, which `open` made of argument i, at the start of buf, as far as there is room; or complains.
+pub fn fill(i: usize, fd: i32, buf: &mut [u8]) -> Read
     ensures { λ r. ⌜ Counts (r .count) (now (buf .exit)) ⌝ }
 {
     let mut name = io::buffer();
-    let n = os::arg(i, &mut name);
-    let fd = open(&name[..n]);
-    if fd < 0 {
-        return Read {
-            is_good: false,
-            count: 0,
-        };
-    }
+    let n = word(i, &mut name);
     let count = io::read_full(fd, buf);
     // `arg` made errno 0, and so it stays where nothing fails.
     let is_good = os::errno() == 0;
@@ -67,6 +62,20 @@ pub fn file(i: usize, buf: &mut [u8]) -> Read
         is_good: is_good,
         count: count,
     }
+}
+
+// The same for the whole file.
+pub fn file(i: usize, buf: &mut [u8]) -> Read
+    ensures { λ r. ⌜ Counts (r .count) (now (buf .exit)) ⌝ }
+{
+    let fd = open(i);
+    if fd < 0 {
+        return Read {
+            is_good: false,
+            count: 0,
+        };
+    }
+    fill(i, fd, buf)
 }
 
 // 1 where argument i is read, 2 where it is write; or 0, after a complaint.
@@ -84,44 +93,9 @@ pub fn mode(i: usize, page: &[u8]) -> u32 {
     }
 }
 
-// Writes to the descriptor of the file of that name, or complains.
-fn write(fd: i32, name: &[u8], bytes: &[u8]) -> bool {
-    if fd < 0 {
-        crate::say::failure(name);
-        return false;
-    }
-    let is_written = io::write_all(fd, bytes);
-    if !is_written {
-        crate::say::failure(name);
-    }
-    libc::close(fd);
-    is_written
-}
-
 // Complains of the file that argument i names.
-pub fn complain(i: usize, what: &[u8], page: &[u8]) {
+pub fn complain(i: usize, what: &[u8]) {
     let mut name = io::buffer();
-    let n = os::arg(i, &mut name);
-    crate::say::usage(&name[..n], what, page);
-}
-
-// Writes the file that argument i names, or complains.
-pub fn save(i: usize, bytes: &[u8]) -> bool {
-    let mut name = io::buffer();
-    let n = os::arg(i, &mut name);
-    write(os::open_overwrite(&name[..n]), &name[..n], bytes)
-}
-
-// The same for a file that is not there yet.
-pub fn make(i: usize, bytes: &[u8]) -> bool {
-    let mut name = io::buffer();
-    let n = os::arg(i, &mut name);
-    write(os::create(&name[..n]), &name[..n], bytes)
-}
-
-// Removes the file that argument i names.
-pub fn remove(i: usize) {
-    let mut name = io::buffer();
-    let n = os::arg(i, &mut name);
-    os::unlink(&name[..n]);
+    let n = word(i, &mut name);
+    crate::say::complaint(&name[..n], what);
 }

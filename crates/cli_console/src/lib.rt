@@ -3,4 +3,5 @@ pub mod input;
 pub mod lines;
 pub mod refusal;
 pub mod rows;
+pub mod saving;
 pub mod say;

@@ -37,16 +37,16 @@ pub fn number_at(text: &[u8], p: usize) -> usize {
 }
 
 // Prints the line at `at` without its LF; bytes that do not print in hex, after \x.
-fn quote_at(text: &[u8], at: usize)
+fn quote_at(to: i32, text: &[u8], at: usize)
     requires { ⌜ at ≤ length (now text) ⌝ }
 {
     let end = text_search::find(text, at, b'\n');
-    crate::say::quote(&text[at..end]);
+    crate::say::quote(to, &text[at..end]);
 }
 
 // Prints line n.
-pub fn quote(text: &[u8], n: usize) {
-    quote_at(text, start(text, n));
+pub fn quote(to: i32, text: &[u8], n: usize) {
+    quote_at(to, text, start(text, n));
 }
 
 // Whether line n has no LF at its end.

@@ -1,42 +1,66 @@
-// A rule table as readable text, and back.
+// A rule table as readable text, and back. Standard output holds the text that is made, and nothing else: what is refused is told on standard error.
 use readable::Converted;
 
-// Prints the first n bytes.
-fn print(s: &[u8], n: usize) {
-    if n <= s.len() {
-        cli_show::word(&s[..n]);
+// Saves a table as the file that argument i names, and tells how many bytes it has.
+fn save(i: usize, table: &[u8]) {
+    if cli_console::input::is_standard(i) {
+        cli_console::say::usage(b"a table is saved in a file", b"", b"pack");
+        return;
+    }
+    let begun = cli_console::saving::begin(i, true);
+    let written = cli_console::saving::add(begun, table);
+    if cli_console::saving::finish(written) {
+        cli_console::say::count(b"bytes ", table.len());
     }
 }
 
-// Prints what was made of a text, or why nothing was.
-fn answer(c: Converted, text: &[u8], made: &[u8]) {
+// Why nothing was made of a text.
+fn refuse(c: Converted, text: &[u8]) {
     match c {
-        Converted::Length(n) => print(made, n),
-        Converted::Refused { number, line } => cli_console::refusal::of_text(text, number, line),
+        Converted::Length(_) => {}
+        Converted::Refused { number, line } => {
+            cli_console::refusal::of_text_to(2, text, number, line)
+        }
         Converted::Unread { line } => {
-            cli_console::refusal::begin();
-            cli_show::word(b" at line ");
-            cli_show::decimal(line as u64);
-            cli_show::line(b": not a line of the readable form");
-            cli_console::refusal::quote_line(text, line);
-            cli_console::refusal::tell_end(text, line);
+            cli_console::refusal::begin(2);
+            cli_show::word_to(2, b" at line ");
+            cli_show::decimal_to(2, line as u64);
+            cli_show::word_to(2, b": not a line of the readable form\n");
+            cli_console::refusal::quote_line(2, text, line);
+            cli_console::refusal::tell_end(2, text, line);
         }
         Converted::NoRoom => {
-            cli_console::refusal::begin();
-            cli_show::line(b": too long for a table");
+            cli_console::refusal::begin(2);
+            cli_show::word_to(2, b": too long for a table\n");
         }
     }
 }
 
+// burgee show FILE
 pub fn show_table(text: &[u8]) {
     // enough for any table (crates/readable_laws)
     let mut out = [0u8; limits::MAX_READABLE_TEXT];
     let c = readable::show(text, &mut out);
-    answer(c, text, &out);
+    if let Converted::Length(n) = c {
+        let made = cli_console::input::within(n, &out);
+        cli_show::word(&out[..made]);
+    } else {
+        refuse(c, text);
+    }
 }
 
-pub fn pack_table(text: &[u8]) {
+// burgee pack FILE [TABLE]
+pub fn pack_table(text: &[u8], words: usize) {
     let mut out = [0u8; limits::MAX_TABLE_TEXT];
     let c = readable::pack(text, &mut out);
-    answer(c, text, &out);
+    if let Converted::Length(n) = c {
+        let made = cli_console::input::within(n, &out);
+        if words == 4 {
+            save(3, &out[..made]);
+        } else {
+            cli_show::word(&out[..made]);
+        }
+    } else {
+        refuse(c, text);
+    }
 }

@@ -64,15 +64,15 @@ fn judge(
     }
 }
 
-// burgee rotate verdict|tree RECORD STORE USER read|write ORIGIN PATH
+// burgee rotate verdict|tree FILE USER read|write ORIGIN PATH
 pub fn table(r: Record, store: &[u8], is_tree: bool) {
     let mut user = io::buffer();
-    let u = cli_console::input::word(5, &mut user);
-    let mode = cli_console::input::mode(6, b"rotate");
+    let u = cli_console::input::word(4, &mut user);
+    let mode = cli_console::input::mode(5, b"rotate");
     let mut origin = io::buffer();
-    let o = cli_console::input::word(7, &mut origin);
+    let o = cli_console::input::word(6, &mut origin);
     let mut path = io::large_buffer();
-    let p = cli_console::input::word(8, &mut path);
+    let p = cli_console::input::word(7, &mut path);
     if mode != 0 {
         judge(
             r,
@@ -102,14 +102,14 @@ fn answer_judged(r: Record, store: &[u8], v: Verdict) {
     }
 }
 
-// burgee rotate rpc RECORD STORE IDENTITY PATH [HEADERS-FILE]
+// burgee rotate rpc FILE IDENTITY PATH [HEADERS-FILE]
 pub fn policy(r: Record, store: &[u8], words: usize) {
     let mut identity = io::buffer();
-    let i = cli_console::input::word(5, &mut identity);
+    let i = cli_console::input::word(4, &mut identity);
     let mut path = io::buffer();
-    let p = cli_console::input::word(6, &mut path);
+    let p = cli_console::input::word(5, &mut path);
     let mut headers = io::large_buffer();
-    let got = cli_policy::rpcs::headers(7, words, &mut headers);
+    let got = cli_policy::rpcs::headers(6, words, &mut headers);
     let h = got.count;
     if got.is_good {
         let a = rotation_probe::rpcs::probe_rpc(

@@ -4,18 +4,20 @@ ghost use Prim.Native.Nat.{_<_};
 ghost use lib.ListN.{length};
 use rotation::Record;
 
+// How many bytes of a file are its record.
+pub const LENGTH: usize = 20;
+
 fn word(a: u8, b: u8, c: u8, d: u8) -> u32 {
     a as u32 + b as u32 * 256 + c as u32 * 65536 + d as u32 * 16777216
 }
 
-fn word_at(b: &[u8; 21], at: usize) -> u32
-    requires { ⌜ at < 18 ⌝ }
+fn word_at(b: &[u8; LENGTH], at: usize) -> u32
+    requires { ⌜ at < 17 ⌝ }
 {
     word(b[at], b[at + 1], b[at + 2], b[at + 3])
 }
 
-// The record that 20 bytes hold; the byte after them is not looked at.
-pub fn of_bytes(b: &[u8; 21]) -> Record {
+pub fn of_bytes(b: &[u8; LENGTH]) -> Record {
     Record {
         kind: word_at(b, 0),
         live_slot: word_at(b, 4),
@@ -31,7 +33,7 @@ fn byte_of(n: u32, unit: u32) -> u8
     (n / unit % 256) as u8
 }
 
-pub fn to_bytes(r: Record) -> [u8; 20]
+pub fn to_bytes(r: Record) -> [u8; LENGTH]
     ensures { λ b. ⌜ 20 ≡ length b ⌝ }
 {
     [

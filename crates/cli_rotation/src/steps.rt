@@ -3,20 +3,24 @@ use rotation::Record;
 use rotation::Stepped;
 use table::Checked;
 
-// Stores the record in its file, and prints it.
-fn keep(r: Record) {
+// Writes the record and the store to the file, and behind them what is left to read of `from`; prints the record where all went well.
+fn keep(r: Record, store: &[u8], from: i32) {
     let bytes = crate::record::to_bytes(r);
-    if cli_console::input::save(3, &bytes) {
+    let begun = cli_console::saving::begin(3, true);
+    let with_record = cli_console::saving::add(begun, &bytes);
+    let with_store = cli_console::saving::add(with_record, store);
+    let with_rest = cli_console::saving::add_rest(with_store, from);
+    if cli_console::saving::finish(with_rest) {
         crate::record::print(r);
     }
 }
 
 // Keeps what a step makes of the record, or prints why it is refused.
-fn settle(s: Stepped) {
+fn settle(s: Stepped, store: &[u8], from: i32) {
     let a = s.answer;
     let next = s.next;
     match a {
-        Checked::Accepted => keep(next),
+        Checked::Accepted => keep(next, store, from),
         Checked::Refused { number, line } => cli_console::refusal::at(number, line),
     }
 }
@@ -32,10 +36,10 @@ fn kind(word: &[u8]) -> u32 {
     0
 }
 
-// burgee rotate new RECORD STORE policy|table
+// burgee rotate new FILE policy|table
 fn new() {
     let mut word = io::buffer();
-    let w = cli_console::input::word(5, &mut word);
+    let w = cli_console::input::word(4, &mut word);
     let k = kind(&word[..w]);
     if k == 0 {
         cli_console::say::usage(b"a record is for a policy or for a table", b"", b"rotate");
@@ -44,29 +48,24 @@ fn new() {
     make(crate::record::factory(k));
 }
 
-// Makes the two files, of which neither may be there.
+// Makes the file, which may not be there.
 fn make(r: Record) {
     let bytes = crate::record::to_bytes(r);
-    let store = io::large_buffer();
-    if cli_console::input::make(3, &bytes) {
-        if cli_console::input::make(4, &store) {
-            crate::record::print(r);
-        } else {
-            cli_console::input::remove(3);
-        }
+    let store = [0u8; limits::STORE_LENGTH];
+    let begun = cli_console::saving::begin(3, false);
+    let with_record = cli_console::saving::add(begun, &bytes);
+    let with_store = cli_console::saving::add(with_record, &store);
+    if cli_console::saving::finish(with_store) {
+        crate::record::print(r);
     }
 }
 
-// Stores what an upload makes of store and record, or prints why it is refused; the store first, so that no record names a text that is not there.
-fn settle_upload(s: Stepped, store: &[u8], text: &[u8]) {
+// Keeps what an upload makes of record and store, or prints why it is refused.
+fn settle_upload(s: Stepped, store: &[u8], text: &[u8], from: i32) {
     let a = s.answer;
     let next = s.next;
     match a {
-        Checked::Accepted => {
-            if cli_console::input::save(4, store) {
-                keep(next);
-            }
-        }
+        Checked::Accepted => keep(next, store, from),
         Checked::Refused { number, line } => {
             if number < 30 {
                 cli_console::refusal::of_text(text, number, line);
@@ -77,14 +76,14 @@ fn settle_upload(s: Stepped, store: &[u8], text: &[u8]) {
     }
 }
 
-// burgee rotate upload RECORD STORE FILE
-fn upload(r: Record, store: &mut [u8]) {
+// burgee rotate upload FILE TEXT
+fn upload(r: Record, store: &mut [u8], from: i32) {
     let mut text = io::large_buffer();
-    let got = cli_console::input::file(5, &mut text);
+    let got = cli_console::input::file(4, &mut text);
     let n = got.count;
     if got.is_good {
         let s = rotation_upload::upload(r, store, &text[..n]);
-        settle_upload(s, store, &text[..n]);
+        settle_upload(s, store, &text[..n], from);
     }
 }
 
@@ -124,21 +123,21 @@ fn named(word: &[u8]) -> Step {
 // Whether a step takes that many words.
 fn takes(step: Step, words: usize) -> bool {
     match step {
-        Step::Start | Step::Finalize | Step::Close | Step::Show => words == 5,
-        Step::Upload | Step::New => words == 6,
-        Step::Verdict | Step::Tree => words == 9,
-        Step::Rpc => (words == 7) | (words == 8),
+        Step::Start | Step::Finalize | Step::Close | Step::Show => words == 4,
+        Step::Upload | Step::New => words == 5,
+        Step::Verdict | Step::Tree => words == 8,
+        Step::Rpc => (words == 6) | (words == 7),
         Step::Unknown => false,
     }
 }
 
-// A step on a record and its store.
-fn run_on(step: Step, words: usize, r: Record, store: &mut [u8]) {
+// A step on a record and its store; what stands behind them in the file is left to read of `from`.
+fn run_on(step: Step, words: usize, r: Record, store: &mut [u8], from: i32) {
     match step {
-        Step::Start => settle(rotation_step::start(r, store.len())),
-        Step::Finalize => settle(rotation_step::finalize(r, store.len())),
-        Step::Close => settle(rotation_step::close(r, store.len())),
-        Step::Upload => upload(r, store),
+        Step::Start => settle(rotation_step::start(r, store.len()), store, from),
+        Step::Finalize => settle(rotation_step::finalize(r, store.len()), store, from),
+        Step::Close => settle(rotation_step::close(r, store.len()), store, from),
+        Step::Upload => upload(r, store, from),
         Step::Verdict => crate::probes::table(r, store, false),
         Step::Tree => crate::probes::table(r, store, true),
         Step::Rpc => crate::probes::policy(r, store, words),
@@ -146,33 +145,32 @@ fn run_on(step: Step, words: usize, r: Record, store: &mut [u8]) {
     }
 }
 
-// Reads the record and the store, and takes the step.
-fn open(step: Step, words: usize) {
-    if cli_console::input::is_standard(3) | cli_console::input::is_standard(4) {
-        cli_console::say::usage(b"a record and a store are files", b"", b"rotate");
-        return;
-    }
-    // One byte more than a record has, so that a longer file is told from it.
-    let mut bytes = [0u8; 21];
-    let record = cli_console::input::file(3, &mut bytes);
-    if !record.is_good {
-        return;
-    }
-    if record.count != 20 {
-        cli_console::input::complain(3, b": a record has 20 bytes", b"rotate");
-        return;
-    }
-    let mut store = io::large_buffer();
-    let got = cli_console::input::file(4, &mut store);
+// Reads the store, and takes the step.
+fn run_with(step: Step, words: usize, r: Record, from: i32) {
+    let mut store = [0u8; limits::STORE_LENGTH];
+    let got = cli_console::input::fill(3, from, &mut store);
     let n = got.count;
     if got.is_good {
-        run_on(
-            step,
-            words,
-            crate::record::of_bytes(&bytes),
-            &mut store[..n],
-        );
+        run_on(step, words, r, &mut store[..n], from);
     }
+}
+
+// Reads the file: the record, then the store.
+fn open(step: Step, words: usize) {
+    let from = cli_console::input::open(3);
+    if from < 0 {
+        return;
+    }
+    let mut bytes = [0u8; crate::record::LENGTH];
+    let got = cli_console::input::fill(3, from, &mut bytes);
+    if !got.is_good {
+        return;
+    }
+    if got.count != crate::record::LENGTH {
+        cli_console::input::complain(3, b": shorter than a record, which has 20 bytes");
+        return;
+    }
+    run_with(step, words, crate::record::of_bytes(&bytes), from);
 }
 
 // The step, if there is one of that name and it takes that many words.
@@ -182,6 +180,8 @@ pub fn run(word: &[u8], words: usize) {
         cli_console::say::usage(b"no such step of a rotation: ", word, b"rotate");
     } else if !takes(step, words) {
         cli_console::say::misuse(b"rotate");
+    } else if cli_console::input::is_standard(3) {
+        cli_console::say::usage(b"a record and its store are kept in a file", b"", b"rotate");
     } else if let Step::New = step {
         new();
     } else {

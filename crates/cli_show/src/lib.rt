@@ -25,11 +25,26 @@ pub fn word(s: &[u8]) {
     expect(io::write_all(1, s));
 }
 
-// The first n bytes of a buffer.
+// The same to a descriptor: 1 for standard output, 2 for standard error.
+pub fn word_to(to: i32, s: &[u8]) {
+    let is_written = io::write_all(to, s);
+    if to == 1 {
+        expect(is_written);
+    }
+}
+
+// The first n bytes of a buffer, to a descriptor.
+pub fn first_to(to: i32, out: &[u8], n: usize)
+    requires { ⌜ n ≤ length (now out) ⌝ }
+{
+    word_to(to, &out[..n]);
+}
+
+// The same to standard output.
 pub fn first(out: &[u8], n: usize)
     requires { ⌜ n ≤ length (now out) ⌝ }
 {
-    word(&out[..n]);
+    first_to(1, out, n);
 }
 
 pub fn space() {
@@ -43,6 +58,12 @@ pub fn line(s: &[u8]) {
 
 pub fn decimal(n: u64) {
     expect(io::print_decimal(1, n));
+}
+
+pub fn decimal_to(to: i32, n: u64) {
+    let mut digits = [0u8; 20];
+    let d = io::decimal(n, &mut digits);
+    word_to(to, &digits[..d]);
 }
 
 fn wide(b: u8) -> u64 {
@@ -61,4 +82,11 @@ pub fn hex(s: &[u8]) {
         expect(io::print_hex(1, wide(s[i]), 2));
         i += 1;
     }
+}
+
+// One byte.
+pub fn hex_to(to: i32, b: u8) {
+    let mut digits = [0u8; 16];
+    let d = io::hex(wide(b), 2, &mut digits);
+    word_to(to, &digits[..d]);
 }

@@ -8,10 +8,10 @@ use Rattle.cli_console.proofs.say.quote.Tie as tie
 
 -- at is within s
 abbrev Inv-loop : tie.InvT-loop
-Inv-loop s at₀ t3 at = at ≤ length s
+Inv-loop to s at₀ t3 at = at ≤ length s
 
 abbrev μ-loop : tie.MeasureT-loop
-μ-loop s at₀ t3 at = length s - at
+μ-loop to s at₀ t3 at = length s - at
 
 loop-less : tie.Need-loop-less Inv-loop μ-loop
 loop-less c = omega (arith, c .quote-from .ensures)
