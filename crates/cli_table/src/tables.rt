@@ -7,11 +7,17 @@ use table_facts::Rows;
 // How many rows of each kind an accepted table has, or why it is refused.
 pub fn check(text: &[u8]) {
     let r = table_facts::count_rows(text);
-    let mut out = [0u8; cli_show::add::MAX_LINES];
-    let n = cli_answers::rows::counts(r, &mut out);
-    cli_show::first(&out, n);
-    if let Rows::Refused { number, line } = r {
-        cli_console::refusal::of_text(text, number, line);
+    match r {
+        Rows::Count {
+            groups,
+            members,
+            rules,
+        } => {
+            let mut out = [0u8; cli_show::add::MAX_LINES];
+            let n = cli_answers::rows::counts(groups, members, rules, &mut out);
+            cli_show::first(&out, n);
+        }
+        Rows::Refused { number, line } => cli_console::refusal::of_text(text, number, line),
     }
 }
 
