@@ -231,7 +231,7 @@ truncate -s -1 "${rotation[-1]}"
 step start && says 11 'the store is shorter than 65,536 bytes' "${words[@]}"
 
 # 23 cannot come from here, where there is room for every result; its words stand with the others.
-grep -rqF '23 the result does not fit the buffer\n' crates/cli_console || fail 'refusal 23: other words'
+grep -rqF '23 the result does not fit the buffer\n' crates/cli_refusal || fail 'refusal 23: other words'
 seen="$seen 23"
 numbers=$(sed -n 's/^#define BURGEE_REFUSED_[A-Z_]* \([0-9]*\)u.*/\1/p' include/burgee.h)
 [ "$(printf '%s\n' $seen | sort -n)" = "$(printf '%s\n' $numbers | sort -n)" ] || fail "refusals: not those of the header are tried"

@@ -7,11 +7,18 @@ use table_check::Seen;
 // How many rows of each kind an accepted table has, or why it is refused.
 pub fn check(text: &[u8]) {
     let s = table_check::look(text, b"");
-    let mut out = [0u8; cli_show::add::MAX_LINES];
-    let n = cli_answers::rows::counts(s, &mut out);
-    cli_show::first(&out, n);
-    if let Seen::Refused { number, line } = s {
-        cli_console::refusal::of_text(text, number, line);
+    match s {
+        Seen::Table { counts, set } => {
+            let mut out = [0u8; cli_show::add::MAX_LINES];
+            let n = cli_answers::rows::counts(
+                counts.groups,
+                counts.members,
+                counts.rules,
+                &mut out,
+            );
+            cli_show::first(&out, n);
+        }
+        Seen::Refused { number, line } => cli_console::refusal::of_text(text, number, line),
     }
 }
 

@@ -1,10 +1,8 @@
+-- `add_reason` is the definition.
 use Rattle.cli_answers.specs.Lines.{reason}
 use borrow.Author.Needs.{needs}
 use Rattle.cli_answers.proofs.lines.add_reason.Statement.{statement}
 use Rattle.cli_answers.proofs.lines.add_reason.Tie as tie
-use Rattle.cli_answers.proofs.lines.add_reason.Reads as reads
-use Rattle.cli_answers.proofs.lines.add_reason.Lts as lts
-use Rattle.cli_show.proofs.add.string.Reads as string-reads
 
 returns : tie.Need-returns
 unfolding reason

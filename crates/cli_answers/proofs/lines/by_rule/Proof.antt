@@ -1,13 +1,9 @@
+-- `by_rule` is the definition.
 use Rattle.cli_answers.specs.Lines.{byRule}
 use Rattle.cli_show.proofs.Adding.{_then_}
 use borrow.Author.Needs.{needs}
 use Rattle.cli_answers.proofs.lines.by_rule.Statement.{statement}
 use Rattle.cli_answers.proofs.lines.by_rule.Tie as tie
-use Rattle.cli_answers.proofs.lines.by_rule.Reads as reads
-use Rattle.cli_answers.proofs.lines.by_rule.Lts as lts
-use Rattle.cli_answers.proofs.lines.name.Reads as name-reads
-use Rattle.cli_show.proofs.add.fact.Reads as fact-reads
-use Rattle.cli_show.proofs.add.string.Reads as string-reads
 
 returns : tie.Need-returns
 unfolding byRule

@@ -1,3 +1,4 @@
+-- `name` is stored apart, and added.
 use native.Mathlib.Omega.{arith}
 use Prim.Native.Nat.{ℕ}
 use lib.ListN.{length-replicate}
@@ -6,10 +7,6 @@ use Rattle.cli_answers.proofs.Naming.{name-length, name-room, name-take
 use borrow.Author.Needs.{needs}
 use Rattle.cli_answers.proofs.lines.name.Statement.{statement}
 use Rattle.cli_answers.proofs.lines.name.Tie as tie
-use Rattle.cli_answers.proofs.lines.name.Reads as reads
-use Rattle.cli_answers.proofs.lines.name.Lts as lts
-use Rattle.cli_show.proofs.add.string.Reads as string-reads
-use Rattle.table_facts.proofs.name_of.Reads as name-of-reads
 
 array-share-prefix-name : tie.Need-array-share-prefix-name
 array-share-prefix-name c = name-room _ _ _ _ _ (length-replicate {A = ℕ} maxString 0) (c .before .name-of .ensures)

@@ -1,10 +1,8 @@
+-- `none` is the definition.
 use Rattle.cli_answers.specs.Lines.{noneLines}
 use borrow.Author.Needs.{needs}
 use Rattle.cli_answers.proofs.lines.none.Statement.{statement}
 use Rattle.cli_answers.proofs.lines.none.Tie as tie
-use Rattle.cli_answers.proofs.lines.none.Reads as reads
-use Rattle.cli_answers.proofs.lines.none.Lts as lts
-use Rattle.cli_show.proofs.add.string.Reads as string-reads
 
 returns : tie.Need-returns
 unfolding noneLines

@@ -1,14 +1,10 @@
+-- `path` is the definition.
 use native.Mathlib.Omega.{arith}
 use Rattle.cli_answers.specs.Lines.{pathLines}
 use Rattle.cli_show.proofs.Adding.{_then_, nothing-added}
 use borrow.Author.Needs.{needs}
 use Rattle.cli_answers.proofs.lines.path.Statement.{statement}
 use Rattle.cli_answers.proofs.lines.path.Tie as tie
-use Rattle.cli_answers.proofs.lines.path.Reads as reads
-use Rattle.cli_answers.proofs.lines.path.Lts as lts
-use Rattle.cli_answers.proofs.lines.add_reason.Reads as add-reason-reads
-use Rattle.cli_answers.proofs.lines.by_rule.Reads as by-rule-reads
-use Rattle.cli_show.proofs.add.string.Reads as string-reads
 
 returns : tie.Need-returns
 unfolding pathLines

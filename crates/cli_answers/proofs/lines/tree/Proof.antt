@@ -1,14 +1,10 @@
+-- `tree` is the definition.
 use native.Mathlib.Omega.{arith}
 use Rattle.cli_answers.specs.Lines.{treeLines}
 use Rattle.cli_show.proofs.Adding.{nothing-added}
 use borrow.Author.Needs.{needs}
 use Rattle.cli_answers.proofs.lines.tree.Statement.{statement}
 use Rattle.cli_answers.proofs.lines.tree.Tie as tie
-use Rattle.cli_answers.proofs.lines.tree.Reads as reads
-use Rattle.cli_answers.proofs.lines.tree.Lts as lts
-use Rattle.cli_answers.proofs.lines.by_rule.Reads as by-rule-reads
-use Rattle.cli_answers.proofs.lines.none.Reads as none-reads
-use Rattle.cli_show.proofs.add.string.Reads as string-reads
 
 returns : tie.Need-returns
 unfolding treeLines

@@ -1,7 +1,6 @@
 -- `counts` is the definition.
 use borrow.Author.Needs.{needs}
-use native.Mathlib.Omega.{arith}
-use Rattle.cli_show.proofs.Adding.{_then_, nothing-added}
+use Rattle.cli_show.proofs.Adding.{_then_}
 use Rattle.cli_answers.specs.Rows.{rowLines}
 use Rattle.cli_answers.proofs.rows.counts.Statement.{statement}
 use Rattle.cli_answers.proofs.rows.counts.Tie as tie
@@ -10,14 +9,8 @@ returns : tie.Need-returns
 unfolding rowLines
 returns c = let at-fact2 = c .before .before .before .before .before .before .before in
     let at-fact = at-fact2 .before .before .before .before .before in
-    let at-s = at-fact .before .before .before .before in
-    rw (at-s .s .given .1) (at-fact .fact .ensures .added then at-fact2 .fact2 .ensures .added then c .before .before .fact3 .ensures .added)
-
-returns-2 : tie.Need-returns-2
-unfolding rowLines
-returns-2 c = rw (c .before .s2 .given .1) (nothing-added _ _ (omega arith))
+    at-fact .fact .ensures .added then at-fact2 .fact2 .ensures .added then c .before .before .fact3 .ensures .added
 
 pub counts-spec : {M : Type 1} → statement M
-counts-spec = tie.close (tie.spec (λ c. search needs) (λ c. search needs) (λ c κs. search needs) (λ c. search needs)
-    (λ c κs. search needs) (λ c. search needs) (λ c κs. search needs) (λ c. search needs) (λ c. search needs) returns
-    returns-2)
+counts-spec = tie.close (tie.spec (λ c. search needs) (λ c κs. search needs) (λ c. search needs) (λ c κs. search needs)
+    (λ c. search needs) (λ c κs. search needs) (λ c. search needs) returns)
