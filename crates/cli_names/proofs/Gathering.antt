@@ -15,6 +15,7 @@ use Rattle.text.proofs.Tests.{by, and-l, and-r, and-false, and-first}
 use Rattle.table.specs.Layout.{ruleSubjectKind, ruleSubject}
 use Rattle.table_place.specs.Place.{strEnd, strIn}
 use Rattle.table_rows.specs.Strings.{rowsOf, stringsIn, Laid, place}
+use Rattle.table_rows.specs.Rules.{idAt}
 use Rattle.table_rows.proofs.Grow.{strings-length, strings-grow, laid-grow, place-any, place-le}
 use Rattle.cli_names.specs.Names.{alike, gather}
 use Rattle.table_facts.specs.Facts.{Identified}
@@ -47,6 +48,7 @@ strings-next f starts n i h = let e : n - i ≡ suc (n - (i + 1)) = omega arith 
 
 module _ (f starts : List ℕ) (n : ℕ) (I : Identified f starts n) (i : ℕ) (h : i < n) where
   pub subject-laid : strEnd f (getD starts i 0 + ruleSubject) ≤ length f
+  unfolding idAt
   subject-laid = id-inside f (getD starts i 0) (I .laid i h)
 
   pub subject-room : getD starts i 0 + ruleSubject < length f

@@ -19,8 +19,9 @@ use Rattle.table.specs.Text.{check, tableOf}
 use Rattle.table.specs.Group.{badUser}
 use Rattle.table_place.specs.Place.{strIn}
 use Rattle.table_rows.specs.Strings.{rowsOf, stringsIn, place, Listed}
+use Rattle.table_rows.specs.Rules.{ruleIn}
 use Rattle.table_rows.proofs.Grow.{strings-length, place-any}
-use Rattle.table_rows.proofs.RuleBytes.{rule-parts}
+use Rattle.table_rows.proofs.RuleBytes.{rule-read}
 use Rattle.table_keep.specs.Held.{memberIn, membersIn}
 use Rattle.table_load.specs.declared.row.Counts.{Counts}
 use Rattle.table_load.specs.Held.{RulesAt}
@@ -114,11 +115,9 @@ users-read named owners f users zero i = refl
 users-read named owners f users (suc n) i = ap (λ (l : List Str). strIn f (getD users i 0) ∷ l) (users-read named owners f users n (suc i))
 
 subjects-read : (f starts : List ℕ) (rs : List Rule) (i : ℕ) → RulesAt f starts rs i → subjects rs ≡ subjectsIn f starts (length rs) i
-unfolding RulesAt subjects subjectsIn
+unfolding RulesAt subjects subjectsIn ruleIn
 subjects-read f starts [] i h = refl
-subjects-read f starts (r ∷ rs) i h =
-    let p = rule-parts f (getD starts i 0) r (h .0 .0) (h .0 .1) in
-    rw (p .byGroup, p .subject, subjects-read f starts rs (suc i) (h .1))
+subjects-read f starts (r ∷ rs) i h = rw (rule-read f (getD starts i 0) r (h .0 .0) (h .0 .1) .is, subjects-read f starts rs (suc i) (h .1))
 
 module _ {text buf : List ℕ} {u : ℕ} {c : Counts} {groups users owners starts holders : List ℕ} (K : Kept text buf u c groups users owners starts holders) where
   users-are : usersOf (tableOf text) ≡ usersIn (take u buf) users (c .members) starts (c .rules)
