@@ -1,23 +1,6 @@
-// Facts on standard output, and complaints on standard error.
+// Complaints on standard error, and lines of files as they stand.
 ghost use Prim.Native.Nat.{_≤_, _<_};
 ghost use lib.ListN.{length};
-
-// `name n`
-pub fn fact(name: &[u8], n: u64) {
-    cli_show::word(name);
-    cli_show::decimal(n);
-    cli_show::word(b"\n");
-}
-
-pub fn count(name: &[u8], n: usize) {
-    fact(name, n as u64);
-}
-
-// An answer that a rule decides, and the rule's number.
-pub fn decided(answer: &[u8], rule: u64) {
-    cli_show::line(answer);
-    fact(b"rule ", rule);
-}
 
 // Where the bytes from `at` on that print end.
 fn printable_end(s: &[u8], at: usize) -> usize

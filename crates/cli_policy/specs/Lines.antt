@@ -4,7 +4,7 @@ use mathlib.Core.List.{[], _++_}
 use Rattle.limits.specs.Limits.{maxPolicyString}
 use Rattle.text.specs.String.{Str, bytes}
 use Rattle.policy.specs.Policy.{policyOf}
-use Rattle.policy_facts.specs.Facts.{nameOf}
+use Rattle.policy_facts.specs.Facts.{listedName}
 use Rattle.policy_facts.specs.declared.Rules.{Rules}
 use Rattle.policy_facts.specs.declared.Rules.the-variants as rules
 use Rattle.policy_facts.specs.declared.name.Listed.{Listed}
@@ -20,7 +20,7 @@ countLines (rules.Refused number) = []
 
 -- an answer, and the number and the name of the rule that it is by: no string of a policy is longer
 unfoldable pub byRule : Str → Str → ℕ → Listed → Str
-byRule policy answer number rule = fact answer number ++ bytes "name " ++ upTo maxPolicyString (nameOf (policyOf policy) rule) ++ bytes "\n"
+byRule policy answer number rule = fact answer number ++ bytes "name " ++ upTo maxPolicyString (listedName (policyOf policy) rule) ++ bytes "\n"
 
 -- the action, and the list, the number and the name of the deciding rule
 unfoldable pub rpcLines : Str → Verdict → Str
