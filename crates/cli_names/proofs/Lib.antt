@@ -1,4 +1,4 @@
 pub mod Letters
 pub mod Gathering
-pub mod Storing
+pub mod Listing
 pub mod Users

@@ -10,9 +10,9 @@ use lib.ListN.{length, take, getD, length-append}
 use Rattle.limits.specs.Limits.{maxString, maxMembers, maxRules}
 use Rattle.text.specs.Test.{_or_, if_then_else_, any, only}
 use Rattle.text.specs.String.{Str, same}
-use Rattle.text.specs.Steps.{Wrote}
 use Rattle.text.proofs.Tests.{by, or-assoc, or-l, or-r, or-false-l, or-false-r, neither}
-use Rattle.text.proofs.Filling.{wrote-nothing}
+use Rattle.cli_show.specs.Added.{Added}
+use Rattle.cli_show.proofs.Adding.{nothing-added}
 use Rattle.path.specs.Refusal.{unsized}
 use Rattle.table.specs.Table.{Member, Rule}
 use Rattle.table.specs.Text.{check, tableOf}
@@ -29,7 +29,7 @@ use Rattle.table_load.specs.Loaded.{Kept}
 use Rattle.table_facts.proofs.Names.{identified}
 use Rattle.cli_names.specs.Names.{subjects, usersOf, alike, gather, sentence, told, slip, maxLine}
 use Rattle.cli_names.specs.Positions.{subjectsIn, usersIn, Stand, TableReady}
-use Rattle.cli_names.proofs.Storing.{sentence-fits}
+use Rattle.cli_names.proofs.Listing.{sentence-fits}
 
 -- ---- lists that are joined
 
@@ -64,18 +64,18 @@ module _ (f users : List ℕ) (members : ℕ) (starts : List ℕ) (rules : ℕ) 
   pub found-place : (places : List ℕ) (n r : ℕ) → r ≡ place user (stringsIn f places n 0) → any (same user) (stringsIn f places n 0) ≡ ltb r n
   found-place places n r e = place-any user (stringsIn f places n 0) ∙ rw (strings-length f places n, e)
 
-  told-none : (d : List ℕ) → any (same user) all ≡ true → Wrote d 0 (told grouped user all) d 0
+  told-none : (d : List ℕ) → any (same user) all ≡ true → Added d 0 (told grouped user all) d 0
   unfolding told if_then_else_
-  told-none d e = rw e (wrote-nothing d 0)
+  told-none d e = rw e (nothing-added d 0 (omega arith))
 
-  pub told-member : (d : List ℕ) (r : ℕ) → r ≡ place user (stringsIn f users members 0) → r < members → Wrote d 0 (told grouped user all) d 0
+  pub told-member : (d : List ℕ) (r : ℕ) → r ≡ place user (stringsIn f users members 0) → r < members → Added d 0 (told grouped user all) d 0
   told-member d r e h =
       told-none d
       (any-append (same user) (stringsIn f users members 0) (subjectsIn f starts rules 0)
       ∙ or-l _ _ (found-place users members r e ∙ lt-ltb r members h))
 
   module _ (places : List ℕ) (s : ℕ) (S : Stand f places s (subjectsIn f starts rules 0)) where
-    pub told-subject : (d : List ℕ) (r : ℕ) → r ≡ place user (stringsIn f places s 0) → r < s → Wrote d 0 (told grouped user all) d 0
+    pub told-subject : (d : List ℕ) (r : ℕ) → r ≡ place user (stringsIn f places s 0) → r < s → Added d 0 (told grouped user all) d 0
     told-subject d r e h =
         told-none d
         (any-append (same user) (stringsIn f users members 0) (subjectsIn f starts rules 0)

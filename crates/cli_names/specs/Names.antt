@@ -56,7 +56,7 @@ grouping isGroup = if isGroup then bytes "; a group has that name" else []
 
 unfoldable pub sentence : Bool → Str → List Str → Str
 sentence isGroup user names =
-    bytes "burgee: the table names no user " ++ (user ++ (grouping isGroup ++ (listed true names ++ (10 ∷ []))))
+    bytes "burgee: the table names no user " ++ user ++ grouping isGroup ++ listed true names ++ bytes "\n"
 
 -- of a user, where `users` are those whom the table names: nothing where it is one of them; else the sentence with those that are the same but for the
 -- case of letters, so that none of them is the user, each once, in their order

@@ -6,12 +6,13 @@ ghost use lib.ListN.{length};
 ghost use Rattle.limits.specs.Limits.{maxString};
 ghost use Rattle.text.specs.Test.{_and_, any};
 ghost use Rattle.text.specs.String.{same};
-ghost use Rattle.text.specs.Steps.{Wrote};
+ghost use Rattle.cli_show.specs.Added.{Added};
 ghost use Rattle.table.specs.Text.{check, tableOf};
 ghost use Rattle.table_place.specs.Place.{strEnd, strIn};
 ghost use Rattle.table_rows.specs.Strings.{stringsIn, Listed};
 ghost use Rattle.cli_names.specs.Names.{small, alike, led, leadOf, listed, grouping, sentence, told, slip, maxLine};
 ghost use Rattle.cli_names.specs.Positions.{subjectsIn, usersIn, Pushed, Stand, RulesReady, GatherReady, Gathered, TableReady};
+use cli_show::add;
 use table_load::Loaded;
 
 // As many users as a table can name, and the longest line.
@@ -107,65 +108,56 @@ fn gather(f: &[u8], starts: &[u16], n: usize, user: &[u8], kept: &mut [u16], m: 
     count
 }
 
-// Stores s into out from `at` on; answers where it ends.
-fn put(s: &[u8], out: &mut [u8], at: usize) -> usize
-    requires { ⌜ at + length (now s) ≤ length (now out) ⌝ }
-    ensures { λ r. ⌜ Wrote (now (out .entry)) at (now (s .entry)) (now (out .exit)) r ⌝ }
-{
-    text::fill::copy(s, out, at);
-    at + s.len()
-}
-
-// The same for the words before a name: the first has others.
-fn put_lead(first: bool, out: &mut [u8], at: usize) -> usize
+// Adds the words before a name, of which the first has others; answers, as the functions below, where the text ends.
+fn add_lead(first: bool, out: &mut [u8], at: usize) -> usize
     requires { ⌜ at + length (leadOf first) ≤ length (now out) ⌝ }
-    ensures { λ r. ⌜ Wrote (now (out .entry)) at (leadOf first) (now (out .exit)) r ⌝ }
+    ensures { λ r. ⌜ Added (now (out .entry)) at (leadOf first) (now (out .exit)) r ⌝ }
 {
     if first {
-        return put(b"; it names ", out, at);
+        return add::string(b"; it names ", out, at);
     }
-    put(b", ", out, at)
+    add::string(b", ", out, at)
 }
 
-// The same for the name at p of f.
-fn put_name(f: &[u8], p: usize, first: bool, out: &mut [u8], at: usize) -> usize
+// Adds the name at p of f, after these words.
+fn add_name(f: &[u8], p: usize, first: bool, out: &mut [u8], at: usize) -> usize
     requires { ⌜ (strEnd (now f) p ≤ length (now f)) × (at + length (led first (strIn (now f) p)) ≤ length (now out)) ⌝ }
-    ensures { λ r. ⌜ Wrote (now (out .entry)) at (led first (strIn (now (f .entry)) p)) (now (out .exit)) r ⌝ }
+    ensures { λ r. ⌜ Added (now (out .entry)) at (led first (strIn (now (f .entry)) p)) (now (out .exit)) r ⌝ }
 {
-    let to = put_lead(first, out, at);
+    let to = add_lead(first, out, at);
     let start = p + 1;
     let end = table_place::str_end(f, p);
-    put(&f[start..end], out, to)
+    add::string(&f[start..end], out, to)
 }
 
-// The same for the names at n places.
-fn put_names(f: &[u8], places: &[u16], n: usize, out: &mut [u8], at: usize) -> usize
+// Adds the names at n places.
+fn add_names(f: &[u8], places: &[u16], n: usize, out: &mut [u8], at: usize) -> usize
     requires { ⌜ Listed (now f) (now places) n × (at + length (listed true (stringsIn (now f) (now places) n 0)) ≤ length (now out)) ⌝ }
-    ensures { λ r. ⌜ Wrote (now (out .entry)) at (listed true (stringsIn (now (f .entry)) (now (places .entry)) n 0)) (now (out .exit)) r ⌝ }
+    ensures { λ r. ⌜ Added (now (out .entry)) at (listed true (stringsIn (now (f .entry)) (now (places .entry)) n 0)) (now (out .exit)) r ⌝ }
 {
     let mut to = at;
     let mut i = 0;
     while i < n {
         let p = places[i] as usize;
-        to = put_name(f, p, i == 0, out, to);
+        to = add_name(f, p, i == 0, out, to);
         i += 1;
     }
     to
 }
 
-// The same for what is said of a group that has the name.
-fn put_grouping(grouped: bool, out: &mut [u8], at: usize) -> usize
+// Adds what is said of a group that has the name.
+fn add_grouping(grouped: bool, out: &mut [u8], at: usize) -> usize
     requires { ⌜ at + length (grouping grouped) ≤ length (now out) ⌝ }
-    ensures { λ r. ⌜ Wrote (now (out .entry)) at (grouping grouped) (now (out .exit)) r ⌝ }
+    ensures { λ r. ⌜ Added (now (out .entry)) at (grouping grouped) (now (out .exit)) r ⌝ }
 {
     if grouped {
-        return put(b"; a group has that name", out, at);
+        return add::string(b"; a group has that name", out, at);
     }
     at
 }
 
-// Stores the sentence at the start of out; answers its length.
-fn put_sentence(
+// Makes the sentence at the start of out; answers its length.
+fn make_sentence(
     f: &[u8],
     grouped: bool,
     user: &[u8],
@@ -174,14 +166,14 @@ fn put_sentence(
     out: &mut [u8],
 ) -> usize
     requires { ⌜ Listed (now f) (now places) n × (length (sentence grouped (now user) (stringsIn (now f) (now places) n 0)) ≤ length (now out)) ⌝ }
-    ensures { λ r. ⌜ Wrote (now (out .entry)) 0 (sentence grouped (now (user .entry)) (stringsIn (now (f .entry)) (now (places .entry)) n 0))
+    ensures { λ r. ⌜ Added (now (out .entry)) 0 (sentence grouped (now (user .entry)) (stringsIn (now (f .entry)) (now (places .entry)) n 0))
         (now (out .exit)) r ⌝ }
 {
-    let a = put(b"burgee: the table names no user ", out, 0);
-    let b = put(user, out, a);
-    let c = put_grouping(grouped, out, b);
-    let d = put_names(f, places, n, out, c);
-    put(b"\n", out, d)
+    let a = add::string(b"burgee: the table names no user ", out, 0);
+    let b = add::string(user, out, a);
+    let c = add_grouping(grouped, out, b);
+    let d = add_names(f, places, n, out, c);
+    add::string(b"\n", out, d)
 }
 
 // What is told of a user, at the start of out.
@@ -196,7 +188,7 @@ fn tell_users(
     out: &mut [u8],
 ) -> usize
     requires { ⌜ TableReady (now f) (now users) members (now starts) rules × (length (now user) ≤ maxString) × (maxLine ≤ length (now out)) ⌝ }
-    ensures { λ r. ⌜ Wrote (now (out .entry)) 0
+    ensures { λ r. ⌜ Added (now (out .entry)) 0
         (told grouped (now (user .entry)) (usersIn (now (f .entry)) (now (users .entry)) members (now (starts .entry)) rules))
         (now (out .exit)) r ⌝ }
 {
@@ -211,13 +203,13 @@ fn tell_users(
     let mut kept = [0u16; MAX_USERS];
     let m = gather(f, users, members, user, &mut kept, 0);
     let n = gather(f, &subjects, s, user, &mut kept, m);
-    put_sentence(f, grouped, user, &kept, n, out)
+    make_sentence(f, grouped, user, &kept, n, out)
 }
 
 // The line, at the start of out; answers its length, 0 where there is nothing to tell.
 pub fn write_line(text: &[u8], user: &[u8], out: &mut [u8]) -> usize
     requires { ⌜ maxLine ≤ length (now out) ⌝ }
-    ensures { λ r. ⌜ Wrote (now (out .entry)) 0 (slip (check (now (text .entry))) (tableOf (now (text .entry))) (now (user .entry))) (now (out .exit)) r ⌝ }
+    ensures { λ r. ⌜ Added (now (out .entry)) 0 (slip (check (now (text .entry))) (tableOf (now (text .entry))) (now (user .entry))) (now (out .exit)) r ⌝ }
 {
     let mut buf = [0u8; limits::MAX_TABLE_BYTES];
     let mut groups = [0u16; limits::MAX_GROUPS];
@@ -258,5 +250,5 @@ pub fn write_line(text: &[u8], user: &[u8], out: &mut [u8]) -> usize
 pub fn tell(text: &[u8], user: &[u8]) {
     let mut out = [0u8; MAX_LINE];
     let n = write_line(text, user, &mut out);
-    io::write_all(2, &out[..cli_console::input::within(n, &out)]);
+    cli_show::first_to(2, &out, n);
 }

@@ -37,8 +37,8 @@ gather-requires-2 c κs = let at-gather = c .before .before .before in
       );
     }
 
-put-sentence-requires : tie.Need-put-sentence-requires
-put-sentence-requires c κs = let at-gather2 = c .before .before .before in
+make-sentence-requires : tie.Need-make-sentence-requires
+make-sentence-requires c κs = let at-gather2 = c .before .before .before in
     let at-gather = at-gather2 .before .before .before .before in let at-find2 = at-gather .before .before .before in
     let at-find-subjects = at-find2 .before .before .before in let at-find = at-find-subjects .before .before .before in
     let at-start = at-find .before .before .before .before .before .before in (
@@ -76,9 +76,9 @@ returns-3 c = let at-gather2 = c .before .before .before .before .before .before
     (at-start .args .starts .now) (at-start .args .rules) (at-start .args .grouped) (at-start .args .user .now) _ _
     (at-find-subjects .find-subjects .ensures .0) _ _ (at-find .find .ensures)
     (at-find-subjects .before .before .if1 .left) (at-find2 .find2 .ensures) (at-gather .before .before .if2 .left)
-    _ _ _ (none-yet _ _) (at-gather .gather .ensures .stand) _ _ (at-gather2 .gather2 .ensures .stand)) at (c .before .before .put-sentence .ensures)
+    _ _ _ (none-yet _ _) (at-gather .gather .ensures .stand) _ _ (at-gather2 .gather2 .ensures .stand)) at (c .before .before .make-sentence .ensures)
 
 pub tell-users-spec : {M : Type 1} → statement M
 tell-users-spec = tie.close (tie.spec (λ c κs. search needs) returns (λ c. search needs) (λ c κs. search needs)
     (λ c. search needs) (λ c κs. search needs) returns-2 (λ c. search needs) (λ c κs. search needs) (λ c. search needs)
-    (λ c. search needs) gather-requires-2 (λ c. search needs) put-sentence-requires (λ c. search needs) returns-3)
+    (λ c. search needs) gather-requires-2 (λ c. search needs) make-sentence-requires (λ c. search needs) returns-3)

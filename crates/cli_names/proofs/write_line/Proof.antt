@@ -1,7 +1,7 @@
 -- `write_line` tells what the definition says of the loaded table.
 use native.Mathlib.Omega.{arith}
 use mathlib.Core.Path.{sym, _∙_}
-use Rattle.text.proofs.Filling.{wrote-nothing}
+use Rattle.cli_show.proofs.Adding.{nothing-added}
 use Rattle.table_check.proofs.Calls.{outcome-refused, outcome-kept, front-is}
 use Rattle.cli_names.specs.Names.{slip}
 use Rattle.cli_names.proofs.Users.{slip-refused, slip-is, groups-listed, table-ready, user-short}
@@ -12,12 +12,12 @@ use Rattle.cli_names.proofs.write_line.Tie as tie
 returns : tie.Need-returns
 unfolding slip
 returns c = let at-load = c .before .before .before in
-    rw (← outcome-refused _ _ _ _ _ _ _ _ (at-load .load .ensures) _ _ (c .enum-told .given .1)) (wrote-nothing _ _)
+    rw (← outcome-refused _ _ _ _ _ _ _ _ (at-load .load .ensures) _ _ (c .enum-told .given .1)) (nothing-added _ _ (omega arith))
 
 returns-2 : tie.Need-returns-2
 returns-2 c = let at-l = c .before .before .before in let at-load = at-l .before .before .before in
     rw (← slip-refused (outcome-kept _ _ _ _ _ _ _ _ (at-load .load .ensures) _ _ (at-l .l .given .1)) _
-    (sym (c .before .is-bad-user .ensures) ∙ c .if1 .taken)) (wrote-nothing _ _)
+    (sym (c .before .is-bad-user .ensures) ∙ c .if1 .taken)) (nothing-added _ _ (omega arith))
 
 array-share-prefix-buf : tie.Need-array-share-prefix-buf
 array-share-prefix-buf c = let at-l = c .before .before .before in let at-load = at-l .before .before .before in
