@@ -1,3 +1,2 @@
-pub mod Explained
 pub mod Lines
 pub mod Rows

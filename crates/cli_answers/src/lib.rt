@@ -1,5 +1,4 @@
 // Verdicts on a table, printed.
-pub mod explained;
 pub mod lines;
 pub mod rows;
 

@@ -5,13 +5,13 @@ use table::Checked;
 
 // Writes the record and the store to the file, and behind them what is left to read of `from`; prints the record where all went well.
 fn keep(r: Record, store: &[u8], from: i32) {
-    let bytes = crate::record::to_bytes(r);
+    let bytes = cli_record::to_bytes(r);
     let begun = cli_saving::begin(3, true);
     let with_record = cli_saving::add(begun, &bytes);
     let with_store = cli_saving::add(with_record, store);
     let with_rest = cli_saving::add_rest(with_store, from);
     if cli_saving::finish(with_rest) {
-        crate::record::print(r);
+        cli_record::print(r);
     }
 }
 
@@ -45,18 +45,18 @@ fn new() {
         cli_console::say::usage(b"a record is for a policy or for a table", b"", b"rotate");
         return;
     }
-    make(crate::record::factory(k));
+    make(cli_record::factory(k));
 }
 
 // Makes the file, which may not be there.
 fn make(r: Record) {
-    let bytes = crate::record::to_bytes(r);
+    let bytes = cli_record::to_bytes(r);
     let store = [0u8; limits::STORE_LENGTH];
     let begun = cli_saving::begin(3, false);
     let with_record = cli_saving::add(begun, &bytes);
     let with_store = cli_saving::add(with_record, &store);
     if cli_saving::finish(with_store) {
-        crate::record::print(r);
+        cli_record::print(r);
     }
 }
 
@@ -138,10 +138,10 @@ fn run_on(step: Step, words: usize, r: Record, store: &mut [u8], from: i32) {
         Step::Finalize => settle(rotation_step::finalize(r, store.len()), store, from),
         Step::Close => settle(rotation_step::close(r, store.len()), store, from),
         Step::Upload => upload(r, store, from),
-        Step::Verdict => crate::probes::table(r, store, false),
-        Step::Tree => crate::probes::table(r, store, true),
-        Step::Rpc => crate::probes::policy(r, store, words),
-        _ => crate::record::tell(r, store.len()),
+        Step::Verdict => cli_probe::table(r, store, false),
+        Step::Tree => cli_probe::table(r, store, true),
+        Step::Rpc => cli_probe::policy(r, store, words),
+        _ => cli_record::tell(r, store.len()),
     }
 }
 
@@ -161,16 +161,16 @@ fn open(step: Step, words: usize) {
     if from < 0 {
         return;
     }
-    let mut bytes = [0u8; crate::record::LENGTH];
+    let mut bytes = [0u8; cli_record::LENGTH];
     let got = cli_console::input::fill(3, from, &mut bytes);
     if !got.is_good {
         return;
     }
-    if got.count != crate::record::LENGTH {
+    if got.count != cli_record::LENGTH {
         cli_console::input::complain(3, b": shorter than a record, which has 20 bytes");
         return;
     }
-    run_with(step, words, crate::record::of_bytes(&bytes), from);
+    run_with(step, words, cli_record::of_bytes(&bytes), from);
 }
 
 // The step, if there is one of that name and it takes that many words.

@@ -14,7 +14,7 @@ fn rule(f: &[u8], place: usize, number: u16, s: usize, best: usize)
     requires { ⌜ (ruleEnd (now f) s ≤ length (now f)) × (ruleEnd (now f) best ≤ length (now f)) ⌝ }
 {
     let mut out = [0u8; cli_show::add::MAX_LINES];
-    let n = cli_answers::explained::line(f, place, number, s, best, &mut out);
+    let n = cli_explained::line(f, place, number, s, best, &mut out);
     cli_show::first(&out, n);
 }
 

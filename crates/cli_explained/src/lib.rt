@@ -1,0 +1,107 @@
+// The lines of an explanation, made in a buffer.
+ghost use Prim.Native.Nat.{_+_, _≤_};
+ghost use lib.ListN.{length};
+ghost use Rattle.limits.specs.Limits.{maxString};
+ghost use Rattle.table_rows.specs.Rules.{ruleIn, ruleEnd};
+ghost use Rattle.cli_show.specs.Added.{Added, AddedUpTo};
+ghost use Rattle.cli_show.specs.Text.{upTo};
+ghost use Rattle.cli_explained.specs.Explained.{stepName, fate, actionText, subjectText, standingText, rankedLine};
+ghost use Rattle.cli_explained.specs.Explained.{ranked as Explained·ranked};
+use cli_show::add;
+use verdict_explain::Standing;
+use verdict_explain::Step;
+
+fn step_name(s: Step, out: &mut [u8], at: usize) -> usize
+    requires { ⌜ at + 17 ≤ length (now out) ⌝ }
+    ensures { λ r. ⌜ AddedUpTo 17 (now (out .entry)) at (stepName s) (now (out .exit)) r ⌝ }
+{
+    match s {
+        Step::Elements => add::string(b"elements", out, at),
+        Step::Keys => add::string(b"definite keys", out, at),
+        Step::Subject => add::string(b"user over group", out, at),
+        Step::Action => add::string(b"deny over permit", out, at),
+        Step::Id => add::string(b"smaller id", out, at),
+    }
+}
+
+// The first rule decides; another lost to it at a step of the ranking.
+fn add_fate(place: usize, s: Step, out: &mut [u8], at: usize) -> usize
+    requires { ⌜ at + 33 ≤ length (now out) ⌝ }
+    ensures { λ r. ⌜ AddedUpTo 33 (now (out .entry)) at (fate place s) (now (out .exit)) r ⌝ }
+{
+    if place == 1 {
+        return add::string(b" decides: rule ", out, at);
+    }
+    let a = add::string(b" lost at ", out, at);
+    let b = step_name(s, out, a);
+    add::string(b": rule ", out, b)
+}
+
+fn action(s: Standing, out: &mut [u8], at: usize) -> usize
+    requires { ⌜ at + 19 ≤ length (now out) ⌝ }
+    ensures { λ r. ⌜ AddedUpTo 19 (now (out .entry)) at (actionText s) (now (out .exit)) r ⌝ }
+{
+    if s.permit {
+        return add::string(b", permit, elements ", out, at);
+    }
+    add::string(b", deny, elements ", out, at)
+}
+
+fn subject(s: Standing, out: &mut [u8], at: usize) -> usize
+    requires { ⌜ at + 12 ≤ length (now out) ⌝ }
+    ensures { λ r. ⌜ AddedUpTo 12 (now (out .entry)) at (subjectText s) (now (out .exit)) r ⌝ }
+{
+    if s.group {
+        return add::string(b", group, id ", out, at);
+    }
+    add::string(b", user, id ", out, at)
+}
+
+// What the ranking looks at in a rule.
+fn standing(s: Standing, out: &mut [u8], at: usize) -> usize
+    requires { ⌜ at + 87 ≤ length (now out) ⌝ }
+    ensures { λ r. ⌜ AddedUpTo 87 (now (out .entry)) at (standingText s) (now (out .exit)) r ⌝ }
+{
+    let a = action(s, out, at);
+    let b = add::decimal(s.elements as u64, out, a);
+    let c = add::string(b", definite keys ", out, b);
+    let d = add::decimal(s.keys as u64, out, c);
+    subject(s, out, d)
+}
+
+// A rule's place, its fate, its number and its standing.
+fn ranked(place: usize, number: u16, own: Standing, s: Step, out: &mut [u8]) -> usize
+    requires { ⌜ 160 ≤ length (now out) ⌝ }
+    ensures { λ r. ⌜ AddedUpTo 160 (now (out .entry)) 0 (Explained·ranked place number own s) (now (out .exit)) r ⌝ }
+{
+    let a = add::decimal(place as u64, out, 0);
+    let b = add_fate(place, s, out, a);
+    let c = add::decimal(number as u64, out, b);
+    standing(own, out, c)
+}
+
+// The id of the rule at s.
+fn id(f: &[u8], s: usize, out: &mut [u8], at: usize) -> usize
+    requires { ⌜ (ruleEnd (now f) s ≤ length (now f)) × (at + maxString ≤ length (now out)) ⌝ }
+    ensures { λ r. ⌜ AddedUpTo maxString (now (out .entry)) at (upTo maxString (ruleIn (now (f .entry)) s .id)) (now (out .exit)) r ⌝ }
+{
+    let i = verdict_judge::rule::id_at(f, s);
+    let a = i + 1;
+    let e = table_place::str_end(f, i);
+    add::string_up_to(limits::MAX_STRING, &f[a..e], out, at)
+}
+
+// The rule at s of that number, at its place of the ranking, whose first rule stands at `best`.
+pub fn line(f: &[u8], place: usize, number: u16, s: usize, best: usize, out: &mut [u8]) -> usize
+    requires { ⌜ (ruleEnd (now f) s ≤ length (now f)) × (ruleEnd (now f) best ≤ length (now f)) × (161 + maxString ≤ length (now out)) ⌝ }
+    ensures { λ r. ⌜ Added (now (out .entry)) 0
+        (rankedLine place number (ruleIn (now (f .entry)) s) (ruleIn (now (f .entry)) best))
+        (now (out .exit)) r ⌝ }
+{
+    let own = verdict_explain::standing_at(f, s);
+    let first = verdict_explain::standing_at(f, best);
+    let step = verdict_explain::lost_at(own, first);
+    let a = ranked(place, number, own, step, out);
+    let b = id(f, s, out, a);
+    add::string(b"\n", out, b)
+}
