@@ -18,13 +18,14 @@ use Rattle.text.proofs.Tests.{by, clash}
 use Rattle.text.proofs.Frames.{no-part}
 use Rattle.text.proofs.Filling.{wrote-long}
 use Rattle.text_affix.specs.Affix.{empty}
+use Rattle.text_search.specs.Search.{is}
 use Rattle.text_hash.specs.Mix.{Small}
 use Rattle.text_hash.specs.declared.Seed.{Seed}
 use Rattle.rpc.specs.Request.{Line, longer, cutAt, lineOf, cons, linesOf, headersOf, readable, badHeaders, joined, valuesOf, headerValue}
-use Rattle.rpc_request.specs.Steps.{cutHere, Cut, commaed, lineValue}
+use Rattle.rpc_request.specs.Steps.{Cut, commaed, lineValue}
 use Rattle.rpc_request.specs.Index.{bucketCount, bucketOf, inBucket, LineAt, Chain, stop, link, onto, Blank, Indexed}
-use Rattle.rpc_request.proofs.Lines.{part-long, here-some, here-none, fueled, read-is, Reading, reading-on, lines-cut, lines-uncut, lines-bad, lines-on, lines-over, headers-short, headers-read}
-use Rattle.rpc_request.proofs.Values.{gather, gather-nil, gather-cons, gathered, one-bucket, commaed-nil, commaed-append, joined-is, line-value}
+use Rattle.rpc_request.proofs.Lines.{part-long, until-later, cut-same, cut-until, firstLf, lf-cut, colon-before, cut-part, name-part, fueled, read-is, Reading, reading-on, lines-cut, lines-uncut, lines-bad, lines-on, lines-over, headers-short, headers-read}
+use Rattle.rpc_request.proofs.Values.{gather, gather-nil, gather-cons, gathered, one-bucket, commaed-nil, commaed-append, joined-is, line-value, line-bucket}
 
 -- ---- the line at a position
 
@@ -39,23 +40,6 @@ line-two (c ∷ d ∷ s) x e = omega arith
 
 line-long : (h : Str) (p e : ℕ) (x : Line) → LineAt h p e x → p + 2 ≤ e
 line-long h p e x a = let w = line-two (part h p e) x (a .is) in let z = part-long h p e (a .cut .high) in omega arith
-
--- how long a cut is; d where there is none
-abbrev cutLength : ℕ → Option (Str × Str) → ℕ
-cutLength d none = d
-cutLength d (some r) = length (r .0)
-
-here-long : (h : Str) (i e : ℕ) → i ≤ e → e ≤ length h → cutLength (length h - i) (cutHere h i e) ≡ e - i
-here-long h i e l k =
-    by (ltb e (length h))
-    (λ t. ap (cutLength (length h - i)) (here-some h i e (ltb-true _ _ t)) ∙ part-long h i e k)
-    (λ t. let z = ltb-false e (length h) t in ap (cutLength (length h - i)) (here-none h i e z) ∙ omega arith)
-
--- a cut is at one place only
-cut-same : (b : ℕ) (h : Str) (i e f : ℕ) → Cut b h i e → Cut b h i f → e ≡ f
-cut-same b h i e f x y =
-    let z : e - i ≡ f - i = sym (here-long h i e (x .low) (x .high)) ∙ ap (cutLength (length h - i)) (sym (x .is) ∙ y .is) ∙ here-long h i f (y .low) (y .high) in
-    omega (arith, z, x .low, y .low)
 
 -- ---- chains
 
@@ -143,7 +127,7 @@ indexing-start seed h last before x = record {
 module _ (seed : Seed) (h last before : Str) (i e : ℕ) (l : i < length h) (k : Cut 10 h i e) (j : Indexing seed h last before i) where
   turn : (g : ℕ) × (Reading h i (suc g)) × (readable (linesOf (suc g) (drop i h)) ≡ true) × (orNothing (headersOf h) ≡ onto (j .back) (orNothing (linesOf (suc g) (drop i h))))
   turn =
-      let f = fueled h i e l k (j .fuel) (j .reading) in
+      let f = fueled h i l (j .fuel) (j .reading) in
       let q = f .1 in
       (f .0, subst (Reading h i) q (j .reading), ap (λ (n : ℕ). readable (linesOf n (drop i h))) (sym q) ∙ j .good, j .is ∙ ap (λ (n : ℕ). onto (j .back) (orNothing (linesOf n (drop i h)))) q)
 
@@ -200,6 +184,26 @@ module _ (seed : Seed) (h last before : Str) (i e : ℕ) (l : i < length h) (k :
           small = j .small;
           chains = chains-on (x .0) (x .1);
         }
+
+-- the colon is searched first, and the LF from behind it on
+module _ (seed : Seed) (h last before : Str) (i c : ℕ) (l : i < length h) (k : Cut 58 h i c) (j : Indexing seed h last before i) where
+  line-good : readable (lineOf (cutAt 58 (part h i (firstLf h i)))) ≡ true
+  line-good = indexing-line seed h last before i _ l (lf-cut h i l) j
+
+  pub colon-inside : c < length h
+  colon-inside = omega (arith, colon-before h i c l k line-good, lf-cut h i l .high)
+
+  module _ (e : ℕ) (m : Cut 10 h (c + 1) e) where
+    lf-is : firstLf h i ≡ e
+    lf-is = sym (cut-until 10 h (c + 1) e m ∙ until-later (is 10) h i (c + 1) (omega (arith, k .low)) (omega (arith, colon-before h i c l k line-good)))
+
+    pub line-ends : Cut 10 h i e
+    line-ends = subst (Cut 10 h i) lf-is (lf-cut h i l)
+
+    pub line-named : (b : ℕ) → b ≡ bucketOf seed (part h i c) → (x : Line) → lineOf (cutAt 58 (part h i e)) ≡ some x → b ≡ bucketOf seed (x .name)
+    line-named b q =
+        let z : c < e = omega (arith, colon-before h i c l k line-good, lf-is) in
+        line-bucket seed (part h i e) (c - i) (cut-part h i c e k z (m .high)) (ap (λ (n : ℕ). readable (lineOf (cutAt 58 (part h i n)))) (sym lf-is) ∙ line-good) b (q ∙ ap (bucketOf seed) (sym (name-part h i c e (k .low) z)))
 
 pub indexing-done : (seed : Seed) (h last before : Str) (i : ℕ) → badHeaders h ≡ false → Indexing seed h last before i → length h ≤ i → Indexed seed h last before
 indexing-done seed h last before i g j l = record {

@@ -8,21 +8,21 @@ use native.Mathlib.Numerals.{add-one}
 use native.Mathlib.Omega.{arith}
 use lib.Dec.{ltb}
 use lib.ListN.{length, take, drop, getD, length-drop, drop-of-length-le}
-use lib.Seq.{drop-cons, take-all, length-take-le}
+use lib.Seq.{drop-cons, take-nil, take-take, drop-drop, getD-drop, length-take-le}
 use borrow.Author.Tests.{eqb-true, eqb-false, eq-eqb, ne-eqb, lt-ltb, le-ltb, ltb-true, ltb-false, not-false}
 use Rattle.limits.specs.Limits.{maxRequestString, maxHeaderLines}
 use Rattle.text.specs.Test.{_and_, _or_, if_then_else_, all}
 use Rattle.text.specs.Byte.{isPrint}
 use Rattle.text.specs.String.{Str}
 use Rattle.text.specs.Frame.{part}
-use Rattle.text.proofs.Tests.{by, clash, or-false-l, or-false-r}
+use Rattle.text.proofs.Tests.{by, clash, both, and-l, and-r, or-false-l, or-false-r}
 use Rattle.text.proofs.Frames.{no-part}
 use Rattle.text_affix.specs.Affix.{empty}
 use Rattle.text_search.specs.Search.{until, is}
-use Rattle.text_search.proofs.Searching.{found, passed, ran-out, found-low, found-high}
+use Rattle.text_search.proofs.Searching.{until-fits, found, passed, ran-out, found-low, found-high}
 use Rattle.policy.specs.Text.{isHeaderByte}
 use Rattle.rpc.specs.Request.{Line, longer, cutAt, lineOf, cons, lineThen, linesOf, headersOf, readable, badText, badHeaders}
-use Rattle.rpc_request.specs.Steps.{cutHere, Cut}
+use Rattle.rpc_request.specs.Steps.{cutHere, unprinted, Cut, LineEnd}
 
 -- ---- parts
 
@@ -102,7 +102,64 @@ module _ (h : Str) where
     high = found-high (is b) h at r l e;
   }
 
--- ---- is_line
+-- ---- a search within a search
+
+-- what is found from i on is found from a later place on too, if it is not before that
+module _ (p : ℕ → Bool) (s : Str) where
+  until-after : (d i : ℕ) → d ≤ until p (drop i s) → (d + i) + until p (drop (d + i) s) ≡ i + until p (drop i s)
+  until-after zero i k = let z : 0 + i ≡ i = omega arith in ap (λ (n : ℕ). n + until p (drop n s)) z
+  until-after (suc d) i k =
+      let l : i < length s = omega (arith, until-fits p (drop i s), length-drop i s) in
+      by (p (getD s i 0))
+      (λ t. absurd (omega (arith, found p s i l t)))
+      (λ t. let q = passed p s i l t in
+      let z : suc d + i ≡ d + (i + 1) = omega arith in
+      rw z (until-after d (i + 1) (omega arith) ∙ omega arith))
+
+  pub until-later : (i j : ℕ) → i ≤ j → j ≤ i + until p (drop i s) → j + until p (drop j s) ≡ i + until p (drop i s)
+  until-later i j l k = let z : (j - i) + i ≡ j = omega arith in subst (λ (n : ℕ). n + until p (drop n s) ≡ i + until p (drop i s)) z (until-after (j - i) i (omega arith))
+
+-- what is found in the first n bytes is what is found in all of them
+until-take : (p : ℕ → Bool) (n : ℕ) (s : Str) → until p (take n s) < length (take n s) → until p s ≡ until p (take n s)
+unfolding until if_then_else_
+until-take p zero s l = absurd (omega arith)
+until-take p (suc n) [] l = refl
+until-take p (suc n) (x ∷ s) l = by (p x) (λ t. rw t) (λ t. rw t (ap suc (until-take p n s (let z = rw t at l in omega (arith, z)))))
+
+until-in : (p : ℕ → Bool) (n : ℕ) (s : Str) → until p s < n → until p (take n s) ≡ until p s
+unfolding until if_then_else_
+until-in p zero s l = absurd (omega arith)
+until-in p (suc n) [] l = refl
+until-in p (suc n) (x ∷ s) l = by (p x) (λ t. rw t) (λ t. rw t (ap suc (until-in p n s (let z = rw t at l in omega (arith, z)))))
+
+-- the byte that is found passes the test
+until-hit : (p : ℕ → Bool) (s : Str) → until p s < length s → p (getD s (until p s) 0) ≡ true
+unfolding until if_then_else_
+until-hit p [] l = absurd (omega arith)
+until-hit p (x ∷ s) l = by (p x) (λ t. rw t t) (λ t. rw t (until-hit p s (let z = rw t at l in omega (arith, z))))
+
+-- how long a cut is; d where there is none
+abbrev cutLength : ℕ → Option (Str × Str) → ℕ
+cutLength d none = d
+cutLength d (some r) = length (r .0)
+
+here-long : (h : Str) (i e : ℕ) → i ≤ e → e ≤ length h → cutLength (length h - i) (cutHere h i e) ≡ e - i
+here-long h i e l k =
+    by (ltb e (length h))
+    (λ t. ap (cutLength (length h - i)) (here-some h i e (ltb-true _ _ t)) ∙ part-long h i e k)
+    (λ t. let z = ltb-false e (length h) t in ap (cutLength (length h - i)) (here-none h i e z) ∙ omega arith)
+
+-- a cut is at one place only
+pub cut-same : (b : ℕ) (h : Str) (i e f : ℕ) → Cut b h i e → Cut b h i f → e ≡ f
+cut-same b h i e f x y =
+    let z : e - i ≡ f - i = sym (here-long h i e (x .low) (x .high)) ∙ ap (cutLength (length h - i)) (sym (x .is) ∙ y .is) ∙ here-long h i f (y .low) (y .high) in
+    omega (arith, z, x .low, y .low)
+
+-- a cut is where a search finds its byte
+pub cut-until : (b : ℕ) (h : Str) (i e : ℕ) → Cut b h i e → e ≡ i + until (is b) (drop i h)
+cut-until b h i e k = cut-same b h i e _ k (cut-at h b i _ (omega (arith, k .low, k .high)) refl)
+
+-- ---- line_end
 
 line-none : lineOf none ≡ none
 unfolding lineOf
@@ -135,6 +192,9 @@ good-last : (x y : Str) → (length x ≡ 0 → ⊥) → all isHeaderByte x ≡ 
 unfolding empty _and_
 good-last x y n e = rw (ne-eqb (length x) 0 n, e)
 
+good-print : (x y : Str) → good x y ≡ true → all isPrint y ≡ true
+good-print x y e = and-r (all isHeaderByte x) (all isPrint y) (and-r (not (empty x)) (all isHeaderByte x and all isPrint y) e)
+
 module _ (l : Str) (c : ℕ) (k : Cut 58 l 0 c) where
   pub line-cut : c < length l → cutAt 58 l ≡ some (part l 0 c, drop (c + 1) l)
   line-cut h = k .is ∙ here-some l 0 c h
@@ -144,22 +204,6 @@ module _ (l : Str) (c : ℕ) (k : Cut 58 l 0 c) where
 
   pub line-uncut : c ≡ length l → readable (lineOf (cutAt 58 l)) ≡ false
   line-uncut e = unread (ap lineOf (k .is ∙ here-none l 0 c (omega arith)) ∙ line-none)
-
-  pub line-inside : (c ≡ length l → ⊥) → c < length l
-  line-inside n = omega (arith, n, k .high)
-
-  name-long : length (part l 0 c) ≡ c
-  name-long = part-long l 0 c (k .high) ∙ omega arith
-
-  pub line-nameless : (c ≡ length l → ⊥) → c ≡ 0 → false ≡ readable (lineOf (cutAt 58 l))
-  line-nameless n z = sym (line-judged (line-inside n) ∙ good-nameless _ _ (name-long ∙ z))
-
-  pub line-ill : (c ≡ length l → ⊥) → all isHeaderByte (part l 0 c) ≡ false → false ≡ readable (lineOf (cutAt 58 l))
-  line-ill n e = sym (line-judged (line-inside n) ∙ good-ill _ _ e)
-
-  pub line-last : (c ≡ length l → ⊥) → (c ≡ 0 → ⊥) → all isHeaderByte (part l 0 c) ≡ true → (r : Bool) → r ≡ all isPrint (take (length l - (c + 1)) (drop (c + 1) l)) → r ≡ readable (lineOf (cutAt 58 l))
-  line-last n z e r q =
-      q ∙ ap (all isPrint) (take-all (length l - (c + 1)) (drop (c + 1) l) (omega (arith, length-drop (c + 1) l))) ∙ sym (line-judged (line-inside n) ∙ good-last _ _ (λ x. z (sym name-long ∙ x)) e)
 
   -- value_from
   module _ (g : readable (lineOf (cutAt 58 l)) ≡ true) where
@@ -171,6 +215,102 @@ module _ (l : Str) (c : ℕ) (k : Cut 58 l 0 c) where
 
     pub tail-long : length (take (length l - (c + 1)) (drop (c + 1) l)) + (c + 1) ≡ length l
     tail-long = let h = line-there in omega (arith, length-take-le (length l - (c + 1)) (drop (c + 1) l) (omega (arith, length-drop (c + 1) l)))
+
+-- the parts of a part
+drop-take : (m n : ℕ) (s : Str) → drop m (take n s) ≡ take (n - m) (drop m s)
+drop-take zero n s = let z : n - 0 ≡ n = omega arith in rw z
+drop-take (suc m) zero [] = let z : 0 - suc m ≡ 0 = omega arith in rw z
+drop-take (suc m) zero (x ∷ s) = let z : 0 - suc m ≡ 0 = omega arith in rw z
+drop-take (suc m) (suc n) [] = sym (take-nil (suc n - suc m))
+drop-take (suc m) (suc n) (x ∷ s) = let z : suc n - suc m ≡ n - m = omega arith in rw z (drop-take m n s)
+
+module _ (h : Str) (i c e : ℕ) (low : i ≤ c) (high : c < e) where
+  pub name-part : part (part h i e) 0 (c - i) ≡ part h i c
+  name-part =
+      let o : (c - i) - 0 ≡ c - i = omega arith in
+      ap (λ (n : ℕ). take n (part h i e)) o ∙ take-take (c - i) (e - i) (drop i h) (omega arith)
+
+  rest-part : drop ((c - i) + 1) (part h i e) ≡ part h (c + 1) e
+  rest-part =
+      let z : (e - i) - ((c - i) + 1) ≡ e - (c + 1) = omega arith in
+      let w : i + ((c - i) + 1) ≡ c + 1 = omega arith in
+      drop-take ((c - i) + 1) (e - i) (drop i h) ∙ ap (take ((e - i) - ((c - i) + 1))) (drop-drop ((c - i) + 1) i h ∙ ap (λ (n : ℕ). drop n h) w) ∙ ap (λ (n : ℕ). take n (drop (c + 1) h)) z
+
+module _ (h : Str) (i c e : ℕ) (k : Cut 58 h i c) (high : c < e) (within : e ≤ length h) where
+  pub cut-part : Cut 58 (part h i e) 0 (c - i)
+  cut-part =
+      let z : c - i ≡ until (is 58) (drop i h) = omega (arith, cut-until 58 h i c k) in
+      let w : until (is 58) (drop i h) < e - i = omega (arith, k .low) in
+      let v = until-in (is 58) (e - i) (drop i h) w in
+      cut-at (part h i e) 58 0 (c - i) (omega arith) (omega (arith, z, v))
+
+  -- whether the line from i to e is well formed
+  line-parts : readable (lineOf (cutAt 58 (part h i e))) ≡ good (part h i c) (part h (c + 1) e)
+  line-parts =
+      let z : c - i < length (part h i e) = omega (arith, part-long h i e within, k .low) in
+      line-judged (part h i e) (c - i) cut-part z ∙ ap (λ (x : Str). good x (drop ((c - i) + 1) (part h i e))) (name-part h i c e (k .low) high) ∙ ap (good (part h i c)) (rest-part h i c e (k .low) high)
+
+-- the first LF from i on
+abbrev pub firstLf : Str → ℕ → ℕ
+firstLf h i = i + until (is 10) (drop i h)
+
+pub lf-cut : (h : Str) (i : ℕ) → i < length h → Cut 10 h i (firstLf h i)
+lf-cut h i l = cut-at h 10 i _ (omega arith) refl
+
+lf-byte : (h : Str) (i : ℕ) → i < length h → firstLf h i < length h → getD h (firstLf h i) 0 ≡ 10
+lf-byte h i l z = sym (getD-drop i h _ 0) ∙ eqb-true _ _ (until-hit (is 10) (drop i h) (omega (arith, length-drop i h)))
+
+-- the colon of a good line stands before its LF
+pub colon-before : (h : Str) (i c : ℕ) → i < length h → Cut 58 h i c → readable (lineOf (cutAt 58 (part h i (firstLf h i)))) ≡ true → c < firstLf h i
+colon-before h i c l k g =
+    let e = firstLf h i in
+    let m = cut-at (part h i e) 58 0 _ (omega arith) refl in
+    let t = line-there (part h i e) _ m g in
+    let q = until-take (is 58) (e - i) (drop i h) (omega (arith, t)) in
+    omega (arith, cut-until 58 h i c k, q, t, part-long h i e (lf-cut h i l .high))
+
+unprinted-lf : unprinted 10 ≡ true
+unfolding unprinted
+unprinted-lf = refl
+
+pub printed : (x : ℕ) → isPrint x ≡ true → unprinted x ≡ false
+unfolding unprinted
+printed x t = ap not t
+
+pub unprinted-is : (x : ℕ) → isPrint x ≡ false → unprinted x ≡ true
+unfolding unprinted
+unprinted-is x t = ap not t
+
+print-is : (x : ℕ) → unprinted x ≡ false → isPrint x ≡ true
+unfolding unprinted
+print-is x t = not-false _ t
+
+printed-not-lf : (x : ℕ) → isPrint x ≡ true → is 10 x ≡ false
+printed-not-lf x t = ne-eqb x 10 (λ z. clash (ap unprinted z ∙ unprinted-lf) (printed x t))
+
+header-not-lf : (x : ℕ) → isHeaderByte x ≡ true → is 10 x ≡ false
+unfolding isHeaderByte
+header-not-lf x t = ne-eqb x 10 (λ z. clash t (ap isHeaderByte z))
+
+-- bytes that print, and then an LF
+until-lf : (p : ℕ → Bool) → ((x : ℕ) → isPrint x ≡ true → p x ≡ false) → p 10 ≡ true → (n : ℕ) (s : Str) → n < length s → all isPrint (take n s) ≡ true → getD s n 0 ≡ 10 → until p s ≡ n
+unfolding until if_then_else_ all
+until-lf p f t n [] l a e = absurd (omega arith)
+until-lf p f t zero (x ∷ s) l a e = let z : p x ≡ true = ap p e ∙ t in rw z
+until-lf p f t (suc n) (x ∷ s) l a e = rw (f x (and-l _ _ a)) (ap suc (until-lf p f t n s (omega arith) (and-r _ _ a) e))
+
+-- header bytes, and then a colon: the LF comes later
+colon-first : (n : ℕ) (s : Str) → n < length s → all isHeaderByte (take n s) ≡ true → getD s n 0 ≡ 58 → n < until (is 10) s
+unfolding until if_then_else_ all
+colon-first n [] l a e = absurd (omega arith)
+colon-first zero (x ∷ s) l a e = let z : is 10 x ≡ false = ap (is 10) e in rw z (omega arith)
+colon-first (suc n) (x ∷ s) l a e = rw (header-not-lf x (and-l _ _ a)) (let z = colon-first n s (omega arith) (and-r _ _ a) e in omega arith)
+
+-- what stands before the first byte that does not print
+all-printed : (s : Str) → all isPrint (take (until unprinted s) s) ≡ true
+unfolding until if_then_else_ all
+all-printed [] = refl
+all-printed (x ∷ s) = by (unprinted x) (λ t. rw t) (λ t. rw t (both _ _ (print-is x t) (all-printed s)))
 
 -- ---- are_lines
 
@@ -235,6 +375,68 @@ module _ (h : Str) (i e fuel : ℕ) (l : i < length h) (k : Cut 10 h i e) where
   pub lines-on : e < length h → readable (lineOf (cutAt 58 (part h i e))) ≡ true → readable (linesOf (suc fuel) (drop i h)) ≡ readable (linesOf fuel (drop (e + 1) h))
   lines-on z g = let a = read-is _ g in ap readable (lines-cut z ∙ ap (λ (o : Option Line). cons o (linesOf fuel (drop (e + 1) h))) (a .1)) ∙ cons-read _ _
 
+-- each way out of line_end; c is where the colon stands, or the end
+module _ (h : Str) (i c : ℕ) (l : i < length h) (k : Cut 58 h i c) where
+  -- no good line stands at i
+  line-end-bad : (firstLf h i < length h → readable (lineOf (cutAt 58 (part h i (firstLf h i)))) ≡ true → ⊥) → LineEnd h i (length h)
+  line-end-bad f = record {
+    high = omega arith;
+    good = λ q. absurd (omega arith);
+    bad = λ _ n.
+        by (ltb (firstLf h i) (length h))
+        (λ t. by (readable (lineOf (cutAt 58 (part h i (firstLf h i))))) (λ g. absurd (f (ltb-true _ _ t) g)) (λ g. lines-bad h i _ n l (lf-cut h i l) (ltb-true _ _ t) g))
+        (λ t. let z = ltb-false (firstLf h i) (length h) t in lines-uncut h i _ n l (lf-cut h i l) (omega (arith, lf-cut h i l .high)));
+  }
+
+  pub line-colonless : c ≡ length h → LineEnd h i (length h)
+  line-colonless q = line-end-bad (λ z g. omega (arith, colon-before h i c l k g))
+
+  line-is-good : firstLf h i < length h → readable (lineOf (cutAt 58 (part h i (firstLf h i)))) ≡ true → good (part h i c) (part h (c + 1) (firstLf h i)) ≡ true
+  line-is-good z g = sym (line-parts h i c _ k (colon-before h i c l k g) (omega arith)) ∙ g
+
+  pub line-nameless : c ≡ i → LineEnd h i (length h)
+  line-nameless q = line-end-bad (λ z g. clash (line-is-good z g) (good-nameless _ _ (part-long h i c (k .high) ∙ omega arith)))
+
+  pub line-ill : all isHeaderByte (part h i c) ≡ false → LineEnd h i (length h)
+  line-ill q = line-end-bad (λ z g. clash (line-is-good z g) (good-ill _ _ q))
+
+  -- e is where the first byte behind the colon stands that does not print
+  module _ (e : ℕ) (m : e ≡ c + 1 + until unprinted (drop (c + 1) h)) where
+    print-end-is : firstLf h i < length h → readable (lineOf (cutAt 58 (part h i (firstLf h i)))) ≡ true → e ≡ firstLf h i
+    print-end-is z g =
+        let b = colon-before h i c l k g in
+        let w : c + 1 + (firstLf h i - (c + 1)) ≡ firstLf h i = omega arith in
+        let v = until-lf unprinted printed unprinted-lf (firstLf h i - (c + 1)) (drop (c + 1) h) (omega (arith, length-drop (c + 1) h)) (good-print _ _ (line-is-good z g)) (getD-drop (c + 1) h _ 0 ∙ ap (λ (n : ℕ). getD h n 0) w ∙ lf-byte h i l z) in
+        omega (arith, v)
+
+    pub line-endless : e ≡ length h → LineEnd h i (length h)
+    line-endless q = line-end-bad (λ z g. omega (arith, print-end-is z g))
+
+    pub line-unprinted : (getD h e 0 ≡ 10 → ⊥) → LineEnd h i (length h)
+    line-unprinted q = line-end-bad (λ z g. q (ap (λ (n : ℕ). getD h n 0) (print-end-is z g) ∙ lf-byte h i l z))
+
+    module _ (inside : e < length h) (named : c ≡ i → ⊥) (name : all isHeaderByte (part h i c) ≡ true) (ends : getD h e 0 ≡ 10) where
+      value-print : all isPrint (part h (c + 1) e) ≡ true
+      value-print = let w : e - (c + 1) ≡ until unprinted (drop (c + 1) h) = omega arith in ap (λ (n : ℕ). all isPrint (take n (drop (c + 1) h))) w ∙ all-printed (drop (c + 1) h)
+
+      lf-here : firstLf h i ≡ e
+      lf-here =
+          let u = cut-until 58 h i c k in
+          let d = length-drop i h in
+          let x : c - i ≡ until (is 58) (drop i h) = omega arith in
+          let y : getD (drop i h) (c - i) 0 ≡ 58 = ap (λ (n : ℕ). getD (drop i h) n 0) x ∙ eqb-true _ _ (until-hit (is 58) (drop i h) (omega (arith, k .low))) in
+          let b = colon-first (c - i) (drop i h) (omega (arith, k .low)) name y in
+          let w : c + 1 + (e - (c + 1)) ≡ e = omega arith in
+          let v = until-lf (is 10) printed-not-lf refl (e - (c + 1)) (drop (c + 1) h) (omega (arith, length-drop (c + 1) h)) value-print (getD-drop (c + 1) h _ 0 ∙ ap (λ (n : ℕ). getD h n 0) w ∙ ends) in
+          sym (until-later (is 10) h i (c + 1) (omega (arith, k .low)) (omega (arith, b, k .low))) ∙ omega (arith, v)
+
+      pub line-ended : LineEnd h i e
+      line-ended = record {
+        high = omega arith;
+        good = λ _. (subst (Cut 10 h i) lf-here (lf-cut h i l), line-parts h i c e k (omega arith) (omega arith) ∙ good-last _ _ (λ x. named (omega (arith, part-long h i c (k .high), x, k .low))) name ∙ value-print);
+        bad = λ q. absurd (omega arith);
+      }
+
 -- whether the lines are well formed is whether those from i on are
 pub record Judging (h : Str) (i : ℕ) : Type 0 where
   pub fuel : ℕ
@@ -244,26 +446,24 @@ pub record Judging (h : Str) (i : ℕ) : Type 0 where
 pub judging-start : (h : Str) → Judging h 0
 judging-start h = record { fuel = length h; reading = record { inside = omega arith; enough = omega arith }; is = refl }
 
-module _ (h : Str) (i e : ℕ) (l : i < length h) (k : Cut 10 h i e) where
+module _ (h : Str) (i : ℕ) (l : i < length h) where
   pub fueled : (fuel : ℕ) → Reading h i fuel → (g : ℕ) × (fuel ≡ suc g)
   fueled zero r = absurd (omega (arith, r .enough))
   fueled (suc g) r = (g, refl)
 
-  module _ (j : Judging h i) where
+  module _ (e : ℕ) (k : LineEnd h i e) (j : Judging h i) where
     turn : (g : ℕ) × (Reading h i (suc g)) × (readable (headersOf h) ≡ readable (linesOf (suc g) (drop i h)))
     turn = let f = fueled (j .fuel) (j .reading) in (f .0, subst (Reading h i) (f .1) (j .reading), j .is ∙ ap (λ (n : ℕ). readable (linesOf n (drop i h))) (f .1))
 
-    pub judging-uncut : e ≡ length h → false ≡ readable (headersOf h)
-    judging-uncut z = let t = turn in sym (t .2 ∙ lines-uncut h i e (t .0) l k z)
+    pub judging-bad : e ≡ length h → false ≡ readable (headersOf h)
+    judging-bad z = let t = turn in sym (t .2 ∙ k .bad z (t .0))
 
-    pub judging-bad : (e ≡ length h → ⊥) → readable (lineOf (cutAt 58 (part h i e))) ≡ false → false ≡ readable (headersOf h)
-    judging-bad n g = let t = turn in sym (t .2 ∙ lines-bad h i e (t .0) l k (omega (arith, n, k .high)) g)
-
-    pub judging-on : (e ≡ length h → ⊥) → readable (lineOf (cutAt 58 (part h i e))) ≡ true → Judging h (e + 1)
-    judging-on n g =
+    pub judging-on : (e ≡ length h → ⊥) → (i ≤ e) × Judging h (e + 1)
+    judging-on n =
         let t = turn in
         let z : e < length h = omega (arith, n, k .high) in
-        record { fuel = t .0; reading = reading-on h i e (t .0) (t .1) (k .low) z; is = t .2 ∙ lines-on h i e (t .0) l k z g }
+        let g = k .good z in
+        (g .0 .low, record { fuel = t .0; reading = reading-on h i e (t .0) (t .1) (g .0 .low) z; is = t .2 ∙ lines-on h i e (t .0) l (g .0) z (g .1) })
 
 pub lines-over : (h : Str) (i n : ℕ) → length h ≤ i → linesOf n (drop i h) ≡ some []
 lines-over h i n l = ap (linesOf n) (drop-of-length-le h l) ∙ lines-nil n

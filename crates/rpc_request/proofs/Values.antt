@@ -121,7 +121,7 @@ line-value key l x q = ap (λ (o : Option Line). commaed (valuesOf key (oneLine 
 some-is : {a b : Line} → some a ≡ some b → a ≡ b
 some-is e = cc
 
--- line_bucket
+-- next_bucket
 pub line-bucket : (seed : Seed) (l : Str) (c : ℕ) → Cut 58 l 0 c → readable (lineOf (cutAt 58 l)) ≡ true → (r : ℕ) → r ≡ bucketOf seed (part l 0 c) → (x : Line) → lineOf (cutAt 58 l) ≡ some x → r ≡ bucketOf seed (x .name)
 line-bucket seed l c k g r e x q = e ∙ ap (λ (y : Line). bucketOf seed (y .name)) (some-is (sym (line-whole l c k g) ∙ q))
 

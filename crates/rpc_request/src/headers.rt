@@ -1,9 +1,10 @@
 // Header lines: `name`, `:`, `value`, LF.
 ghost use mathlib.Core.Path.{_≡_};
-ghost use Prim.Native.Nat.{_≤_};
-ghost use lib.ListN.{length};
-ghost use Rattle.rpc.specs.Request.{cutAt, lineOf, headersOf, readable, badHeaders};
-ghost use Rattle.rpc_request.specs.Steps.{Cut};
+ghost use Prim.Native.Nat.{_+_, _≤_, _<_};
+ghost use lib.ListN.{length, drop};
+ghost use Rattle.text_search.specs.Search.{until};
+ghost use Rattle.rpc.specs.Request.{headersOf, readable, badHeaders};
+ghost use Rattle.rpc_request.specs.Steps.{unprinted, Cut, LineEnd};
 
 // Where the first byte b from `at` on stands; the end where there is none.
 pub fn byte_from(h: &[u8], at: usize, b: u8) -> usize
@@ -13,23 +14,46 @@ pub fn byte_from(h: &[u8], at: usize, b: u8) -> usize
     text_search::find(h, at, b)
 }
 
-// Whether l is a line, without its LF.
-fn is_line(l: &[u8]) -> bool
-    ensures { λ r. ⌜ r ≡ readable (lineOf (cutAt 58 (now (l .entry)))) ⌝ }
+// Where the first byte from `at` on stands that does not print; the end where there is none.
+fn print_end(h: &[u8], at: usize) -> usize
+    requires { ⌜ at ≤ length (now h) ⌝ }
+    ensures { λ r. ⌜ r ≡ at + until unprinted (drop at (now (h .entry))) ⌝ }
 {
-    let n = l.len();
-    let c = byte_from(l, 0, b':');
+    let mut i = at;
+    while i < h.len() {
+        if !text::byte::is_print(h[i]) {
+            return i;
+        }
+        i += 1;
+    }
+    i
+}
+
+// Where the LF of the line at i stands; the end where the line is ill-formed. The colon is searched first, and the LF is the first byte behind it that
+// does not print.
+fn line_end(h: &[u8], i: usize) -> usize
+    requires { ⌜ i < length (now h) ⌝ }
+    ensures { λ r. ⌜ LineEnd (now (h .entry)) i r ⌝ }
+{
+    let n = h.len();
+    let c = byte_from(h, i, b':');
     if c == n {
-        return false;
+        return n;
     }
-    if c == 0 {
-        return false;
+    if c == i {
+        return n;
     }
-    if !policy::string::all_header_bytes(&l[0..c]) {
-        return false;
+    if !policy::string::all_header_bytes(&h[i..c]) {
+        return n;
     }
-    let from = c + 1;
-    text::string::all_print(&l[from..n])
+    let e = print_end(h, c + 1);
+    if e == n {
+        return n;
+    }
+    if h[e] != b'\n' {
+        return n;
+    }
+    e
 }
 
 // Whether h is lines, each with its LF.
@@ -39,11 +63,8 @@ fn are_lines(h: &[u8]) -> bool
     let n = h.len();
     let mut i = 0;
     while i < n {
-        let e = byte_from(h, i, b'\n');
+        let e = line_end(h, i);
         if e == n {
-            return false;
-        }
-        if !is_line(&h[i..e]) {
             return false;
         }
         i = e + 1;

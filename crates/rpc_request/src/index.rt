@@ -1,14 +1,13 @@
 // The header lines by bucket, so that the lines of one name are found without a look at the others.
 ghost use mathlib.Core.Path.{_≡_};
 ghost use mathlib.Core.Bool.{true};
-ghost use mathlib.Core.Option.{some};
-ghost use Prim.Native.Nat.{_+_, _≤_, _<_};
+ghost use Prim.Native.Nat.{_+_, _≤_};
 ghost use lib.ListN.{length};
 ghost use Rattle.text.specs.Steps.{Wrote};
 ghost use Rattle.text_hash.specs.Mix.{Small};
-ghost use Rattle.rpc.specs.Request.{Line, cutAt, lineOf, readable};
+ghost use Rattle.rpc.specs.Request.{cutAt, lineOf, readable};
 ghost use Rattle.rpc_request.specs.Steps.{lineValue, Joined};
-ghost use Rattle.rpc_request.specs.Index.{bucketCount, bucketOf, Blank, Indexed, Ready};
+ghost use Rattle.rpc_request.specs.Index.{bucketOf, Blank, Indexed, Ready};
 use text_hash::Seed;
 
 // Any number of buckets would do.
@@ -49,27 +48,36 @@ pub fn factors(policy: &[u8], headers: &[u8]) -> Seed
     text_hash::factors::draw_after(sample(policy), headers)
 }
 
-// The bucket of a line's name.
-fn line_bucket(seed: Seed, l: &[u8]) -> usize
-    requires { ⌜ Small seed × (readable (lineOf (cutAt 58 (now l))) ≡ true) ⌝ }
-    ensures { λ r. ⌜ (r < bucketCount) × ((x : Line) → lineOf (cutAt 58 (now (l .entry))) ≡ some x → r ≡ bucketOf seed (x .name)) ⌝ }
+// The bucket of a name; b is that of another, which often is the same.
+fn next_bucket(seed: Seed, name: &[u8], other: &[u8], b: usize) -> usize
+    requires { ⌜ Small seed × (b ≡ bucketOf seed (now other)) ⌝ }
+    ensures { λ r. ⌜ r ≡ bucketOf seed (now (name .entry)) ⌝ }
 {
-    let c = crate::headers::byte_from(l, 0, b':');
-    text_hash::place(seed, BUCKETS, &l[0..c])
+    if text::string::is_same(name, other) {
+        return b;
+    }
+    text_hash::place(seed, BUCKETS, name)
 }
 
-// Stores where the last line of each bucket starts and, at a third of where a line starts, where the line of its bucket before it does.
+// Stores where the last line of each bucket starts and, at a third of where a line starts, where the line of its bucket before it does. `b` is the bucket
+// of the name from `from` to `to`, that of the line before.
 pub fn index_lines(seed: Seed, h: &[u8], last: &mut [u16], before: &mut [u16])
     requires { ⌜ Blank seed (now h) (now last) (now before) ⌝ }
     ensures { λ _. ⌜ Indexed seed (now (h .entry)) (now (last .exit)) (now (before .exit)) ⌝ }
 {
     let n = h.len();
+    let mut from = 0;
+    let mut to = 0;
+    let mut b = text_hash::place(seed, BUCKETS, &h[0..0]);
     let mut i = 0;
     while i < n {
-        let e = crate::headers::byte_from(h, i, b'\n');
-        let b = line_bucket(seed, &h[i..e]);
+        let c = crate::headers::byte_from(h, i, b':');
+        b = next_bucket(seed, &h[i..c], &h[from..to], b);
+        let e = crate::headers::byte_from(h, c + 1, b'\n');
         before[i / 3] = last[b];
         last[b] = i as u16;
+        from = i;
+        to = c;
         i = e + 1;
     }
 }
