@@ -2,27 +2,12 @@
 ghost use Prim.Native.Nat.{_≤_, _<_};
 ghost use lib.ListN.{length};
 
-// Where the bytes from `at` on that print end.
-fn printable_end(s: &[u8], at: usize) -> usize
-    requires { ⌜ at ≤ length (now s) ⌝ }
-    ensures { λ r. ⌜ (at ≤ r) × (r ≤ length (now (s .entry))) ⌝ }
-{
-    let mut i = at;
-    while i < s.len() {
-        if !text::byte::is_print(s[i]) {
-            return i;
-        }
-        i += 1;
-    }
-    i
-}
-
 // Prints the bytes from `at` on that print, and the byte behind them in hex after \x; answers where to go on.
 fn quote_from(to: i32, s: &[u8], at: usize) -> usize
     requires { ⌜ at < length (now s) ⌝ }
     ensures { λ r. ⌜ (at < r) × (r ≤ length (now (s .entry))) ⌝ }
 {
-    let end = printable_end(s, at);
+    let end = text_search::print_end(s, at);
     cli_show::word_to(to, &s[at..end]);
     if end < s.len() {
         cli_show::word_to(to, b"\\x");

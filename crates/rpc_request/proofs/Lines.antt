@@ -18,11 +18,11 @@ use Rattle.text.specs.Frame.{part}
 use Rattle.text.proofs.Tests.{by, clash, both, and-l, and-r, or-false-l, or-false-r}
 use Rattle.text.proofs.Frames.{no-part}
 use Rattle.text_affix.specs.Affix.{empty}
-use Rattle.text_search.specs.Search.{until, is}
-use Rattle.text_search.proofs.Searching.{until-fits, found, passed, ran-out, found-low, found-high}
+use Rattle.text_search.specs.Search.{until, is, unprinted}
+use Rattle.text_search.proofs.Searching.{until-fits, found, passed, ran-out, found-low, found-high, printed}
 use Rattle.policy.specs.Text.{isHeaderByte}
 use Rattle.rpc.specs.Request.{Line, longer, cutAt, lineOf, cons, lineThen, linesOf, headersOf, readable, badText, badHeaders}
-use Rattle.rpc_request.specs.Steps.{cutHere, unprinted, Cut, LineEnd}
+use Rattle.rpc_request.specs.Steps.{cutHere, Cut, LineEnd}
 
 -- ---- parts
 
@@ -272,14 +272,6 @@ colon-before h i c l k g =
 unprinted-lf : unprinted 10 ≡ true
 unfolding unprinted
 unprinted-lf = refl
-
-pub printed : (x : ℕ) → isPrint x ≡ true → unprinted x ≡ false
-unfolding unprinted
-printed x t = ap not t
-
-pub unprinted-is : (x : ℕ) → isPrint x ≡ false → unprinted x ≡ true
-unfolding unprinted
-unprinted-is x t = ap not t
 
 print-is : (x : ℕ) → unprinted x ≡ false → isPrint x ≡ true
 unfolding unprinted

@@ -1,13 +1,12 @@
 -- What the programs answer step by step: header lines by position, and the joined value of a header.
 use mathlib.Core.Path.{_≡_}
-use mathlib.Core.Bool.{Bool, true, false, not}
+use mathlib.Core.Bool.{true, false}
 use mathlib.Core.List.{List, [], _∷_, _++_}
 use mathlib.Core.Option.{Option, none, some}
 use Prim.Native.Nat.{ℕ, suc, _+_, _≤_, _<_}
 use lib.Dec.{ltb}
 use lib.ListN.{length, drop}
 use Rattle.text.specs.Test.{if_then_else_, orNothing}
-use Rattle.text.specs.Byte.{isPrint}
 use Rattle.text.specs.String.{Str}
 use Rattle.text.specs.Frame.{part}
 use Rattle.rpc.specs.Request.{Line, cutAt, lineOf, linesOf, headersOf, readable, valuesOf, headerValue}
@@ -22,10 +21,6 @@ pub record Cut (b : ℕ) (h : List ℕ) (from r : ℕ) : Type 0 where
   pub is : cutAt b (drop from h) ≡ cutHere h from r
   pub low : from ≤ r
   pub high : r ≤ length h
-
--- a byte that does not print
-unfoldable pub unprinted : ℕ → Bool
-unprinted x = not (isPrint x)
 
 -- r is where the LF of the line at i stands, or the end, and then no lines stand from i on
 pub record LineEnd (h : List ℕ) (i r : ℕ) : Type 0 where

@@ -1,10 +1,9 @@
 // Header lines: `name`, `:`, `value`, LF.
 ghost use mathlib.Core.Path.{_≡_};
 ghost use Prim.Native.Nat.{_+_, _≤_, _<_};
-ghost use lib.ListN.{length, drop};
-ghost use Rattle.text_search.specs.Search.{until};
+ghost use lib.ListN.{length};
 ghost use Rattle.rpc.specs.Request.{headersOf, readable, badHeaders};
-ghost use Rattle.rpc_request.specs.Steps.{unprinted, Cut, LineEnd};
+ghost use Rattle.rpc_request.specs.Steps.{Cut, LineEnd};
 
 // Where the first byte b from `at` on stands; the end where there is none.
 pub fn byte_from(h: &[u8], at: usize, b: u8) -> usize
@@ -12,21 +11,6 @@ pub fn byte_from(h: &[u8], at: usize, b: u8) -> usize
     ensures { λ r. ⌜ Cut b (now (h .entry)) at r ⌝ }
 {
     text_search::find(h, at, b)
-}
-
-// Where the first byte from `at` on stands that does not print; the end where there is none.
-fn print_end(h: &[u8], at: usize) -> usize
-    requires { ⌜ at ≤ length (now h) ⌝ }
-    ensures { λ r. ⌜ r ≡ at + until unprinted (drop at (now (h .entry))) ⌝ }
-{
-    let mut i = at;
-    while i < h.len() {
-        if !text::byte::is_print(h[i]) {
-            return i;
-        }
-        i += 1;
-    }
-    i
 }
 
 // Where the LF of the line at i stands; the end where the line is ill-formed. The colon is searched first, and the LF is the first byte behind it that
@@ -46,7 +30,7 @@ fn line_end(h: &[u8], i: usize) -> usize
     if !policy::string::all_header_bytes(&h[i..c]) {
         return n;
     }
-    let e = print_end(h, c + 1);
+    let e = text_search::print_end(h, c + 1);
     if e == n {
         return n;
     }

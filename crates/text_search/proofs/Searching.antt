@@ -1,6 +1,6 @@
 -- One turn of a search, and each way out of it.
 use mathlib.Core.Path.{_≡_, ap}
-use mathlib.Core.Bool.{Bool, true, false}
+use mathlib.Core.Bool.{Bool, true, false, not}
 use mathlib.Core.List.{[], _∷_}
 use Prim.Native.Nat.{ℕ, suc, _+_, _≤_, _<_}
 use native.Mathlib.Numerals.{add-one}
@@ -8,9 +8,10 @@ use native.Mathlib.Omega.{arith}
 use lib.ListN.{length, drop, getD, length-drop, drop-of-length-le}
 use lib.Seq.{drop-cons}
 use Rattle.text.specs.Test.{if_then_else_}
+use Rattle.text.specs.Byte.{isPrint}
 use Rattle.text.specs.String.{Str}
 use Rattle.text.proofs.Tests.{by}
-use Rattle.text_search.specs.Search.{until}
+use Rattle.text_search.specs.Search.{until, unprinted}
 
 -- what is found lies within the string, or at its end
 pub until-fits : (p : ℕ → Bool) (s : Str) → until p s ≤ length s
@@ -38,3 +39,11 @@ module _ (p : ℕ → Bool) (s : Str) (at r : ℕ) (h : at ≤ length s) (e : r 
 
   pub found-high : r ≤ length s
   found-high = omega (arith, until-fits p (drop at s), length-drop at s)
+
+pub printed : (x : ℕ) → isPrint x ≡ true → unprinted x ≡ false
+unfolding unprinted
+printed x t = ap not t
+
+pub unprinted-is : (x : ℕ) → isPrint x ≡ false → unprinted x ≡ true
+unfolding unprinted
+unprinted-is x t = ap not t
