@@ -185,7 +185,7 @@ others() {
 1,500,000 3,000,000          how many requests were tried
 26,915          the bytes of a table that was timed
 1,553 1,438     lines of proofs
-65,248          measured: the stack of an upload (rust/tests/stack.rs)
+65,240          measured: the stack of an upload (rust/tests/stack.rs)
 END
 }
 
