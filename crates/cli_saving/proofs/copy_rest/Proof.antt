@@ -1,8 +1,9 @@
--- `copy_rest` ends: the measure is the number of turns that are left.
+-- `copy_rest` ends: each turn leaves one fewer.
 use borrow.Author.Needs.{needs}
 use Rattle.cli_saving.proofs.copy_rest.Statement.{statement}
 use Rattle.cli_saving.proofs.copy_rest.Tie as tie
 
+-- Nothing has to hold from turn to turn.
 abbrev Inv-loop : tie.InvT-loop
 Inv-loop from to turns₀ turns = Unit {0}
 

@@ -8,6 +8,7 @@ use lib.Seq.{length-take-le}
 use Rattle.cli_saving.proofs.folder_length.Statement.{statement}
 use Rattle.cli_saving.proofs.folder_length.Tie as tie
 
+-- i is within the path.
 abbrev Inv-loop : tie.InvT-loop
 Inv-loop path i₀ i = i ≤ length path
 

@@ -12,12 +12,11 @@ array-share-prefix-buf c = let at-load = c .before .before .before .before in
     let k = outcome-kept _ _ _ _ _ _ _ _ (at-load .load .ensures) _ _ (c .before .l .given .1) .within in omega (arith, k .0, k .1)
 
 slice-aggregate-memberships : tie.Need-slice-aggregate-memberships
-slice-aggregate-memberships c = let at-l = c .before .before in let at-load = at-l .before .before .before in
-    front-is (outcome-kept _ _ _ _ _ _ _ _ (at-load .load .ensures) _ _ (at-l .l .given .1))
+slice-aggregate-memberships c = let at-load = c .before .before .before .before .before in
+    front-is (outcome-kept _ _ _ _ _ _ _ _ (at-load .load .ensures) _ _ (c .before .before .l .given .1))
 
 slice-aggregate-memberships-2 : tie.Need-slice-aggregate-memberships-2
-slice-aggregate-memberships-2 c = let at-l = c .before .before .before in
-    let at-load = at-l .before .before .before in
+slice-aggregate-memberships-2 c = let at-l = c .before .before .before in let at-load = at-l .before .before .before in
     sym (outcome-kept _ _ _ _ _ _ _ _ (at-load .load .ensures) _ _ (at-l .l .given .1) .holds .long .of-users)
 
 slice-aggregate-memberships-3 : tie.Need-slice-aggregate-memberships-3
@@ -32,8 +31,7 @@ memberships-requires c κs = let at-l = c .before .before .before .before in
 
 returns : tie.Need-returns
 unfolding Looked
-returns c = let at-l = c .before .before .before .before .before in
-    let at-load = at-l .before .before .before in
+returns c = let at-l = c .before .before .before .before .before in let at-load = at-l .before .before .before in
     rw (c .memberships .ensures) (told (outcome-kept _ _ _ _ _ _ _ _ (at-load .load .ensures) _ _ (at-l .l .given .1)) _)
 
 returns-2 : tie.Need-returns-2
@@ -42,6 +40,6 @@ returns-2 c = let at-load = c .before .before .before .before in
     sym (outcome-refused _ _ _ _ _ _ _ _ (at-load .load .ensures) _ _ (c .before .l2 .given .1))
 
 pub look-spec : {M : Type 1} → statement M
-look-spec = tie.close (tie.spec (λ c. search needs) (λ c κs. search needs) (λ c. search needs)
-    array-share-prefix-buf slice-aggregate-memberships slice-aggregate-memberships-2 slice-aggregate-memberships-3
-    memberships-requires (λ c. search needs) returns returns-2)
+look-spec = tie.close (tie.spec (λ c. search needs) (λ c κs. search needs) (λ c. search needs) array-share-prefix-buf
+    slice-aggregate-memberships slice-aggregate-memberships-2 slice-aggregate-memberships-3 memberships-requires
+    (λ c. search needs) returns returns-2)

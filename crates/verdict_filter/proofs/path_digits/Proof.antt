@@ -14,7 +14,8 @@ use Rattle.verdict_filter.proofs.path_digits.Tie as tie
 -- x has the digits of the elements passed; e is the depth of the element at q
 abbrev Inv-loop : tie.InvT-loop
 Inv-loop s d f at n x₀ e₀ q₀ left₀ x e q left =
-    (elemsEnd left f q ≤ length f) × (e + depthStep * left ≡ d + depthStep * n) × (pathDigits s d (elemsIn n f at) ≡ unite x (pathDigits s e (elemsIn left f q)))
+    (elemsEnd left f q ≤ length f) × (e + depthStep * left ≡ d + depthStep * n) ×
+    (pathDigits s d (elemsIn n f at) ≡ unite x (pathDigits s e (elemsIn left f q)))
 
 abbrev μ-loop : tie.MeasureT-loop
 μ-loop s d f at n x₀ e₀ q₀ left₀ x e q left = left

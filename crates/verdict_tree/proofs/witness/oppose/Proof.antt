@@ -33,7 +33,8 @@ returns c = let at-start = c .before .before .before .before .before .before .be
     record {
       sound = at-start .pre .1;
       numbered = λ e. e;
-      best = λ test h. step-off earlier f (at-start .args .b) _ _ test (also at-start test) (unfit test _ _ _ (omega arith) (h _ (at-start .pre .0)) (c .if1 .taken));
+      best = λ test h. step-off earlier f (at-start .args .b) _ _ test (also at-start test)
+          (unfit test _ _ _ (omega arith) (h _ (at-start .pre .0)) (c .if1 .taken));
     }
 
 mul-s : tie.Need-mul-s
@@ -58,7 +59,8 @@ returns-2 c =
     record {
       sound = at-start .pre .1;
       numbered = λ e. e;
-      best = λ test h. step-keep earlier f (at-start .args .b) _ _ test (also at-start test) (sym (c .before .wins-earlier .ensures) ∙ not-true _ (c .if2 .taken));
+      best = λ test h. step-keep earlier f (at-start .args .b) _ _ test (also at-start test)
+          (sym (c .before .wins-earlier .ensures) ∙ not-true _ (c .if2 .taken));
     }
 
 decide-joined-requires : tie.Need-decide-joined-requires
