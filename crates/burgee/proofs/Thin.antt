@@ -43,6 +43,7 @@ use denote.Triple.Clauses.{Clauses, ensured, lasts, closing}
 use denote.Exit.{yes}
 use Rattle.rotation.specs.declared.Record.{Record}
 use Rattle.burgee.specs.declared.records.Answered.{Answered}
+use Rattle.burgee.specs.Calls.{held}
 use Rattle.rotation.proofs.Record as T
 use Rattle.rotation.proofs.Record.Laws as T′
 use Rattle.burgee.proofs.records.Answered as S
@@ -105,7 +106,7 @@ abbrev thin : (Record → ℕ → Answered) → {M : Type 1} (𝓤 : URA M) → 
 thin stepOf 𝓤 κs a = record {
   ghost = Unit {0};
   requires = λ g. emp 𝓤;
-  ensures = λ g w e. fact 𝓤 ((w ≡ stepOf (now (a .0)) (length (now (a .1 .0))) .word) × (now (e .0) ≡ stepOf (now (a .0)) (length (now (a .1 .0))) .next));
+  ensures = λ g w e. fact 𝓤 ((w ≡ stepOf (now (a .0)) (length (now (a .1 .0))) .word) × (held (now (e .0)) (now (a .1 .0)) ≡ held (stepOf (now (a .0)) (length (now (a .1 .0))) .next) (now (a .1 .0))));
 }
 
 abbrev stepped : (Record → ℕ → Answered) → {M : Type 1} (𝓤 : URA M) → Clauses 𝓤 step.ended
@@ -160,7 +161,7 @@ module _ (k : Name) (stepOf : Record → ℕ → Answered) (keeps : (r : Record)
   exits w h′ ew eh fits =
       qed W (Left h′) ∵
       suffices ! _ (ends-at 𝓤 H A f.ended stayed (thin stepOf 𝓤) W (((κ, (κ′, tt)), (q, (q′, tt)), bounds, x, at), tt) (vint w64 w) w (h′, (tt, tt)) (tt, (tt, tt))) $
-      says ! (ew, eh) $
+      says ! (ew, ap (λ (r : Record). held r (s .now)) eh) $
       move ! (2 ∷ 3 ∷ []) $ join ! $ frame ! $ feqI ! (List Val) (vptr b o ∷ []) (vptr b o ∷ []) refl $ fjoin3 ! $ fjoin ! $ frame ! $
       owned ! u64 (Is u64) (uint-makes 𝓤 H A W w64) w _ (refl, fits) $ done !
 

@@ -5,17 +5,13 @@ mod records;
 mod word;
 
 ghost use mathlib.Core.Path.{_≡_};
-ghost use Rattle.path_read.specs.Calls.{bytesFor, textFor, answer, lent};
-ghost use Rattle.table.specs.Text.{check};
-ghost use Rattle.table.specs.Group.{groupCount};
-ghost use Rattle.verdict_request.specs.Calls.{pathVerdict, treeVerdict};
-ghost use Rattle.burgee.specs.Word.{filledWord, checkedWord, countedWord, pathWord, treeWord};
+ghost use Rattle.burgee.specs.Calls.{PathRead, PathWrite, TableCheck, GroupCount, PathVerdict, TreeVerdict, buffer, word, after};
 
 // Path text to path bytes.
 #[no_mangle]
 pub extern "C" fn burgee_path_read(text: &[u8], out: &mut [u8]) -> u64
-    ensures { λ r. ⌜ (r ≡ filledWord (answer (now (out .entry)) (bytesFor (now (text .entry)))))
-        × (now (out .exit) ≡ lent (now (out .entry)) (bytesFor (now (text .entry)))) ⌝ }
+    ensures { λ r. ⌜ (r ≡ word (PathRead (now (text .entry)) (now (out .entry))))
+        × (buffer (now (out .exit)) ≡ after (PathRead (now (text .entry)) (now (out .entry)))) ⌝ }
 {
     word::of_filled(path_read::reader::read_text(text, out))
 }
@@ -23,8 +19,8 @@ pub extern "C" fn burgee_path_read(text: &[u8], out: &mut [u8]) -> u64
 // Path bytes to path text.
 #[no_mangle]
 pub extern "C" fn burgee_path_write(bytes: &[u8], out: &mut [u8]) -> u64
-    ensures { λ r. ⌜ (r ≡ filledWord (answer (now (out .entry)) (textFor (now (bytes .entry)))))
-        × (now (out .exit) ≡ lent (now (out .entry)) (textFor (now (bytes .entry)))) ⌝ }
+    ensures { λ r. ⌜ (r ≡ word (PathWrite (now (bytes .entry)) (now (out .entry))))
+        × (buffer (now (out .exit)) ≡ after (PathWrite (now (bytes .entry)) (now (out .entry)))) ⌝ }
 {
     word::of_filled(path_write::write_text(bytes, out))
 }
@@ -32,7 +28,7 @@ pub extern "C" fn burgee_path_write(bytes: &[u8], out: &mut [u8]) -> u64
 // A rule table: accepted, or refused with its first faulty line.
 #[no_mangle]
 pub extern "C" fn burgee_table_check(table: &[u8]) -> u64
-    ensures { λ r. ⌜ r ≡ checkedWord (check (now (table .entry))) ⌝ }
+    ensures { λ r. ⌜ r ≡ word (TableCheck (now (table .entry))) ⌝ }
 {
     word::of_checked(table_check::check_table(table))
 }
@@ -40,7 +36,7 @@ pub extern "C" fn burgee_table_check(table: &[u8]) -> u64
 // How many groups of the table list the user, and the first of them.
 #[no_mangle]
 pub extern "C" fn burgee_group_count(table: &[u8], user: &[u8]) -> u64
-    ensures { λ r. ⌜ r ≡ countedWord (groupCount (now (table .entry)) (now (user .entry))) ⌝ }
+    ensures { λ r. ⌜ r ≡ word (GroupCount (now (table .entry)) (now (user .entry))) ⌝ }
 {
     word::of_counted(table_check::count_groups(table, user))
 }
@@ -54,7 +50,7 @@ pub extern "C" fn burgee_path_verdict(
     origin: &[u8],
     path: &[u8],
 ) -> u64
-    ensures { λ r. ⌜ r ≡ pathWord (pathVerdict (now (table .entry)) (now (user .entry)) mode (now (origin .entry)) (now (path .entry))) ⌝ }
+    ensures { λ r. ⌜ r ≡ word (PathVerdict (now (table .entry)) (now (user .entry)) mode (now (origin .entry)) (now (path .entry))) ⌝ }
 {
     word::of_path(verdict_call::path_verdict(table, user, mode, origin, path))
 }
@@ -68,7 +64,7 @@ pub extern "C" fn burgee_tree_verdict(
     origin: &[u8],
     path: &[u8],
 ) -> u64
-    ensures { λ r. ⌜ r ≡ treeWord (treeVerdict (now (table .entry)) (now (user .entry)) mode (now (origin .entry)) (now (path .entry))) ⌝ }
+    ensures { λ r. ⌜ r ≡ word (TreeVerdict (now (table .entry)) (now (user .entry)) mode (now (origin .entry)) (now (path .entry))) ⌝ }
 {
     word::of_tree(verdict_call::tree_verdict(table, user, mode, origin, path))
 }

@@ -1,14 +1,11 @@
 // The C boundary of RPC policies.
 ghost use mathlib.Core.Path.{_≡_};
-ghost use Rattle.policy.specs.Policy.{policyRefusal};
-ghost use Rattle.policy_check.specs.Answer.{checkOf};
-ghost use Rattle.rpc.specs.Call.{rpcVerdict};
-ghost use Rattle.burgee.specs.Word.{policyWord, rpcWord};
+ghost use Rattle.burgee.specs.Calls.{PolicyCheck, RpcVerdict, word};
 
 // A policy: accepted or refused.
 #[no_mangle]
 pub extern "C" fn burgee_policy_check(policy: &[u8]) -> u64
-    ensures { λ r. ⌜ r ≡ policyWord (checkOf (policyRefusal (now (policy .entry)))) ⌝ }
+    ensures { λ r. ⌜ r ≡ word (PolicyCheck (now (policy .entry))) ⌝ }
 {
     crate::word::of_policy(policy_check::check::check_policy(policy))
 }
@@ -21,7 +18,7 @@ pub extern "C" fn burgee_rpc_verdict(
     path: &[u8],
     headers: &[u8],
 ) -> u64
-    ensures { λ r. ⌜ r ≡ rpcWord (rpcVerdict (now (policy .entry)) (now (identity .entry)) (now (path .entry)) (now (headers .entry))) ⌝ }
+    ensures { λ r. ⌜ r ≡ word (RpcVerdict (now (policy .entry)) (now (identity .entry)) (now (path .entry)) (now (headers .entry))) ⌝ }
 {
     crate::word::of_rpc(rpc_call::verdict::rpc_verdict(policy, identity, path, headers))
 }

@@ -1,8 +1,6 @@
 // The C boundary of the probes, which judge a request on what is in force: a record's five numbers, the store, and a request.
 ghost use mathlib.Core.Path.{_≡_};
-ghost use Rattle.rotation_probe.specs.Probe.{probePath, probeTree};
-ghost use Rattle.rotation_probe.specs.Rpc.{probeRpc};
-ghost use Rattle.burgee.specs.Word.{pathWord, treeWord, rpcProbeWord};
+ghost use Rattle.burgee.specs.Calls.{ProbePath, ProbeTree, ProbeRpc, word};
 ghost use Rattle.burgee.specs.Record.{recordOf};
 use rotation::Record;
 
@@ -32,7 +30,7 @@ pub extern "C" fn burgee_probe_path(
     origin: &[u8],
     path: &[u8],
 ) -> u64
-    ensures { λ r. ⌜ r ≡ pathWord (probePath (recordOf kind «live_slot» «live_len» rotating «candidate_len»)
+    ensures { λ r. ⌜ r ≡ word (ProbePath (recordOf kind «live_slot» «live_len» rotating «candidate_len»)
         (now (store .entry)) (now (user .entry)) mode (now (origin .entry)) (now (path .entry))) ⌝ }
 {
     let r = record_of(kind, live_slot, live_len, rotating, candidate_len);
@@ -53,7 +51,7 @@ pub extern "C" fn burgee_probe_tree(
     origin: &[u8],
     path: &[u8],
 ) -> u64
-    ensures { λ r. ⌜ r ≡ treeWord (probeTree (recordOf kind «live_slot» «live_len» rotating «candidate_len»)
+    ensures { λ r. ⌜ r ≡ word (ProbeTree (recordOf kind «live_slot» «live_len» rotating «candidate_len»)
         (now (store .entry)) (now (user .entry)) mode (now (origin .entry)) (now (path .entry))) ⌝ }
 {
     let r = record_of(kind, live_slot, live_len, rotating, candidate_len);
@@ -73,7 +71,7 @@ pub extern "C" fn burgee_probe_rpc(
     path: &[u8],
     headers: &[u8],
 ) -> u64
-    ensures { λ r. ⌜ r ≡ rpcProbeWord (probeRpc (recordOf kind «live_slot» «live_len» rotating «candidate_len»)
+    ensures { λ r. ⌜ r ≡ word (ProbeRpc (recordOf kind «live_slot» «live_len» rotating «candidate_len»)
         (now (store .entry)) (now (identity .entry)) (now (path .entry)) (now (headers .entry))) ⌝ }
 {
     let r = record_of(kind, live_slot, live_len, rotating, candidate_len);

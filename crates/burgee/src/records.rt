@@ -4,6 +4,7 @@ ghost use lib.ListN.{length};
 ghost use Rattle.rotation.specs.Calls.{start, upload, uploadStore, finalize, close};
 ghost use Rattle.rotation_upload.specs.Offered.{offeredCheck};
 ghost use Rattle.burgee.specs.Record.{answered};
+ghost use Rattle.burgee.specs.Calls.{Start, Upload, Finalize, Close, held, word, after};
 use rotation::Record;
 use rotation::Stepped;
 
@@ -54,8 +55,8 @@ pub fn upload_step(r: Record, store: &mut [u8], text: &[u8]) -> Answered
 // A rotation begins.
 #[no_mangle]
 pub extern "C" fn burgee_start(rec: &mut Record, store: &[u8]) -> u64
-    ensures { λ w. ⌜ (w ≡ answered (start (now (rec .entry)) (length (now (store .entry)))) .word)
-        × (now (rec .exit) ≡ answered (start (now (rec .entry)) (length (now (store .entry)))) .next) ⌝ }
+    ensures { λ w. ⌜ (w ≡ word (Start (now (rec .entry)) (now (store .entry))))
+        × (held (now (rec .exit)) (now (store .entry)) ≡ after (Start (now (rec .entry)) (now (store .entry)))) ⌝ }
 {
     let a = start_step(*rec, store.len());
     let word = a.word;
@@ -69,9 +70,8 @@ pub extern "C" fn burgee_start(rec: &mut Record, store: &[u8]) -> u64
 // A text is tried: the one call that stores to the slots.
 #[no_mangle]
 pub extern "C" fn burgee_upload(rec: &mut Record, store: &mut [u8], text: &[u8]) -> u64
-    ensures { λ w. ⌜ (w ≡ answered (upload offeredCheck (now (rec .entry)) (length (now (store .entry))) (now (text .entry))) .word)
-        × (now (rec .exit) ≡ answered (upload offeredCheck (now (rec .entry)) (length (now (store .entry))) (now (text .entry))) .next)
-        × (now (store .exit) ≡ uploadStore offeredCheck (now (rec .entry)) (now (store .entry)) (now (text .entry))) ⌝ }
+    ensures { λ w. ⌜ (w ≡ word (Upload (now (rec .entry)) (now (store .entry)) (now (text .entry))))
+        × (held (now (rec .exit)) (now (store .exit)) ≡ after (Upload (now (rec .entry)) (now (store .entry)) (now (text .entry)))) ⌝ }
 {
     let a = upload_step(*rec, store, text);
     let word = a.word;
@@ -85,8 +85,8 @@ pub extern "C" fn burgee_upload(rec: &mut Record, store: &mut [u8], text: &[u8])
 // The candidate becomes the live text.
 #[no_mangle]
 pub extern "C" fn burgee_finalize(rec: &mut Record, store: &[u8]) -> u64
-    ensures { λ w. ⌜ (w ≡ answered (finalize (now (rec .entry)) (length (now (store .entry)))) .word)
-        × (now (rec .exit) ≡ answered (finalize (now (rec .entry)) (length (now (store .entry)))) .next) ⌝ }
+    ensures { λ w. ⌜ (w ≡ word (Finalize (now (rec .entry)) (now (store .entry))))
+        × (held (now (rec .exit)) (now (store .entry)) ≡ after (Finalize (now (rec .entry)) (now (store .entry)))) ⌝ }
 {
     let a = finalize_step(*rec, store.len());
     let word = a.word;
@@ -100,8 +100,8 @@ pub extern "C" fn burgee_finalize(rec: &mut Record, store: &[u8]) -> u64
 // The candidate is dropped.
 #[no_mangle]
 pub extern "C" fn burgee_close(rec: &mut Record, store: &[u8]) -> u64
-    ensures { λ w. ⌜ (w ≡ answered (close (now (rec .entry)) (length (now (store .entry)))) .word)
-        × (now (rec .exit) ≡ answered (close (now (rec .entry)) (length (now (store .entry)))) .next) ⌝ }
+    ensures { λ w. ⌜ (w ≡ word (Close (now (rec .entry)) (now (store .entry))))
+        × (held (now (rec .exit)) (now (store .entry)) ≡ after (Close (now (rec .entry)) (now (store .entry)))) ⌝ }
 {
     let a = close_step(*rec, store.len());
     let word = a.word;

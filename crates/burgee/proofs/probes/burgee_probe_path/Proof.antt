@@ -2,10 +2,12 @@
 use borrow.Author.Needs.{needs}
 use mathlib.Core.Path.{ap, _∙_}
 use Rattle.burgee.specs.Word.{pathWord}
+use Rattle.burgee.specs.Calls.{outcome}
 use Rattle.burgee.proofs.probes.burgee_probe_path.Statement.{statement}
 use Rattle.burgee.proofs.probes.burgee_probe_path.Tie as tie
 
 returns : tie.Need-returns
+unfolding outcome
 returns c =
     let told = rw (c .before .before .record-of .ensures) at (c .before .probe-path .ensures) in
     c .of-path .ensures ∙ ap pathWord told

@@ -2,10 +2,12 @@
 use borrow.Author.Needs.{needs}
 use mathlib.Core.Path.{ap, _∙_}
 use Rattle.burgee.specs.Word.{rpcProbeWord}
+use Rattle.burgee.specs.Calls.{outcome}
 use Rattle.burgee.proofs.probes.burgee_probe_rpc.Statement.{statement}
 use Rattle.burgee.proofs.probes.burgee_probe_rpc.Tie as tie
 
 returns : tie.Need-returns
+unfolding outcome
 returns c =
     let told = rw (c .before .before .record-of .ensures) at (c .before .probe-rpc .ensures) in
     c .of-rpc-probe .ensures ∙ ap rpcProbeWord told

@@ -47,6 +47,7 @@ use denote.Exit.{yes}
 use Rattle.rotation.specs.Calls.{upload, uploadStore}
 use Rattle.rotation_upload.specs.Offered.{offeredCheck}
 use Rattle.burgee.specs.Record.{answered}
+use Rattle.burgee.specs.Calls.{Upload, held, word, after, outcome}
 use Rattle.rotation.specs.declared.Record.{Record}
 use Rattle.burgee.specs.declared.records.Answered.{Answered}
 use Rattle.burgee.proofs.Kept.{upload-keeps}
@@ -137,6 +138,12 @@ module _ {M : Type 1} (𝓤 : URA M) (H : Heap 𝓤) (A : Atoms 𝓤) (W : Given
       ‵ (fobs γ (T.the-row .coded .code h′)) ∷ ‵ (fbor κ (Body (mem T.the-row) b o γ)) ∷ ‵ (flft κ q) ∷
       (‵ (flft κ₁ q₁) ⊛ ‵ (flft κ₂ q₂) ⊛ ‵ ftrue) ∷ ‵ (finally u8 (s .name) zs) ∷ ‵ Own ∷ []
 
+  told : {w : ℕ} {h′ : Record} {zs : List ℕ} → w ≡ answered (upload offeredCheck h n (t .now)) .word → h′ ≡ answered (upload offeredCheck h n (t .now)) .next
+      → zs ≡ uploadStore offeredCheck h (s .now) (t .now)
+      → (w ≡ word (Upload h (s .now) (t .now))) × (held h′ zs ≡ after (Upload h (s .now) (t .now)))
+  unfolding outcome
+  told ew eh ez = (ew, rw (eh, ez))
+
   exits : (w : ℕ) (h′ : Record) (zs : List ℕ) → w ≡ answered (upload offeredCheck h n (t .now)) .word → h′ ≡ answered
       (upload offeredCheck h n (t .now)) .next → zs ≡ uploadStore offeredCheck h (s .now) (t .now) → length zs ≡ n → w <
       2 ^ 64 → ent 𝓤 (⋆ 𝓤 H A (Left h′ zs)) (Post (vint w64 w))
@@ -144,7 +151,7 @@ module _ {M : Type 1} (𝓤 : URA M) (H : Heap 𝓤) (A : Atoms 𝓤) (W : Given
       qed W (Left h′ zs) ∵
       suffices ! _ (ends-at 𝓤 H A f.ended stayed (f.clauses 𝓤 H A at-mem run) W
       (((κ, (κ₁, (κ₂, tt))), (q, (q₁, (q₂, tt))), bounds, x, at), tt) (vint w64 w) w (h′, (zs, (tt, tt))) (tt, (l, (tt, tt)))) $
-      says ! (ew, eh, ez) $
+      says ! (told ew eh ez) $
       move ! (2 ∷ 3 ∷ []) $ join ! $ frame ! $ feqI ! (List Val) (vptr b o ∷ []) (vptr b o ∷ []) refl $ fjoin3 ! $
       nothing ! $ move ! (3 ∷ 0 ∷ []) $ fjoin ! $ move ! (2 ∷ 0 ∷ []) $ fjoin ! $ move ! (1 ∷ 0 ∷ []) $ fjoin ! $ frame ! $
       owned ! u64 (Is u64) (uint-makes 𝓤 H A W w64) w _ (refl, fits) $ done !
