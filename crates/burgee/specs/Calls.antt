@@ -38,6 +38,10 @@ pub data PublicCall : Type 0 where
   ProbeTree : (rec : Record) (store user : Str) (mode : ℕ) (origin path : Str) → PublicCall
   ProbeRpc : (rec : Record) (store identity path headers : Str) → PublicCall
 
+-- the record of a probe's five numbers
+abbrev pub recordOf : ℕ → ℕ → ℕ → ℕ → ℕ → Record
+recordOf kind slot len rotating candidate = record { kind = kind; «live_slot» = slot; «live_len» = len; rotating = rotating; «candidate_len» = candidate }
+
 -- what a call is lent to store to: a record, if there is one, and the bytes of a buffer or of a store
 pub record Loan : Type 0 where
   pub rec : Option Record

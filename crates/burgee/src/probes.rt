@@ -1,7 +1,6 @@
 // The C boundary of the probes, which judge a request on what is in force: a record's five numbers, the store, and a request.
 ghost use mathlib.Core.Path.{_≡_};
-ghost use Rattle.burgee.specs.Calls.{ProbePath, ProbeTree, ProbeRpc, word};
-ghost use Rattle.burgee.specs.Record.{recordOf};
+ghost use Rattle.burgee.specs.Calls.{ProbePath, ProbeTree, ProbeRpc, recordOf, word};
 use rotation::Record;
 
 fn record_of(kind: u32, live_slot: u32, live_len: u32, rotating: u32, candidate_len: u32) -> Record

@@ -14,7 +14,8 @@ use Rattle.table.specs.declared.Checked.the-variants.{Accepted, Refused}
 use Rattle.rotation.specs.Calls.{stepped, start, upload, storedBy, uploadStore, finalize, close}
 use Rattle.rotation.specs.declared.Record.{Record}
 use Rattle.burgee.specs.Word.{upper, filledWord, checkedWord}
-use Rattle.promises.specs.AnyBytes.{PathRead, PathWrite, TableCheck, GroupCount, PathVerdict, TreeVerdict, PolicyCheck, RpcVerdict, Start, Upload, Finalize, Close, ProbePath, ProbeTree, ProbeRpc, outcome, AnyBytes}
+use Rattle.burgee.specs.Calls.{buffer, held, PathRead, PathWrite, TableCheck, GroupCount, PathVerdict, TreeVerdict, PolicyCheck, RpcVerdict, Start, Upload, Finalize, Close, ProbePath, ProbeTree, ProbeRpc, outcome}
+use Rattle.promises.specs.AnyBytes.{AnyBytes}
 
 -- a length's word has nothing in bits 0 to 7
 length-word : (n : ℕ) → upper n % 2 ^ 8 ≡ 0
@@ -35,10 +36,10 @@ unfolding stepped storedBy checkedWord
 store-kept Accepted r next store text bad = absurd (bad refl)
 store-kept (Refused n l) r next store text bad = refl
 
-out-kept : (x y : Str) → x ≡ y → _≡_ {A = Option Record × Str} (none, x) (none, y)
+out-kept : (x y : Str) → x ≡ y → buffer x ≡ buffer y
 out-kept x y e = rw e
 
-both-kept : (r s : Record) (x y : Str) → r ≡ s → x ≡ y → _≡_ {A = Option Record × Str} (some r, x) (some s, y)
+both-kept : (r s : Record) (x y : Str) → r ≡ s → x ≡ y → held r x ≡ held s y
 both-kept r s x y e f = rw (e, f)
 
 pub any-bytes : AnyBytes

@@ -1,4 +1,6 @@
 pub mod AnyBytes
+pub mod Fits
+pub mod Words
 pub mod PathReturn
 pub mod Groups
 pub mod Verdicts

@@ -1,4 +1,5 @@
 pub mod AnyBytes
+pub mod Words
 pub mod PathReturn
 pub mod First
 pub mod Groups

@@ -244,11 +244,18 @@ keys-once (group n ∷ es) h = keys-once es (λ e m. h e (List·Memᴰ·tail m))
 keys-once (member n ∷ es) h = keys-once es (λ e m. h e (List·Memᴰ·tail m))
 keys-once (rule r ∷ es) h = on-cons (λ (x : Rule). keyTwice (x .path) ≡ false) (keys-of r (h (rule r) (List·Memᴰ·head refl))) (keys-once es (λ e m. h e (List·Memᴰ·tail m)))
 
-pub accepted-orderly : (x : Str) → check x ≡ Accepted → Orderly (tableOf x)
-unfolding first
-accepted-orderly x e =
-    let t = told-table x .2 in
+accepted-fine : (x : Str) → check x ≡ Accepted → Fine first (entries (lines x))
+accepted-fine x e =
     let o = check-opens x e in
     let a = clean-readable first (lines x) (o .2) in
-    let f = fine first (entries (lines x)) nothing-before (sym (clean-entries first (lines x) a) ∙ o .2) in
-    record { ids = rw t (f .whole .new-ids); keys = rw t (keys-once (entries (lines x)) (f .own)) }
+    fine first (entries (lines x)) nothing-before (sym (clean-entries first (lines x) a) ∙ o .2)
+
+-- what every accepted table has: no more groups, members and rules than the limits, and none twice
+pub accepted-whole : (x : Str) → check x ≡ Accepted → Whole (tableOf x .groups) (tableOf x .members) (tableOf x .rules)
+unfolding first
+accepted-whole x e = let t = told-table x in rw (t .0, t .1, t .2) (accepted-fine x e .whole)
+
+pub accepted-orderly : (x : Str) → check x ≡ Accepted → Orderly (tableOf x)
+accepted-orderly x e =
+    let t = told-table x .2 in
+    record { ids = accepted-whole x e .new-ids; keys = rw t (keys-once (entries (lines x)) (accepted-fine x e .own)) }

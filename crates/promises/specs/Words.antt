@@ -1,0 +1,168 @@
+-- The answer word read back: the header's readers, as definitions, give each call's answer from its word, and of a refusal they give the safe value.
+-- So nothing of an answer is left out of its word, and no two answers of a call share one.
+use Prim.Native.Nat.{ℕ, zero, suc, _/_, _%_, _^_}
+use mathlib.Core.Path.{_≡_}
+use mathlib.Core.Bool.{Bool, false}
+use mathlib.Core.Option.{Option, none, some}
+use lib.Dec.{eqb, leb}
+use lib.ListN.{length}
+use Rattle.text.specs.Test.{_and_, if_then_else_}
+use Rattle.text.specs.String.{Str}
+use Rattle.path_read.specs.Calls.{bytesFor, textFor, answer}
+use Rattle.path_read.specs.declared.Filled.{Filled}
+use Rattle.path_read.specs.declared.Filled.the-variants as filled
+use Rattle.table.specs.Text.{check}
+use Rattle.table.specs.Group.{groupCount}
+use Rattle.table.specs.declared.Checked.{Checked}
+use Rattle.table.specs.declared.Checked.the-variants as checked
+use Rattle.table.specs.declared.Counted.{Counted}
+use Rattle.table.specs.declared.Counted.the-variants as counted
+use Rattle.verdict_request.specs.Calls.{pathVerdict, treeVerdict}
+use Rattle.verdict_request.specs.declared.PathAnswer.{PathAnswer}
+use Rattle.verdict_request.specs.declared.PathAnswer.the-variants as path
+use Rattle.verdict_request.specs.declared.TreeAnswer.{TreeAnswer}
+use Rattle.verdict_request.specs.declared.TreeAnswer.the-variants as trees
+use Rattle.policy.specs.Policy.{policyRefusal}
+use Rattle.policy_check.specs.Answer.{checkOf}
+use Rattle.policy_check.specs.declared.check.Check.{Check}
+use Rattle.policy_check.specs.declared.check.Check.the-variants as policy
+use Rattle.rpc.specs.Call.{rpcVerdict}
+use Rattle.rpc.specs.declared.verdict.Verdict.{Verdict}
+use Rattle.rpc.specs.declared.verdict.Verdict.the-variants as rpc
+use Rattle.rotation.specs.Calls.{start, upload, finalize, close}
+use Rattle.rotation.specs.declared.Record.{Record}
+use Rattle.rotation_upload.specs.Offered.{offeredCheck}
+use Rattle.rotation_probe.specs.Probe.{probePath, probeTree}
+use Rattle.rotation_probe.specs.Rpc.{probeRpc}
+use Rattle.rotation_probe.specs.declared.rpcs.RpcAnswer.{RpcAnswer}
+use Rattle.rotation_probe.specs.declared.rpcs.RpcAnswer.the-variants as probe
+use Rattle.burgee.specs.Calls.{PathRead, PathWrite, TableCheck, GroupCount, PathVerdict, TreeVerdict, PolicyCheck, RpcVerdict, word}
+use Rattle.burgee.specs.Calls.{Start, Upload, Finalize, Close, ProbePath, ProbeTree, ProbeRpc}
+
+-- ---- the header's readers
+
+-- burgee_answer_refusal: 0 where the call was not refused
+abbrev pub refusal : ℕ → ℕ
+refusal w = w % 2 ^ 8
+
+-- burgee_answer_line: with numbers 1 to 9
+unfoldable pub line : ℕ → ℕ
+line w = if leb 1 (refusal w) and leb (refusal w) 9 then w / 2 ^ 8 % 2 ^ 32 else 0
+
+-- burgee_answer_accepted: the bits from 8 on; 0 of a refusal
+unfoldable pub accepted : ℕ → ℕ
+accepted w = if eqb (refusal w) 0 then w / 2 ^ 8 else 0
+
+-- burgee_answer_length
+abbrev pub filledLength : ℕ → ℕ
+filledLength w = accepted w % 2 ^ 32
+
+-- burgee_answer_group_count
+abbrev pub count : ℕ → ℕ
+count w = accepted w % 2 ^ 8
+
+-- burgee_is_permitted, burgee_answer_action
+abbrev pub permitted : ℕ → Bool
+permitted w = eqb (accepted w % 2 ^ 8) 1
+
+-- burgee_answer_tree: 0 NONE, 1 ALL, 2 MIXED
+unfoldable pub tree : ℕ → ℕ
+tree w = if leb (accepted w % 2 ^ 8) 2 then accepted w % 2 ^ 8 else 0
+
+-- one less; none for 0, where C has -1
+unfoldable pub lessOne : ℕ → Option ℕ
+lessOne zero = none
+lessOne (suc n) = some n
+
+-- burgee_answer_rule, burgee_answer_first_group
+unfoldable pub number : ℕ → Option ℕ
+number w = lessOne (accepted w / 2 ^ 8 % 2 ^ 16)
+
+-- ---- an answer as the readers tell it
+
+-- by whether the call was refused
+abbrev told : {A : Type 0} → A → A → ℕ → A
+told refused given w = if eqb (refusal w) 0 then given else refused
+
+abbrev pub toldFilled : ℕ → Filled
+toldFilled w = told (filled.Refused (refusal w)) (filled.Length (filledLength w)) w
+
+abbrev pub toldChecked : ℕ → Checked
+toldChecked w = told (checked.Refused (refusal w) (line w)) checked.Accepted w
+
+unfoldable pub countedBy : ℕ → Option ℕ → Counted
+countedBy n none = counted.NoGroup
+countedBy n (some g) = counted.Count n (record { 0 = g })
+
+abbrev pub toldCounted : ℕ → Counted
+toldCounted w = told (counted.Declined (refusal w) (line w)) (countedBy (count w) (number w)) w
+
+unfoldable pub pathBy : Bool → Option ℕ → PathAnswer
+pathBy permits none = path.Default
+pathBy permits (some r) = if permits then path.Permit (record { 0 = r }) else path.Deny (record { 0 = r })
+
+abbrev pub toldPath : ℕ → PathAnswer
+toldPath w = told (path.Refused (refusal w) (line w)) (pathBy (permitted w) (number w)) w
+
+unfoldable pub mixedBy : Option ℕ → TreeAnswer
+mixedBy none = trees.None
+mixedBy (some r) = trees.Mixed (record { 0 = r })
+
+unfoldable pub treeBy : ℕ → Option ℕ → TreeAnswer
+treeBy n rule = if eqb n 1 then trees.All else if eqb n 2 then mixedBy rule else trees.None
+
+abbrev pub toldTree : ℕ → TreeAnswer
+toldTree w = told (trees.Refused (refusal w) (line w)) (treeBy (tree w) (number w)) w
+
+abbrev pub toldPolicy : ℕ → Check
+toldPolicy w = told (policy.Refused (refusal w)) policy.Accepted w
+
+unfoldable pub rpcBy : Bool → Option ℕ → Verdict
+rpcBy permits none = rpc.Default
+rpcBy permits (some r) = if permits then rpc.Permitted r else rpc.Denied r
+
+abbrev pub toldRpc : ℕ → Verdict
+toldRpc w = told (rpc.Refused (refusal w)) (rpcBy (permitted w) (number w)) w
+
+-- a permit that names no rule is factory's
+unfoldable pub probeBy : Bool → Option ℕ → RpcAnswer
+probeBy permits none = if permits then probe.PermitAll else probe.Judged rpc.Default
+probeBy permits (some r) = probe.Judged (rpcBy permits (some r))
+
+abbrev pub toldProbe : ℕ → RpcAnswer
+toldProbe w = told (probe.Judged (rpc.Refused (refusal w))) (probeBy (permitted w) (number w)) w
+
+-- ---- the promise
+
+-- each call's answer, from its word
+pub record Words : Type 0 where
+  pub path-read : (text out : Str) → toldFilled (word (PathRead text out)) ≡ answer out (bytesFor text)
+  pub path-write : (bytes out : Str) → toldFilled (word (PathWrite bytes out)) ≡ answer out (textFor bytes)
+  pub table-check : (table : Str) → toldChecked (word (TableCheck table)) ≡ check table
+  pub group-count : (table user : Str) → toldCounted (word (GroupCount table user)) ≡ groupCount table user
+  pub path-verdict : (table user : Str) (mode : ℕ) (origin path : Str)
+      → toldPath (word (PathVerdict table user mode origin path)) ≡ pathVerdict table user mode origin path
+  pub tree-verdict : (table user : Str) (mode : ℕ) (origin path : Str)
+      → toldTree (word (TreeVerdict table user mode origin path)) ≡ treeVerdict table user mode origin path
+  pub policy-check : (policy : Str) → toldPolicy (word (PolicyCheck policy)) ≡ checkOf (policyRefusal policy)
+  pub rpc-verdict : (policy identity path headers : Str)
+      → toldRpc (word (RpcVerdict policy identity path headers)) ≡ rpcVerdict policy identity path headers
+  pub started : (rec : Record) (store : Str) → toldChecked (word (Start rec store)) ≡ start rec (length store) .answer
+  pub uploaded : (rec : Record) (store text : Str)
+      → toldChecked (word (Upload rec store text)) ≡ upload offeredCheck rec (length store) text .answer
+  pub finalized : (rec : Record) (store : Str) → toldChecked (word (Finalize rec store)) ≡ finalize rec (length store) .answer
+  pub closed : (rec : Record) (store : Str) → toldChecked (word (Close rec store)) ≡ close rec (length store) .answer
+  pub probe-path : (rec : Record) (store user : Str) (mode : ℕ) (origin path : Str)
+      → toldPath (word (ProbePath rec store user mode origin path)) ≡ probePath rec store user mode origin path
+  pub probe-tree : (rec : Record) (store user : Str) (mode : ℕ) (origin path : Str)
+      → toldTree (word (ProbeTree rec store user mode origin path)) ≡ probeTree rec store user mode origin path
+  pub probe-rpc : (rec : Record) (store identity path headers : Str)
+      → toldProbe (word (ProbeRpc rec store identity path headers)) ≡ probeRpc rec store identity path headers
+
+-- of a refusal every reader gives the safe value: deny, NONE, no rule, no group, 0
+pub record Safe (w : ℕ) (refused : refusal w ≡ 0 → ⊥) : Type 0 where
+  pub denies : permitted w ≡ false
+  pub none-of-tree : tree w ≡ 0
+  pub unnumbered : number w ≡ none
+  pub uncounted : count w ≡ 0
+  pub unfilled : filledLength w ≡ 0
