@@ -212,11 +212,13 @@ r ≤ 255                 the same
 b = [0u8; 4]            a number by chance
 digits = [0u8; 16]      the digits of a number, as io makes them
 b < 256                 a byte, a bucket
+ltb b 256               a byte
 g < 256                 a group's number as it is stored, in a byte
 n < 16                  a hex digit
 Puts 16                 a creation time has 16 digits
 then 16                 the same
 refusal(r, n, 16)       a refusal number
+.refused 16             the same
 return 32               the same
 512 + (rule             MIXED, 2 from bit 8 of the answer word on
 STARTS: usize = 16384   a place's number has the start of its string in 14 bits: the layout of a word
@@ -233,7 +235,9 @@ words < 4               arguments of the command line
 4 <= t.len() - i        four bytes a turn of a hash
 f.len() < 4             a rule's kind, action, mode and subject
 (pathText p) ≤ 13520    a promise says the rules' own number
+(pathText p) ≡ 13520    the same
 (pathBytes p) ≤ 9377    the same
+(pathBytes p) ≡ 9377    the same
 END
 }
 

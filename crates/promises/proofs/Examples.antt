@@ -1,7 +1,6 @@
 -- The marked examples A to L, by computation.
-use mathlib.Core.Path.{_≡_, refl}
+use mathlib.Core.Path.{refl}
 use mathlib.Core.Bool.{xor}
-use mathlib.Core.List.{map}
 use Rattle.text.specs.Test.{_and_, _or_, if_then_else_, all, any, only, twice, absent, orNothing}
 use Rattle.text.specs.String.{same, more, before}
 use Rattle.text.specs.Frame.{_>>=_, ret, byte, run, string, times}
@@ -25,9 +24,9 @@ use Rattle.verdict.specs.Verdict.{concerns, applies, matches, decider, action, 
 use Rattle.verdict_request.specs.Calls.{badMode, badOrigin, requestRefusal, request, decidedBy, pathAnswer, pathVerdict, spread, treeAnswer, treeVerdict}
 use Rattle.text_affix.specs.Affix.{empty, begins, ends}
 use Rattle.rpc.specs.Pattern as pattern
-use Rattle.promises.specs.Examples.{Answer, examples}
+use Rattle.promises.specs.Examples.{examples, Examples}
 
-pub marked : map (λ (x : Answer × Answer). x .0) examples ≡ map (λ (x : Answer × Answer). x .1) examples
+pub marked : Examples
 unfolding xor _and_ _or_ if_then_else_ all any only twice same more before _>>=_ ret byte run string times key element
     path unsized keyOver elemOver overLimit outsideName outsideValue keyStray elemStray strayByte halfWild keyMisplaced
     elemMisplaced misplaced keyTwice leastRefusal pathRefusal goodPath whole readBytes literal until name item value

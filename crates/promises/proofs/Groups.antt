@@ -11,10 +11,10 @@ use Rattle.text.proofs.Tests.{by, clash}
 use Rattle.table.specs.Table.{Member}
 use Rattle.table.specs.Text.{check, tableOf}
 use Rattle.table.specs.Group.{lists, numbered, memberships, groupsOf, counted, badUser, countFor, groupCount}
-use Rattle.table.specs.declared.Checked.the-variants.{Accepted}
-use Rattle.table.specs.declared.Counted.the-variants.{Count}
+use Rattle.table.specs.declared.Checked.the-variants.{Accepted, Refused}
+use Rattle.table.specs.declared.Counted.the-variants.{Count, Declined}
 use Rattle.promises.specs.First.{First, here, later}
-use Rattle.promises.specs.Groups.{GroupPromise}
+use Rattle.promises.specs.Groups.{GroupPromise, CountRefusals}
 
 module _ (members : List Member) (user : Str) where
   abbrev listing : Str → Bool
@@ -58,3 +58,15 @@ module _ (x user : Str) (ok : check x ≡ Accepted) (fine : badUser user ≡ fal
             (r .0, answers ∙ count-of _ (r .1) (r .0) _ (r .2 ∙ ap (λ (k : ℕ). k ∷ r .1) (omega arith)) (as-many (t .members) user 0 (t .groups)), r .3);
         none = λ e. answers ∙ ap counted (no-number (t .members) user 0 (t .groups) e);
       }
+
+module _ (x user : Str) where
+  text-declined : (n l : ℕ) → check x ≡ Refused n l → groupCount x user ≡ Declined n l
+  unfolding groupCount countFor
+  text-declined n l e = rw e
+
+  user-declined : check x ≡ Accepted → badUser user ≡ true → groupCount x user ≡ Declined 20 0
+  unfolding groupCount countFor if_then_else_
+  user-declined e bad = rw (e, bad)
+
+  pub count-refusals : CountRefusals x user
+  count-refusals = record { text = text-declined; user-declined = user-declined }

@@ -1,101 +1,108 @@
 -- The probes' promise, kept.
 use mathlib.Core.Path.{_≡_, refl, ap, _∙_}
+use mathlib.Core.Bool.{true, false}
 use mathlib.Core.Option.{none, some}
 use Prim.Native.Nat.{ℕ}
 use native.Mathlib.Omega.{arith}
 use lib.ListN.{length}
-use borrow.Author.Tests.{eq-eqb}
+use borrow.Author.Tests.{eq-eqb, ne-eqb}
 use Rattle.text.specs.Test.{if_then_else_}
 use Rattle.text.specs.String.{Str}
 use Rattle.text.specs.Refusal.{clear}
-use Rattle.verdict_request.specs.Calls.{requestRefusal, decidedBy, pathAnswer, pathVerdict, spread, treeAnswer, treeVerdict}
-use Rattle.verdict_request.specs.declared.PathAnswer.the-variants.{Default}
-use Rattle.verdict_request.specs.declared.TreeAnswer.the-variants.{None}
-use Rattle.rpc.specs.Request.{rpcRefusal}
-use Rattle.rpc.specs.Call.{rpcVerdict}
-use Rattle.rotation.specs.State.{recordRefusal, textIn, inForce}
+use Rattle.verdict_request.specs.Calls.{decidedBy, pathAnswer, spread, treeAnswer}
+use Rattle.rotation.specs.State.{given, shortStore, badRecord, recordRefusal, candidateSlot, textIn, inForce}
 use Rattle.rotation.specs.Calls.{otherKind, probeRefusal}
 use Rattle.rotation.specs.Machine.{Lent, forceText, Whole}
 use Rattle.rotation.specs.declared.InForce.{InForce}
 use Rattle.rotation.specs.declared.InForce.the-variants.{Text, Factory}
-use Rattle.rotation_probe.specs.Probe.{probed, pathOn, pathRefused, probePath, treeOn, treeRefused, probeTree}
-use Rattle.rotation_probe.specs.Rpc.{rpcRefused, factoryRpc, rpcOn, probeRpc}
-use Rattle.rotation_probe.specs.declared.rpcs.RpcAnswer.the-variants.{PermitAll, Judged}
-use Rattle.promises.specs.Probes.{TableProbePromise, PolicyProbePromise}
+use Rattle.rotation_probe.specs.Probe.{probed, pathOn, probePath, treeOn, probeTree}
+use Rattle.rotation_probe.specs.Rpc.{factoryRpc, rpcOn, probeRpc}
+use Rattle.promises.specs.Probes.{Probe, Taken, Answers, pathProbe, treeProbe, rpcProbe, TableProbePromise, PolicyProbePromise}
 
--- ---- what is in force is judged
+-- ---- one proof for all three
 
-module _ (l : Lent) (w : Whole l) (kind : ℕ) (same : l .state .kind ≡ kind) where
-  accepted : probeRefusal kind (l .state) (length (l .store)) ≡ clear
-  unfolding probeRefusal recordRefusal otherKind if_then_else_
-  accepted = rw (w .long, w .good, eq-eqb _ _ same)
+-- how a probe judges what is in force
+record Judges {A : Type 0} (p : Probe A) (store : Str) (judged : InForce → A) : Type 0 where
+  text : (slot len : ℕ) → judged (Text slot len) ≡ p .verdict (textIn store slot len)
+  refusal : ¬ (p .request ≡ clear) → judged Factory ≡ p .refused (p .request)
+  factory : p .request ≡ clear → judged Factory ≡ p .factory
 
-  judges : {A : Type 0} (refused : ℕ → A) (judged : InForce → A) → probed refused judged kind (l .state) (length (l .store)) ≡ judged (inForce (l .state))
+module _ {A : Type 0} (p : Probe A) (l : Lent) (judged : InForce → A) (j : Judges p (l .store) judged) where
+  abbrev answer : A
+  answer = probed (p .refused) judged (p .kind) (l .state) (length (l .store))
+
+  abbrev number : ℕ
+  number = probeRefusal (p .kind) (l .state) (length (l .store))
+
+  -- the record's refusal, and what is judged without one
+  refuses : (n : ℕ) → number ≡ n → ¬ (n ≡ clear) → answer ≡ p .refused n
   unfolding probed if_then_else_
-  judges refused judged = rw accepted
+  refuses n e h = rw (e, ne-eqb n clear h)
 
--- ---- a text, and factory
+  eleven : shortStore (length (l .store)) ≡ true → number ≡ 11
+  unfolding probeRefusal recordRefusal if_then_else_
+  eleven e = rw e
 
-module _ {A : Type 0} (judged : InForce → A) (store : Str) where
-  -- how the text in force is judged
-  by-text : (on : Str → A) → ((slot len : ℕ) → judged (Text slot len) ≡ on (textIn store slot len)) → (f : InForce) (text : Str) → forceText store f ≡ some text → judged f ≡ on text
+  fifteen : shortStore (length (l .store)) ≡ false → badRecord (l .state) ≡ true → number ≡ 15
+  unfolding probeRefusal recordRefusal if_then_else_
+  fifteen e f = rw (e, f)
+
+  sixteen : Whole l → ¬ (l .state .kind ≡ p .kind) → number ≡ 16
+  unfolding probeRefusal recordRefusal otherKind if_then_else_
+  sixteen w other = rw (w .long, w .good, ne-eqb (l .state .kind) (p .kind) other)
+
+  judges : Taken (p .kind) l → answer ≡ judged (inForce (l .state))
+  unfolding probed probeRefusal recordRefusal otherKind if_then_else_
+  judges t = rw (t .whole .long, t .whole .good, eq-eqb _ _ (t .same-kind))
+
+  by-text : (f : InForce) (text : Str) → forceText (l .store) f ≡ some text → judged f ≡ p .verdict text
   unfolding forceText
-  by-text on e (Text slot len) text h = let i : textIn store slot len ≡ text = cc in e slot len ∙ ap on i
-  by-text on e Factory text h = let z : _≡_ {A = ℕ} 0 1 = cc in absurd (omega arith)
+  by-text (Text slot len) text h = let i : textIn (l .store) slot len ≡ text = cc in j .text slot len ∙ ap (p .verdict) i
+  by-text Factory text h = let z : _≡_ {A = ℕ} 0 1 = cc in absurd (omega arith)
 
-  by-factory : (f : InForce) → forceText store f ≡ none → judged f ≡ judged Factory
+  by-factory : (f : InForce) → forceText (l .store) f ≡ none → judged f ≡ judged Factory
   unfolding forceText
   by-factory (Text slot len) h = let z : _≡_ {A = ℕ} 0 1 = cc in absurd (omega arith)
   by-factory Factory h = refl
 
-module _ (l : Lent) (w : Whole l) (table : l .state .kind ≡ 2) (user : Str) (mode : ℕ) (origin path : Str) where
-  path-judged : probePath (l .state) (l .store) user mode origin path ≡ pathOn (l .store) user mode origin path (inForce (l .state))
-  unfolding probePath
-  path-judged = judges l w 2 table pathRefused (pathOn (l .store) user mode origin path)
+  candidate : given (l .state .«candidate_len») ≡ true → inForce (l .state) ≡ Text (candidateSlot (l .state)) (l .state .«candidate_len»)
+  unfolding inForce if_then_else_
+  candidate e = rw e
 
-  tree-judged : probeTree (l .state) (l .store) user mode origin path ≡ treeOn (l .store) user mode origin path (inForce (l .state))
-  unfolding probeTree
-  tree-judged = judges l w 2 table treeRefused (treeOn (l .store) user mode origin path)
+  answers : Answers p l answer
+  answers = record {
+    short-store = λ e. refuses 11 (eleven e) (λ z. omega arith);
+    bad-record = λ e f. refuses 15 (fifteen e f) (λ z. omega arith);
+    other-kind = λ w other. refuses 16 (sixteen w other) (λ z. omega arith);
+    on-text = λ t text h. judges t ∙ by-text (inForce (l .state)) text h;
+    on-candidate = λ t e. judges t ∙ ap judged (candidate e) ∙ j .text _ _;
+    request-refused = λ t h bad. judges t ∙ by-factory (inForce (l .state)) h ∙ j .refusal bad;
+    on-factory = λ t h fine. judges t ∙ by-factory (inForce (l .state)) h ∙ j .factory fine;
+  }
 
-  path-none : requestRefusal user mode origin path ≡ clear → pathOn (l .store) user mode origin path Factory ≡ Default
+-- ---- the three probes
+
+module _ (user : Str) (mode : ℕ) (origin text : Str) (l : Lent) where
+  path-judges : Judges (pathProbe user mode origin text) (l .store) (pathOn (l .store) user mode origin text)
   unfolding pathOn pathAnswer decidedBy if_then_else_
-  path-none e = rw e
+  path-judges = record { text = λ slot len. refl; refusal = λ bad. rw (ne-eqb _ _ bad); factory = λ fine. rw fine }
 
-  tree-none : requestRefusal user mode origin path ≡ clear → treeOn (l .store) user mode origin path Factory ≡ None
+  tree-judges : Judges (treeProbe user mode origin text) (l .store) (treeOn (l .store) user mode origin text)
   unfolding treeOn treeAnswer spread if_then_else_
-  tree-none e = rw e
+  tree-judges = record { text = λ slot len. refl; refusal = λ bad. rw (ne-eqb _ _ bad); factory = λ fine. rw fine }
 
-  path-some : (slot len : ℕ) → pathOn (l .store) user mode origin path (Text slot len) ≡ pathVerdict (textIn (l .store) slot len) user mode origin path
-  unfolding pathOn
-  path-some slot len = refl
-
-  tree-some : (slot len : ℕ) → treeOn (l .store) user mode origin path (Text slot len) ≡ treeVerdict (textIn (l .store) slot len) user mode origin path
-  unfolding treeOn
-  tree-some slot len = refl
-
-  pub table-probes : TableProbePromise l w table user mode origin path
+  pub table-probes : TableProbePromise user mode origin text l
+  unfolding probePath probeTree
   table-probes = record {
-    path-text = λ text h. path-judged ∙ by-text (pathOn (l .store) user mode origin path) (l .store) (λ (t : Str). pathVerdict t user mode origin path) path-some (inForce (l .state)) text h;
-    tree-text = λ text h. tree-judged ∙ by-text (treeOn (l .store) user mode origin path) (l .store) (λ (t : Str). treeVerdict t user mode origin path) tree-some (inForce (l .state)) text h;
-    path-factory = λ h e. path-judged ∙ by-factory (pathOn (l .store) user mode origin path) (l .store) (inForce (l .state)) h ∙ path-none e;
-    tree-factory = λ h e. tree-judged ∙ by-factory (treeOn (l .store) user mode origin path) (l .store) (inForce (l .state)) h ∙ tree-none e;
+    path-probe = answers (pathProbe user mode origin text) l _ path-judges;
+    tree-probe = answers (treeProbe user mode origin text) l _ tree-judges;
   }
 
-module _ (l : Lent) (w : Whole l) (policy : l .state .kind ≡ 1) (identity path headers : Str) where
-  rpc-judged : probeRpc (l .state) (l .store) identity path headers ≡ rpcOn (l .store) identity path headers (inForce (l .state))
-  unfolding probeRpc
-  rpc-judged = judges l w 1 policy rpcRefused (rpcOn (l .store) identity path headers)
-
-  rpc-none : rpcRefusal identity path headers ≡ clear → rpcOn (l .store) identity path headers Factory ≡ PermitAll
+module _ (identity path headers : Str) (l : Lent) where
+  rpc-judges : Judges (rpcProbe identity path headers) (l .store) (rpcOn (l .store) identity path headers)
   unfolding rpcOn factoryRpc if_then_else_
-  rpc-none e = rw e
+  rpc-judges = record { text = λ slot len. refl; refusal = λ bad. rw (ne-eqb _ _ bad); factory = λ fine. rw fine }
 
-  rpc-some : (slot len : ℕ) → rpcOn (l .store) identity path headers (Text slot len) ≡ Judged (rpcVerdict (textIn (l .store) slot len) identity path headers)
-  unfolding rpcOn
-  rpc-some slot len = refl
-
-  pub policy-probes : PolicyProbePromise l w policy identity path headers
-  policy-probes = record {
-    rpc-text = λ text h. rpc-judged ∙ by-text (rpcOn (l .store) identity path headers) (l .store) (λ (t : Str). Judged (rpcVerdict t identity path headers)) rpc-some (inForce (l .state)) text h;
-    rpc-factory = λ h e. rpc-judged ∙ by-factory (rpcOn (l .store) identity path headers) (l .store) (inForce (l .state)) h ∙ rpc-none e;
-  }
+  pub policy-probes : PolicyProbePromise identity path headers l
+  unfolding probeRpc
+  policy-probes = record { rpc-probe = answers (rpcProbe identity path headers) l _ rpc-judges }

@@ -12,8 +12,8 @@ use Rattle.text.specs.Refusal.{_when_else_, clear}
 use Rattle.table.specs.Text.{unless, isAccepted}
 use Rattle.table.specs.declared.Checked.{Checked}
 use Rattle.table.specs.declared.Checked.the-variants.{Accepted, Refused}
-use Rattle.rotation.specs.State.{slotStart, candidateSlot}
-use Rattle.rotation.specs.Calls.{started, uploaded, finalized, closed, stepped, start, upload, storedBy, uploadStore, finalize, close}
+use Rattle.rotation.specs.State.{shortStore, badRecord, recordRefusal, slotStart, candidateSlot}
+use Rattle.rotation.specs.Calls.{startRefusal, offRefusal, finalizeRefusal, started, uploaded, finalized, closed, stepped, start, uploadAnswer, upload, storedBy, uploadStore, finalize, close}
 use Rattle.rotation.specs.Machine.{Call, Start, Upload, Finalize, Close, Machine, machineRefusal, machineNext, Lent, machineOf, Whole, offered, machineAnswer, machineStep, answers, leaves, Follows, end}
 use Rattle.rotation.specs.declared.Record.{Record}
 use Rattle.rotation.proofs.Follows.{stepped-answer, follows, machineEnd, same-end, machineForce, same-force}
@@ -40,6 +40,16 @@ module _ (a : Checked) (r next : Record) where
   refused-store : (store text : Str) (number line : ℕ) → stepped a r next .answer ≡ Refused number line → storedBy a r store text ≡ store
   unfolding storedBy
   refused-store store text number line e = let i : a ≡ Refused number line = sym (stepped-answer a r next) ∙ e in rw i
+
+-- the numbers that every call shares
+module _ (r : Record) (n own : ℕ) (a : Checked) where
+  eleven : shortStore n ≡ true → unless (recordRefusal r n own) 0 a ≡ Refused 11 0
+  unfolding unless recordRefusal if_then_else_
+  eleven e = rw e
+
+  fifteen : shortStore n ≡ false → badRecord r ≡ true → unless (recordRefusal r n own) 0 a ≡ Refused 15 0
+  unfolding unless recordRefusal if_then_else_
+  fifteen e f = rw (e, f)
 
 lent-same : (r s : Record) (x y : Str) → r ≡ s → x ≡ y → _≡_ {A = Lent} (record { state = r; store = x }) (record { state = s; store = y })
 lent-same r s x y e f = rw (e, f)
@@ -69,8 +79,30 @@ module _ (l : Lent) where
   on-refusal Finalize number line e = lent-same _ _ _ _ (refused-next _ _ _ number line e) refl
   on-refusal Close number line e = lent-same _ _ _ _ (refused-next _ _ _ number line e) refl
 
+  on-short : (c : Call) → shortStore (length (l .store)) ≡ true → answers offeredCheck c l ≡ Refused 11 0
+  unfolding answers start upload uploadAnswer finalize close startRefusal offRefusal finalizeRefusal
+  on-short Start e = stepped-answer _ _ _ ∙ eleven (l .state) _ _ _ e
+  on-short (Upload text) e = stepped-answer _ _ _ ∙ eleven (l .state) _ _ _ e
+  on-short Finalize e = stepped-answer _ _ _ ∙ eleven (l .state) _ _ _ e
+  on-short Close e = stepped-answer _ _ _ ∙ eleven (l .state) _ _ _ e
+
+  on-bad : (c : Call) → shortStore (length (l .store)) ≡ false → badRecord (l .state) ≡ true → answers offeredCheck c l ≡ Refused 15 0
+  unfolding answers start upload uploadAnswer finalize close startRefusal offRefusal finalizeRefusal
+  on-bad Start e f = stepped-answer _ _ _ ∙ fifteen (l .state) _ _ _ e f
+  on-bad (Upload text) e f = stepped-answer _ _ _ ∙ fifteen (l .state) _ _ _ e f
+  on-bad Finalize e f = stepped-answer _ _ _ ∙ fifteen (l .state) _ _ _ e f
+  on-bad Close e f = stepped-answer _ _ _ ∙ fifteen (l .state) _ _ _ e f
+
   pub step-promise : StepPromise l
-  step-promise = record { start = on-start; upload = on-upload; finalize = on-finalize; close = on-close; refused = on-refusal }
+  step-promise = record {
+    start = on-start;
+    upload = on-upload;
+    finalize = on-finalize;
+    close = on-close;
+    short-store = on-short;
+    bad-record = on-bad;
+    refused = on-refusal;
+  }
 
 -- ---- the machine
 

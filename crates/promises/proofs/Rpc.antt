@@ -5,6 +5,7 @@ use mathlib.Core.List.{List, [], _∷_}
 use mathlib.Core.Option.{Option, none, some, Option·map}
 use Prim.Native.Nat.{ℕ, suc, _+_}
 use native.Mathlib.Omega.{arith}
+use borrow.Author.Tests.{ne-eqb}
 use lib.Dec.{ltb}
 use lib.ListN.{length}
 use Rattle.limits.specs.Limits.{maxPolicyText}
@@ -18,10 +19,10 @@ use Rattle.policy.specs.Policy.{Policy, parsedRefusal, policyRefusal, policyIn,
 use Rattle.rpc.specs.Request.{Request, rpcRefusal}
 use Rattle.rpc.specs.Verdict.{ruleMatches, firstFrom, allowed, decided, verdict, permits}
 use Rattle.rpc.specs.Call.{request, verdictBy, refusedElse, rpcVerdict}
-use Rattle.rpc.specs.declared.verdict.Verdict.the-variants.{Denied, Permitted}
+use Rattle.rpc.specs.declared.verdict.Verdict.the-variants.{Denied, Permitted, Refused}
 use Rattle.rpc.proofs.Promises.{denied, permitted, by-default, permits-exactly, nobody}
 use Rattle.promises.specs.First.{First, here, later}
-use Rattle.promises.specs.Rpc.{RpcPromise}
+use Rattle.promises.specs.Rpc.{RpcPromise, RpcRefusals}
 
 -- ---- the number found is the first's
 
@@ -98,3 +99,18 @@ module _ (policy identity path headers : Str) (ok : policyRefusal policy ≡ cle
         permits-exactly = ap permits a ∙ permits-exactly p q;
         nobody = λ e. ap permits a ∙ nobody p q e;
       }
+
+-- ---- refusals
+
+module _ (policy identity path headers : Str) where
+  text-refused : ¬ (policyRefusal policy ≡ clear) → rpcVerdict policy identity path headers ≡ Refused (policyRefusal policy)
+  unfolding rpcVerdict refusedElse if_then_else_
+  text-refused bad = rw (ne-eqb _ _ bad)
+
+  request-refused : policyRefusal policy ≡ clear → ¬ (rpcRefusal identity path headers ≡ clear)
+      → rpcVerdict policy identity path headers ≡ Refused (rpcRefusal identity path headers)
+  unfolding rpcVerdict refusedElse if_then_else_
+  request-refused e bad = rw (e, ne-eqb (rpcRefusal identity path headers) clear bad)
+
+  pub rpc-refusals : RpcRefusals policy identity path headers
+  rpc-refusals = record { text = text-refused; request-refused = request-refused }

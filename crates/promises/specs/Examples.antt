@@ -3,7 +3,8 @@
 use Prim.Native.Nat.{ℕ}
 use Prim.Native.String.{String}
 use mathlib.Core.Bool.{Bool, true, false}
-use mathlib.Core.List.{List, [], _∷_, _++_}
+use mathlib.Core.Path.{_≡_}
+use mathlib.Core.List.{List, [], _∷_, _++_, map}
 use Rattle.text.specs.String.{Str, bytes}
 use Rattle.path.specs.Path.{Key, Elem, Path}
 use Rattle.table.specs.Table.{Member, Rule, Table}
@@ -93,7 +94,7 @@ treeOf user mode text = tree (treeVerdict small (bytes user) mode [] (bytes text
 
 -- ---- the table
 
--- what is asked, and the answer of the rules; proofs/Examples has the one statement: the first of each pair is the second
+-- what is asked, and the answer of the rules
 unfoldable pub examples : List (Answer × Answer)
 unfolding key elem nq rule user group permits denies member twoRules stevie line small pathOf treeOf
 examples =
@@ -125,3 +126,7 @@ examples =
     ∷ (matched (matches (bytes "*abc") (bytes "xabc")), matched true)
     ∷ (matched (matches (bytes "*abc") (bytes "abcx")), matched false)
     ∷ []
+
+-- the one statement: the first of each pair is the second
+abbrev pub Examples : Type 0
+Examples = map (λ (x : Answer × Answer). x .0) examples ≡ map (λ (x : Answer × Answer). x .1) examples

@@ -8,8 +8,8 @@ use Rattle.text.specs.String.{Str}
 use Rattle.table.specs.Table.{Table}
 use Rattle.table.specs.Text.{check, tableOf}
 use Rattle.table.specs.Group.{lists, badUser, groupCount}
-use Rattle.table.specs.declared.Checked.the-variants.{Accepted}
-use Rattle.table.specs.declared.Counted.the-variants.{Count, NoGroup}
+use Rattle.table.specs.declared.Checked.the-variants.{Accepted, Refused}
+use Rattle.table.specs.declared.Counted.the-variants.{Count, NoGroup, Declined}
 use Rattle.promises.specs.First.{First}
 
 -- an accepted table text, and a user as a table allows
@@ -27,3 +27,9 @@ module _ (x user : Str) (ok : check x ≡ Accepted) (fine : badUser user ≡ fal
         → (g : ℕ) × (groupCount x user ≡ Count (length (only listing (t .groups))) (record { 0 = g })) × First listing g (t .groups)
     -- where none does
     pub none : any listing (t .groups) ≡ false → groupCount x user ≡ NoGroup
+
+-- any table text and any user: "text before request"
+pub record CountRefusals (x user : Str) : Type 0 where
+  pub text : (number line : ℕ) → check x ≡ Refused number line → groupCount x user ≡ Declined number line
+  -- 20: "user .. not as a table allows"
+  pub user-declined : check x ≡ Accepted → badUser user ≡ true → groupCount x user ≡ Declined 20 0

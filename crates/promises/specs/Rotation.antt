@@ -4,13 +4,14 @@
 -- `leaves` say what each answers and leaves, for all records, stores and texts; `offeredCheck` judges a text offered.
 use Prim.Native.Nat.{ℕ}
 use mathlib.Core.Path.{_≡_}
+use mathlib.Core.Bool.{true, false}
 use mathlib.Core.List.{List, [], _∷_}
 use mathlib.Core.Option.{Option, some}
 use lib.ListN.{length}
 use Rattle.text.specs.String.{Str}
 use Rattle.text.specs.Fill.{put}
 use Rattle.table.specs.declared.Checked.the-variants.{Accepted, Refused}
-use Rattle.rotation.specs.State.{slotStart, candidateSlot, inForce}
+use Rattle.rotation.specs.State.{shortStore, badRecord, slotStart, candidateSlot, inForce}
 use Rattle.rotation.specs.Calls.{started, uploaded, finalized, closed}
 use Rattle.rotation.specs.Machine.{Call, Start, Upload, Finalize, Close, Lent, heldText, forceText, Whole, answers, leaves, Follows, end}
 use Rattle.rotation_upload.specs.Offered.{offeredCheck}
@@ -25,6 +26,9 @@ pub record StepPromise (l : Lent) : Type 0 where
       ≡ record { state = uploaded (l .state) (length text); store = put (l .store) (slotStart (candidateSlot (l .state))) text }
   pub finalize : answers offeredCheck Finalize l ≡ Accepted → leaves offeredCheck Finalize l ≡ record { state = finalized (l .state); store = l .store }
   pub close : answers offeredCheck Close l ≡ Accepted → leaves offeredCheck Close l ≡ record { state = closed (l .state); store = l .store }
+  -- 11, then 15, before anything else (12 to 14 and the refusal of a text: `follows` below)
+  pub short-store : (c : Call) → shortStore (length (l .store)) ≡ true → answers offeredCheck c l ≡ Refused 11 0
+  pub bad-record : (c : Call) → shortStore (length (l .store)) ≡ false → badRecord (l .state) ≡ true → answers offeredCheck c l ≡ Refused 15 0
   -- a refused call leaves the record and every byte of the store as they stood
   pub refused : (c : Call) (number line : ℕ) → answers offeredCheck c l ≡ Refused number line → leaves offeredCheck c l ≡ l
 

@@ -14,7 +14,7 @@ use Rattle.rpc.specs.Request.{rpcRefusal}
 use Rattle.rpc.specs.Verdict.{ruleMatches, permits}
 use Rattle.rpc.specs.Call.{request, rpcVerdict}
 use Rattle.rpc.specs.declared.verdict.Verdict.{Verdict}
-use Rattle.rpc.specs.declared.verdict.Verdict.the-variants.{Denied, Permitted, Default}
+use Rattle.rpc.specs.declared.verdict.Verdict.the-variants.{Denied, Permitted, Default, Refused}
 use Rattle.promises.specs.First.{First}
 
 -- an accepted policy text and an accepted request
@@ -38,3 +38,10 @@ module _ (policy identity path headers : Str) (ok : policyRefusal policy ≡ cle
     pub permits-exactly : permits answer ≡ (not (any hit (held .deny)) and any hit (held .allow))
     -- "An empty `allow_rules` is allowed and permits nobody."
     pub nobody : held .allow ≡ [] → permits answer ≡ false
+
+-- any policy text and any request: "text before request"
+module _ (policy identity path headers : Str) where
+  pub record RpcRefusals : Type 0 where
+    pub text : ¬ (policyRefusal policy ≡ clear) → rpcVerdict policy identity path headers ≡ Refused (policyRefusal policy)
+    pub request-refused : policyRefusal policy ≡ clear → ¬ (rpcRefusal identity path headers ≡ clear)
+        → rpcVerdict policy identity path headers ≡ Refused (rpcRefusal identity path headers)

@@ -11,12 +11,14 @@ use Rattle.text.specs.String.{Str}
 use Rattle.text.specs.Refusal.{clear}
 use Rattle.table.specs.Table.{Table}
 use Rattle.table.specs.Text.{check, tableOf}
-use Rattle.table.specs.declared.Checked.the-variants.{Accepted}
+use Rattle.table.specs.declared.Checked.the-variants.{Accepted, Refused}
 use Rattle.verdict.specs.Order.{Numbered}
-use Rattle.verdict.specs.Verdict.{Request, decider, tree}
-use Rattle.verdict.specs.Laws.{Decided, TreeVerdict, SameAnswers}
+use Rattle.verdict.specs.Verdict.{Request, decider, Tree, tree}
+use Rattle.verdict.specs.Laws.{Decided, TreeDecided, SameAnswers}
 use Rattle.verdict_order.specs.Reordering.{ReorderedLines}
 use Rattle.verdict_request.specs.Calls.{requestRefusal, request, pathVerdict, treeVerdict, decidedBy, spread}
+use Rattle.verdict_request.specs.declared.PathAnswer.the-variants as path
+use Rattle.verdict_request.specs.declared.TreeAnswer.the-variants as trees
 
 -- an accepted table text x, and an accepted request
 module _ (x user : Str) (mode : ℕ) (origin text : Str) (ok : check x ≡ Accepted) (fine : requestRefusal user mode origin text ≡ clear) where
@@ -37,10 +39,25 @@ module _ (x user : Str) (mode : ℕ) (origin text : Str) (ok : check x ≡ Accep
   pub record TreePromise : Type 0 where
     -- the call answers with the tree answer
     pub answers : treeVerdict x user mode origin text ≡ spread (tree t q)
-    -- ALL and NONE exactly where they hold of every path at or beneath; otherwise MIXED, with a rule that opposes and none such of smaller id
-    pub exact : TreeVerdict t q
+    -- which is 01's: ALL and NONE exactly where they hold of every path at or beneath; otherwise MIXED, with a rule that opposes and none such of
+    -- smaller id
+    pub exact : TreeDecided t q (tree t q)
+    -- and nothing else is
+    pub only : (a : Tree) → TreeDecided t q a → tree t q ≡ a
 
   -- any text y with x's lines in another order, each among its own kind: accepted too, with the same answers by id
   pub record OrderPromise (y : Str) (other : ReorderedLines x y) : Type 0 where
     pub accepted : check y ≡ Accepted
     pub answers : SameAnswers t (tableOf y) q
+
+-- any table text x, and any request: "text before request"
+module _ (x user : Str) (mode : ℕ) (origin text : Str) where
+  pub record VerdictRefusals : Type 0 where
+    -- a table text that is refused: its number and line, whatever the request
+    pub path-text : (number line : ℕ) → check x ≡ Refused number line → pathVerdict x user mode origin text ≡ path.Refused number line
+    pub tree-text : (number line : ℕ) → check x ≡ Refused number line → treeVerdict x user mode origin text ≡ trees.Refused number line
+    -- a request that is refused, on an accepted table text: its number
+    pub path-request : check x ≡ Accepted → ¬ (requestRefusal user mode origin text ≡ clear)
+        → pathVerdict x user mode origin text ≡ path.Refused (requestRefusal user mode origin text) 0
+    pub tree-request : check x ≡ Accepted → ¬ (requestRefusal user mode origin text ≡ clear)
+        → treeVerdict x user mode origin text ≡ trees.Refused (requestRefusal user mode origin text) 0

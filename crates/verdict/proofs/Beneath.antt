@@ -14,11 +14,12 @@ use Rattle.verdict.specs.Cover.{covers}
 use Rattle.verdict.specs.Join.{agree, join}
 use Rattle.verdict.specs.Order.{better, earlier, Numbered, choose}
 use Rattle.verdict.specs.Verdict.{Request, at, applies, matches, decider, action, permits, fits, opposes, ALL, NONE, MIXED, word, answer, tree}
-use Rattle.verdict.specs.Laws.{Everywhere}
+use Rattle.verdict.specs.Laws.{ofBytes, Everywhere}
 use Rattle.verdict.specs.Orderly.{Orderly}
 use Rattle.verdict.proofs.Order.{better-order, earlier-order}
 use Rattle.verdict.proofs.Choose.{Wins, Chosen, chosen, tied-same}
 use Rattle.verdict.proofs.Paths.{covers-refl, covers-trans, covered-agree, join-covers, covers-join-left, covers-join-right, join-once}
+use Rattle.verdict.proofs.OfBytes.{join-of-bytes}
 
 pub decided : (t : Table) (q : Request) → Chosen better (matches t q) (t .rules) (decider t q)
 unfolding decider
@@ -91,18 +92,21 @@ module _ (t : Table) (q : Request) (ok : Orderly t) (kq : keyTwice (q .path) ≡
   -- where no rule opposes, every path beneath has the asked path's action
   uniform : ((r : Rule) → r ∈ t .rules → opposes t q r ≡ false) → Everywhere t q (permits t q)
   unfolding permits opposes
-  uniform h d c o = go (decider t (at q d)) (decided t (at q d))
+  uniform h d b c o = go (decider t (at q d)) (decided t (at q d))
     where
       go : (x : Option Numbered) → Chosen better (matches t (at q d)) (t .rules) x → action x ≡ permits t q
       go none k = unfold action in sym (quiet d c k)
       go (some n) w = let r = at-join d c o n w in unfold action in sym (r .1) ∙ agrees _ _ (and-false _ _ (r .0) (h (n .rule) (w .listed)))
 
+-- the paths of the rules and of the request are of bytes
+module _ (t : Table) (q : Request) (ok : Orderly t) (rb : (r : Rule) → r ∈ t .rules → ofBytes (r .path) ≡ true)
+    (kq : keyTwice (q .path) ≡ false) (qb : ofBytes (q .path) ≡ true) where
   -- a rule that opposes names a path beneath with the other action
   opposed : (r : Rule) → r ∈ t .rules → opposes t q r ≡ true → Everywhere t q (permits t q) → ⊥
   unfolding opposes fits
   opposed r m h e =
       let f : agree (r .path) (q .path) ≡ true = and-r _ _ (and-l _ _ h) in
-      differs _ _ (and-r _ _ h) (e (join (r .path) (q .path)) (covers-join-right (r .path) (q .path) f) (join-once (r .path) (q .path) f (ok .keys r m) kq))
+      differs _ _ (and-r _ _ h) (e (join (r .path) (q .path)) (join-of-bytes (r .path) (q .path) (rb r m) qb) (covers-join-right (r .path) (q .path) f) (join-once (r .path) (q .path) f (ok .keys r m) kq))
 
   -- ---- the three answers
 
@@ -115,12 +119,12 @@ module _ (t : Table) (q : Request) (ok : Orderly t) (kq : keyTwice (q .path) ≡
   tree-word b = (to (choose earlier (opposes t q) 0 (t .rules)) judged, λ e. from e (choose earlier (opposes t q) 0 (t .rules)) judged)
     where
       to : (o : Option Numbered) → Chosen earlier (opposes t q) (t .rules) o → answer (permits t q) o ≡ word b → Everywhere t q b
-      to none k h d c i = uniform k d c i ∙ word-inj _ _ h
-      to (some n) w h d c i = word-mixed b n (sym h)
+      to none k h d x c i = uniform t q ok kq k d x c i ∙ word-inj _ _ h
+      to (some n) w h d x c i = word-mixed b n (sym h)
 
       from : Everywhere t q b → (o : Option Numbered) → Chosen earlier (opposes t q) (t .rules) o → answer (permits t q) o ≡ word b
-      from e none k = ap word (e (q .path) (covers-refl (q .path)) kq)
-      from e (some n) w = absurd (opposed (n .rule) (w .listed) (w .passes) (λ d c i. e d c i ∙ sym (e (q .path) (covers-refl (q .path)) kq)))
+      from e none k = ap word (e (q .path) qb (covers-refl (q .path)) kq)
+      from e (some n) w = absurd (opposed (n .rule) (w .listed) (w .passes) (λ d x c i. e d x c i ∙ sym (e (q .path) qb (covers-refl (q .path)) kq)))
 
   pub tree-all : (tree t q ≡ ALL) ↔ Everywhere t q true
   unfolding word

@@ -11,12 +11,12 @@ use Rattle.text.proofs.Tests.{clash, ≡→same}
 use Rattle.path.specs.Refusal.{keyTwice}
 use Rattle.table.specs.Table.{Rule, Table}
 use Rattle.verdict.specs.Order.{better, earlier, Numbered, choose}
-use Rattle.verdict.specs.Verdict.{Request, matches, decider, permits, opposes, MIXED, word, answer, tree}
+use Rattle.verdict.specs.Verdict.{Request, matches, decider, permits, opposes, Tree, ALL, NONE, MIXED, word, answer, tree}
 use Rattle.table.specs.Refusal.{sameId}
-use Rattle.verdict.specs.Laws.{Best, Decided, Everywhere, TreeVerdict, Reordered, SameAnswers}
+use Rattle.verdict.specs.Laws.{Best, Decided, ofBytes, Everywhere, TreeDecided, Reordered, SameAnswers}
 use Rattle.verdict.specs.Orderly.{Orderly}
 use Rattle.verdict.proofs.Twice.{first-alone, rest-alone}
-use Rattle.verdict.proofs.Order.{Order, better-order}
+use Rattle.verdict.proofs.Order.{Order, better-order, earlier-order}
 use Rattle.verdict.proofs.Choose.{Chosen, numbered, tied-same}
 use Rattle.verdict.proofs.Beneath.{decided, judged, tree-all, tree-none}
 use Rattle.verdict.proofs.Reorder.{same-action, same-decider, same-tree, orderly-again}
@@ -28,21 +28,6 @@ verdict t q = go (decider t q) refl (decided t q)
     go : (o : Option Numbered) → decider t q ≡ o → Chosen better (matches t q) (t .rules) o → Decided t q o
     go none e h = h
     go (some n) e w = record { numbered = numbered better (matches t q) (t .rules) n e; passes = w .passes; unbeaten = w .unbeaten }
-
-pub tree-verdict : (t : Table) (q : Request) → Orderly t → keyTwice (q .path) ≡ false → TreeVerdict t q
-unfolding tree answer word
-tree-verdict t q ok kq =
-    record {
-      every = tree-all t q ok kq;
-      never = tree-none t q ok kq;
-      mixed = go (choose earlier (opposes t q) 0 (t .rules)) refl (judged t q ok kq) (permits t q) refl;
-    }
-  where
-    go : (o : Option Numbered) → choose earlier (opposes t q) 0 (t .rules) ≡ o → Chosen earlier (opposes t q) (t .rules) o → (b : Bool) → permits t q ≡ b
-        → ¬ Everywhere t q true → ¬ Everywhere t q false → (n : Numbered) × (tree t q ≡ MIXED n) × Best earlier (opposes t q) t n
-    go none e h true i x y = absurd (x (tree-all t q ok kq .0 (rw (i, e))))
-    go none e h false i x y = absurd (y (tree-none t q ok kq .0 (rw (i, e))))
-    go (some n) e w b i x y = (n, rw e, record { numbered = numbered earlier (opposes t q) (t .rules) n e; passes = w .passes; unbeaten = w .unbeaten })
 
 pub reordered : (t u : Table) → Orderly t → Reordered t u → Orderly u × ((q : Request) → SameAnswers t u q)
 reordered t u ok p =
@@ -88,3 +73,40 @@ verdict-unique t q ok o h = go (decider t q) (verdict t q) o h
     go none a (some n) b = clash (b .passes) (a (n .rule) (at-place _ _ (b .numbered)))
     go (some m) a none b = clash (a .passes) (b (m .rule) (at-place _ _ (a .numbered)))
     go (some m) a (some n) b = ap some (best-unique better-order (matches t q) t ok m n a b)
+
+-- ---- the tree verdict
+
+mixed-all {ℓ} : {X : Type ℓ} {n : Numbered} → MIXED n ≡ ALL → X
+mixed-all e = let z : _≡_ {A = ℕ} 0 1 = cc in absurd (omega arith)
+
+mixed-none {ℓ} : {X : Type ℓ} {n : Numbered} → MIXED n ≡ NONE → X
+mixed-none e = let z : _≡_ {A = ℕ} 0 1 = cc in absurd (omega arith)
+
+-- an orderly table and a request, whose paths are of bytes and have no key twice in an element
+module _ (t : Table) (q : Request) (ok : Orderly t) (rb : (r : Rule) → r ∈ t .rules → ofBytes (r .path) ≡ true)
+    (kq : keyTwice (q .path) ≡ false) (qb : ofBytes (q .path) ≡ true) where
+  pub tree-verdict : TreeDecided t q (tree t q)
+  unfolding tree answer word
+  tree-verdict =
+      record {
+        every = tree-all t q ok rb kq qb;
+        never = tree-none t q ok rb kq qb;
+        mixed = go (choose earlier (opposes t q) 0 (t .rules)) refl (judged t q ok rb kq qb) (permits t q) refl;
+      }
+    where
+      go : (o : Option Numbered) → choose earlier (opposes t q) 0 (t .rules) ≡ o → Chosen earlier (opposes t q) (t .rules) o → (b : Bool) → permits t q ≡ b
+          → ¬ Everywhere t q true → ¬ Everywhere t q false → (n : Numbered) × (tree t q ≡ MIXED n) × Best earlier (opposes t q) t n
+      go none e h true i x y = absurd (x (tree-all t q ok rb kq qb .0 (rw (i, e))))
+      go none e h false i x y = absurd (y (tree-none t q ok rb kq qb .0 (rw (i, e))))
+      go (some n) e w b i x y = (n, rw e, record { numbered = numbered earlier (opposes t q) (t .rules) n e; passes = w .passes; unbeaten = w .unbeaten })
+
+  -- the tree answer is the one that `TreeDecided` allows
+  pub tree-unique : (a : Tree) → TreeDecided t q a → tree t q ≡ a
+  tree-unique ALL h = tree-verdict .every .1 (h .every .0 refl)
+  tree-unique NONE h = tree-verdict .never .1 (h .never .0 refl)
+  tree-unique (MIXED m) h =
+      let x : ¬ Everywhere t q true = λ e. mixed-all (h .every .1 e) in
+      let y : ¬ Everywhere t q false = λ e. mixed-none (h .never .1 e) in
+      let a = tree-verdict .mixed x y in
+      let b = h .mixed x y in
+      a .1 ∙ ap MIXED (best-unique earlier-order (opposes t q) t ok (a .0) (b .0) (a .2) (b .2)) ∙ sym (b .1)

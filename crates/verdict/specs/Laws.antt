@@ -4,10 +4,12 @@ use mathlib.Core.Logic.{_↔_}
 use mathlib.Core.Bool.{Bool, true, false}
 use mathlib.Core.List.{List·Permᴰ}
 use mathlib.Core.Option.{Option, none, some}
+use Prim.Native.Nat.{ℕ}
+use lib.Dec.{ltb}
 use lib.ListN.{getElem?}
-use Rattle.text.specs.Test.{_∈_}
+use Rattle.text.specs.Test.{_and_, _∈_, all}
 use Rattle.text.specs.String.{Str}
-use Rattle.path.specs.Path.{Path}
+use Rattle.path.specs.Path.{Key, Elem, Path}
 use Rattle.path.specs.Refusal.{keyTwice}
 use Rattle.table.specs.Table.{Rule, Table}
 use Rattle.verdict.specs.Cover.{covers}
@@ -29,16 +31,30 @@ Decided t q (some n) = Best better (matches t q) t n
 
 -- ---- the tree verdict
 
--- "judged over every such D by the single-path definition": every path at or beneath the asked one, of any length and with any keys, "each
--- key once an element", gets the action b
-abbrev pub Everywhere : Table → Request → Bool → Type 0
-Everywhere t q b = (d : Path) → covers (q .path) d ≡ true → keyTwice d ≡ false → permits t (at q d) ≡ b
+-- a path of bytes: the names and values of a `Path` are lists of any numbers, those of a path that can be written are lists of these
+abbrev pub isByte : ℕ → Bool
+isByte b = ltb b 256
 
--- ALL exactly if all are permitted, NONE exactly if all are denied, and otherwise MIXED, with a rule that opposes and no such of smaller id
-pub record TreeVerdict (t : Table) (q : Request) : Type 0 where
-  pub every : (tree t q ≡ ALL) ↔ Everywhere t q true
-  pub never : (tree t q ≡ NONE) ↔ Everywhere t q false
-  pub mixed : ¬ Everywhere t q true → ¬ Everywhere t q false → (n : Numbered) × (tree t q ≡ MIXED n) × Best earlier (opposes t q) t n
+unfoldable pub keyOfBytes : Key → Bool
+keyOfBytes k = all isByte (k .name) and all isByte (k .value)
+
+unfoldable pub elemOfBytes : Elem → Bool
+elemOfBytes e = all isByte (e .name) and all keyOfBytes (e .keys)
+
+unfoldable pub ofBytes : Path → Bool
+ofBytes p = all elemOfBytes p
+
+-- "judged over every such D by the single-path definition": every path of bytes at or beneath the asked one, of any length and with any keys,
+-- "each key once an element", gets the action b
+abbrev pub Everywhere : Table → Request → Bool → Type 0
+Everywhere t q b = (d : Path) → ofBytes d ≡ true → covers (q .path) d ≡ true → keyTwice d ≡ false → permits t (at q d) ≡ b
+
+-- the answer is ALL exactly if all are permitted, NONE exactly if all are denied, and otherwise MIXED, with a rule that opposes and no such of
+-- smaller id
+pub record TreeDecided (t : Table) (q : Request) (answer : Tree) : Type 0 where
+  pub every : (answer ≡ ALL) ↔ Everywhere t q true
+  pub never : (answer ≡ NONE) ↔ Everywhere t q false
+  pub mixed : ¬ Everywhere t q true → ¬ Everywhere t q false → (n : Numbered) × (answer ≡ MIXED n) × Best earlier (opposes t q) t n
 
 -- ---- the order of the lines
 

@@ -11,18 +11,19 @@ use lib.Dec.{eqb, ltb, leb}
 use lib.ListN.{length}
 use Rattle.text.specs.Test.{_and_, _or_, if_then_else_, _∈_, twice}
 use Rattle.text.specs.String.{Str, same, joined}
-use Rattle.text.proofs.Tests.{clash, by, and-l, and-r, both, on-cons}
+use Rattle.text.proofs.Tests.{clash, by, and-l, and-r, both, or-false-r, on-cons}
 use Rattle.limits.specs.Limits.{maxTableText}
 use Rattle.table_line.specs.Lines.{lines, onto}
 use Rattle.table.specs.Table.{Rule}
 use Rattle.table.specs.Frame.{Entry, version, group, member, rule}
-use Rattle.table.specs.Refusal.{Line, notHex, unreadable, reads, lineOf, Earlier, with, after, kindOf, outOfOrder, listed, first, sameMember, sameId}
+use Rattle.table.specs.Refusal.{Line, notHex, unreadable, reads, lineOf, Earlier, with, after, kindOf, outOfOrder, listed, first, strays, sameMember, sameId}
 use Rattle.table.specs.Text.{check, allTold, table, tableOf}
 use Rattle.table.specs.declared.Checked.the-variants.{Accepted}
 use Rattle.path.specs.Refusal.{keyTwice}
-use Rattle.verdict.specs.Laws.{Reordered}
+use Rattle.verdict.specs.Laws.{ofBytes, Reordered}
 use Rattle.verdict.specs.Orderly.{Orderly}
 use Rattle.verdict.proofs.Choose.{same-id-turned}
+use Rattle.verdict.proofs.OfBytes.{path-of-bytes}
 use Rattle.verdict.proofs.Reorder.{perm-mem, perm-any, perm-twice}
 use Rattle.verdict_order.specs.Reordering.{read, entries, rising, ReorderedLines}
 use Rattle.verdict_order.proofs.Permutations.{perm-length, perm-filterMap, perm-joined}
@@ -230,32 +231,40 @@ tables-reordered x y p =
       rules = rw (t .2, u .2) (perm-filterMap asRule q);
     }
 
--- what every accepted table is: no rule id twice, and no key twice in an element
+-- what every accepted table is: no rule id twice, and each rule judged by itself, so no key twice in an element, and paths of bytes
 
-keys-of : (r : Rule) → Own (rule r) → keyTwice (r .path) ≡ false
-unfolding ownTwice
-keys-of r o = o .keys
-
-keys-once : (es : List Entry) → ((e : Entry) → e ∈ es → Own e) → (r : Rule) → r ∈ rulesIn es → keyTwice (r .path) ≡ false
+own-rules : (es : List Entry) → ((e : Entry) → e ∈ es → Own e) → (r : Rule) → r ∈ rulesIn es → Own (rule r)
 unfolding filterMap Option·elim asRule
-keys-once [] h = λ r m. absurd (List·Memᴰ·not-nil m)
-keys-once (version v t ∷ es) h = keys-once es (λ e m. h e (List·Memᴰ·tail m))
-keys-once (group n ∷ es) h = keys-once es (λ e m. h e (List·Memᴰ·tail m))
-keys-once (member n ∷ es) h = keys-once es (λ e m. h e (List·Memᴰ·tail m))
-keys-once (rule r ∷ es) h = on-cons (λ (x : Rule). keyTwice (x .path) ≡ false) (keys-of r (h (rule r) (List·Memᴰ·head refl))) (keys-once es (λ e m. h e (List·Memᴰ·tail m)))
+own-rules [] h = λ r m. absurd (List·Memᴰ·not-nil m)
+own-rules (version v t ∷ es) h = own-rules es (λ e m. h e (List·Memᴰ·tail m))
+own-rules (group n ∷ es) h = own-rules es (λ e m. h e (List·Memᴰ·tail m))
+own-rules (member n ∷ es) h = own-rules es (λ e m. h e (List·Memᴰ·tail m))
+own-rules (rule r ∷ es) h = on-cons (λ (x : Rule). Own (rule x)) (h (rule r) (List·Memᴰ·head refl)) (own-rules es (λ e m. h e (List·Memᴰ·tail m)))
 
-accepted-fine : (x : Str) → check x ≡ Accepted → Fine first (entries (lines x))
-accepted-fine x e =
-    let o = check-opens x e in
-    let a = clean-readable first (lines x) (o .2) in
-    fine first (entries (lines x)) nothing-before (sym (clean-entries first (lines x) a) ∙ o .2)
+keys-once : (r : Rule) → Own (rule r) → keyTwice (r .path) ≡ false
+unfolding ownTwice
+keys-once r o = o .keys
 
--- what every accepted table has: no more groups, members and rules than the limits, and none twice
-pub accepted-whole : (x : Str) → check x ≡ Accepted → Whole (tableOf x .groups) (tableOf x .members) (tableOf x .rules)
-unfolding first
-accepted-whole x e = let t = told-table x in rw (t .0, t .1, t .2) (accepted-fine x e .whole)
+of-bytes : (r : Rule) → Own (rule r) → ofBytes (r .path) ≡ true
+unfolding strays
+of-bytes r o = path-of-bytes (r .path) (or-false-r _ _ (o .bytes))
 
-pub accepted-orderly : (x : Str) → check x ≡ Accepted → Orderly (tableOf x)
-accepted-orderly x e =
-    let t = told-table x .2 in
-    record { ids = accepted-whole x e .new-ids; keys = rw t (keys-once (entries (lines x)) (accepted-fine x e .own)) }
+module _ (x : Str) (e : check x ≡ Accepted) where
+  accepted-fine : Fine first (entries (lines x))
+  accepted-fine =
+      let o = check-opens x e in
+      fine first (entries (lines x)) nothing-before (sym (clean-entries first (lines x) (clean-readable first (lines x) (o .2))) ∙ o .2)
+
+  accepted-own : (r : Rule) → r ∈ tableOf x .rules → Own (rule r)
+  accepted-own = rw (told-table x .2) (own-rules (entries (lines x)) (accepted-fine .own))
+
+  -- no more groups, members and rules than the limits, and none twice
+  pub accepted-whole : Whole (tableOf x .groups) (tableOf x .members) (tableOf x .rules)
+  unfolding first
+  accepted-whole = let t = told-table x in rw (t .0, t .1, t .2) (accepted-fine .whole)
+
+  pub accepted-orderly : Orderly (tableOf x)
+  accepted-orderly = record { ids = accepted-whole .new-ids; keys = λ r m. keys-once r (accepted-own r m) }
+
+  pub accepted-bytes : (r : Rule) → r ∈ tableOf x .rules → ofBytes (r .path) ≡ true
+  accepted-bytes r m = of-bytes r (accepted-own r m)
