@@ -30,7 +30,7 @@ fn in_step(cover: bool, f: &[u8], s: usize, k: usize, g: &[u8], p: usize, n: usi
         left -= 1;
         more -= 1;
     }
-    true
+    true // the first path is no longer than the second
 }
 
 // Whether the path of n elements at p of g lies at or beneath that of k elements at s of f.

@@ -1,0 +1,27 @@
+# What the inputs for must-fail edits use, in docs/PROMISES.md. tests/edits_inputs.sh and tools/wrong_programs.py source it, with `burgee` the program that is asked.
+V=010276310000000000000001                                       # a table of its version line only
+EK=$V$'\n020167\n0301670175\n04010101016701720001016101016b012a' # the table of examples E to K
+
+# of ACTION SUBJECT ID PATH ..: a table with user u in group g, and these rules to read.
+of() {
+    {
+        printf 'version [v] time 0000000000000001\ngroup [g]\nmember [g] [u]\n'
+        printf 'rule %s read %s id [%s] origin [] %s\n' "$@"
+    } | burgee pack -
+}
+
+# turn KIND STEP ..: the last answer of a rotation of that kind. A step is one of the command line's, a probe of u reading /a or of an RPC to /a, or else a text to upload.
+turn() {
+    local file=target/turn.rotation step
+    rm -f $file
+    burgee rotate new $file "$1" >target/turn.answer
+    for step in "${@:2}"; do
+        case $step in
+        start | finalize | close) burgee rotate "$step" $file ;;
+        verdict | tree) burgee rotate "$step" $file u read '' /a ;;
+        rpc) burgee rotate rpc $file '' /a ;;
+        *) burgee rotate upload $file - <<<"$step" ;;
+        esac >target/turn.answer
+    done
+    cat target/turn.answer
+}
