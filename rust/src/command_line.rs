@@ -3,7 +3,6 @@
 use std::ffi::OsStr;
 use std::io::Write;
 use std::os::unix::ffi::OsStrExt;
-use std::path::PathBuf;
 use std::process::{Command, Stdio};
 
 use crate::frame::Action;
@@ -14,6 +13,9 @@ use crate::rpc::RpcVerdict;
 use crate::table::{with_table, RuleNumber};
 use crate::verdict::{PathVerdict, TreeVerdict};
 
+/// The program of this clone: cargo runs tests in `rust/`.
+const PROGRAM: &str = "../target/bin/cli";
+
 /// What the program prints for these words and this standard input: its answer, or a refusal, which `show` and `pack`
 /// tell on standard error. It says nothing else there.
 pub fn burgee(words: &[&[u8]], input: &[u8]) -> String {
@@ -22,8 +24,7 @@ pub fn burgee(words: &[&[u8]], input: &[u8]) -> String {
 
 /// The same where it says that on standard error.
 pub fn burgee_saying(said: &str, words: &[&[u8]], input: &[u8]) -> String {
-    let program = PathBuf::from(env!("CARGO_MANIFEST_DIR")).join("../target/bin/cli");
-    let mut child = Command::new(program)
+    let mut child = Command::new(PROGRAM)
         .args(words.iter().map(|word| OsStr::from_bytes(word)))
         .stdin(Stdio::piped())
         .stdout(Stdio::piped())
