@@ -1,6 +1,6 @@
 #!/usr/bin/env bash
 # Ways to take away what is promised, or to hollow it out, each of which a part of tests/exports.sh has to see, and to complain of in these words. One that
-# changes nothing is an error too. Each is tried on a copy of the sources.
+# changes nothing is an error too. Each is tried on a copy.
 set -uo pipefail
 cd "$(dirname "$0")/.."
 export PYTHONDONTWRITEBYTECODE=1
@@ -8,16 +8,19 @@ here=$PWD
 work=$(mktemp -d)
 trap 'rm -rf "$work"' EXIT
 
-# COMMAND..: a copy of the sources in this folder. The crates that the command names are copied, the others are links.
+# COMMAND: makes this folder a copy of the repository. The crates that the command names, and what else it may change, are copied, the rest are links.
 copy() {
-    local crate
+    local crate there
     mkdir -p crates rust/src
     ln -s "$here"/crates/* crates
-    for crate in $(grep -o 'crates/[a-z_]*' <<<"$*" | sort -u); do
+    for crate in $(grep -o 'crates/[a-z_]*' <<<"$1" | sort -u); do
         rm "$crate" && cp -R "$here/$crate" crates
     done
     cp -R "$here"/{.ci,crates.txt,docs,include,tests} .
     cp -R "$here/rust/src/boundary" rust/src
+    for there in "$here"/* "$here"/rust/*; do
+        [ -e "${there#"$here"/}" ] || ln -s "$there" "${there#"$here"/}"
+    done
 }
 
 # The sums of what was copied here.
@@ -157,8 +160,8 @@ promises | a promise dropped with its proof | Probes: in the first table of docs
     rm crates/promises/*/Probes.antt && sed -i '/Probes/d' crates/promises/*/Lib.antt
 promises | a promise without a proof | AnyBytes: nothing of crates/promises/proofs proves it
     rm crates/promises/proofs/AnyBytes.antt
-promises | a file that states nothing | PathReturn states no promise
-    sed -i 's/^pub record PathReturn : Type 0 where/pub data PathReturn : Type 0 where/' crates/promises/specs/PathReturn.antt
+promises | a file that states nothing | AnyBytes states no promise
+    sed -i 's/^abbrev pub AnyBytes : Type 0/abbrev AnyBytes : Type 0/' crates/promises/specs/AnyBytes.antt
 promises | a theorem that is not public | Rpc: no theorem
     sed -i 's/^  pub rpc-promise : /  rpc-promise : /' crates/promises/proofs/Rpc.antt
 promises | a theorem of something else | AnyBytes: no theorem
@@ -178,13 +181,13 @@ promises | an assumption of another meaning | Verdicts: no theorem
 promises | an edit dropped | verdict/user_before_keys: named as one by docs/PROMISES.md, but not an edit
     rm crates/verdict/must-fail/user_before_keys.edit
 promises | an edit that the page does not name | text/prefix_same: an edit, but not named
-    sed -i 's:(`text/prefix_same`)::' docs/PROMISES.md
+    sed -i 's:`text/prefix_same`::' docs/PROMISES.md
 promises | an edit of a definition without its mark | rpc/allow_first: an edit of a definition, but not marked
     sed -i 's:`rpc/allow_first` †:`rpc/allow_first`:' docs/PROMISES.md
 promises | an edit of a program with a mark | rpc/star_empty: marked †, but not
     sed -i 's:`rpc/star_empty`:`rpc/star_empty` †:' docs/PROMISES.md
 promises | a call with one edit | burgee_group_count`: not two wrong programs
-    sed -i '/^| `burgee_group_count`/s/ (`[^)]*`)//2g' docs/PROMISES.md
+    sed -i '/^| `burgee_group_count`/s:`[a-z_]*/[a-z_]*`::2g' docs/PROMISES.md
 promises | the promises not proved | promises: a folder of crates/, but not in crates.txt
     sed -i '/^promises:/d' crates.txt
 promises | the promises gone | promises: a crate, but not proved
@@ -222,7 +225,7 @@ gate | a test left out of the gate | tests/limits.sh is no phase of .ci/run
 gate | a contract deleted, as the gate sees it | its contract is not that of PathVerdict
     sed -i '/⌜ r ≡ word (PathVerdict/d' crates/burgee/src/lib.rt
 gate | no Python | python3
-    mkdir bin && ln -s "$(command -v bash)" bin/bash && sed -i 's/^export PYTHON.*/&; PATH=$PWD\/bin/' tests/exports.sh
+    mkdir alone && ln -s "$(command -v bash)" alone && sed -i 's/^export PYTHON.*/&; PATH=$PWD\/alone/' tests/exports.sh
 END
 }
 
