@@ -7,7 +7,7 @@
 `burgee_path_read` is the function of `PathRead`, and is given what the constructor is given, in the same order. Its contract is one `ensures` and no
 `requires`, and has to be the text that follows from its parameters, but for white space: it answers `word` of its call, and what it is lent to store to is
 `after` of its call. The names of the contract are those of crates/burgee/specs, and `≡` is the library's: a file that brings in another `≡` has contracts
-that look right and say nothing.
+that look right and say nothing. What they cite, but for `outcome`, is compared to the letter as well.
 
 The exported functions, the constructors, the declarations of the C header, the calls of the Rust tests, the rows of docs/PROMISES.md and the calls whose
 answers are read back from their words (promises/specs/Words) are the same set.
@@ -30,6 +30,16 @@ NUMBERS = ["kind", "live_slot", "live_len", "rotating", "candidate_len"]
 OWN = "Rattle.burgee.specs.Calls"
 SOURCES = {"_≡_": "mathlib.Core.Path", "word": OWN, "after": OWN, "buffer": OWN, "held": OWN, "recordOf": OWN}
 LENT = {"now", "_×_", "⌜_⌝"}
+
+# what contracts cite, to the letter, since they say no more than this; what `outcome` is, the promises say
+CITED = [
+    "pub record Loan : Type 0 where\n  pub rec : Option Record\n  pub bytes : Str",
+    "buffer out = record { rec = none; bytes = out }",
+    "held rec store = record { rec = some rec; bytes = store }",
+    "recordOf kind slot len rotating candidate = record { kind = kind; «live_slot» = slot; «live_len» = len; rotating = rotating; «candidate_len» = candidate }",
+    "word c = outcome c .word",
+    "after c = outcome c .after",
+]
 
 EXPORT = re.compile(r'#\[no_mangle\]\s*pub extern "C" fn (\w+)\(([^)]*)\) -> (.*?)\n\{', re.S)
 
@@ -89,6 +99,13 @@ def constructors():
     return {name: parameters(rest)[0] for name, rest in re.findall(r"^  (\w+) : (.*) → PublicCall$", lines, re.M)}
 
 
+def try_cited():
+    """What the contracts cite is defined as it has to be."""
+    for text in CITED:
+        if not re.search(rf"^{re.escape(text)}$(?!\n +\S)", definitions(CALLS), re.M):
+            fail(f"{CALLS} does not say: {text}")
+
+
 def try_contract(export):
     """The contract is the prescribed one, and no parameter hides a name of it."""
     allowed = [export.prescribed(answer) for answer in "rw"]
@@ -136,6 +153,7 @@ def main():
         print("\n".join(sorted(names)))
         return
     calls = constructors()
+    try_cited()
     for path in {export.path for export in exports}:
         try_names(path, [export for export in exports if export.path == path])
     for export in exports:
