@@ -6,19 +6,19 @@ cd "$(dirname "$0")/.."
 work=$(mktemp -d)
 trap 'rm -rf "$work"' EXIT
 
-# NUMBER: tries the fault in this folder; what is wrong with the test of it stands in the file `told` there.
+# NUMBER: tries the fault in this folder, and tells whether it is seen.
 try() {
     local folder=$work/$1
     sed "$(cat "$folder/fault")" include/burgee.h >"$folder/burgee.h"
     if cmp -s include/burgee.h "$folder/burgee.h"; then
-        echo "changes nothing" >"$folder/told"
+        echo "changes nothing"
         return
     fi
     bash tests/header.sh "$folder" >"$folder/said" 2>&1
     case $? in
-    0) echo "is not seen" >"$folder/told" ;;
-    1) ;;
-    *) { echo "does not compile"; head -n 5 "$folder/said"; } >"$folder/told" ;;
+    0) echo "is not seen" ;;
+    1) echo seen ;;
+    *) echo "does not compile: $(head -n 5 "$folder/said")" ;;
     esac
 }
 
@@ -99,17 +99,15 @@ while IFS= read -r fault; do
 done < <(faults)
 
 # As many at once as there are processors.
-for ((i = 1; i <= number; i++)); do
-    while [ "$(jobs -rp | wc -l)" -ge "$(nproc)" ]; do wait -n; done
-    try "$i" &
-done
-wait
+export work
+export -f try
+seq "$number" | xargs -P "$(nproc)" -n 1 bash -c 'try "$0" >"$work/$0/told" 2>&1'
 
 status=0
+[ "$number" -gt 50 ] || { echo "header faults: only $number were found"; status=1; }
 for ((i = 1; i <= number; i++)); do
-    [ -e "$work/$i/told" ] || continue
-    echo "header fault \"$(cat "$work/$i/what")\" $(cat "$work/$i/told")"
-    status=1
+    told=$(cat "$work/$i/told")
+    [ "$told" = seen ] || { echo "header fault \"$(cat "$work/$i/what")\" ${told:-was not tried}"; status=1; }
 done
 [ $status -eq 0 ] && echo "header faults: $number seen"
 exit $status
