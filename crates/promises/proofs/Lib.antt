@@ -2,6 +2,7 @@ pub mod AnyBytes
 pub mod PathReturn
 pub mod Groups
 pub mod Verdicts
+pub mod Json
 pub mod Rpc
 pub mod Rotation
 pub mod Probes
