@@ -12,7 +12,7 @@ use Rattle.text.specs.String.{bytes}
 use Rattle.json_grammar.specs.Abnf.{Rule}
 use Rattle.json_grammar.specs.Json.{Json, Member, values, members}
 use Rattle.json_grammar.specs.Grammar.{Items, last, next, Between, empty, filled, Scalar, false-text, null-text, true-text, number, string, MemberOf, member, scalar, array, object, Value, TextOver, json}
-use Rattle.json_grammar.specs.JsonText.{ourByte, depthOf, valuesDepth, membersDepth, JsonText}
+use Rattle.json_grammar.specs.JsonText.{ourByte, depthOf, itemsDepth, membersDepth, JsonText}
 use Rattle.json_grammar.specs.Parser.{lastPlain}
 use Rattle.json_grammar.proofs.OurBytes.{Own, own-all, all-own, own-both, own-left, own-right, number-own, ws-own, mark-own, rfcLast, quoted-out, quoted-in}
 
@@ -23,8 +23,8 @@ unfoldable most : {A : Type 0} → (A → ℕ) → List A → ℕ
 most size [] = 0
 most size (a ∷ l) = max (size a) (most size l)
 
-values-most : (l : List Json) → valuesDepth (values l) ≡ most depthOf l
-unfolding valuesDepth values most
+values-most : (l : List Json) → itemsDepth (values l) ≡ most depthOf l
+unfolding itemsDepth values most
 values-most [] = refl
 values-most (j ∷ l) = ap (max (depthOf j)) (values-most l)
 
@@ -137,7 +137,7 @@ OurText = TextOver (Value lastPlain maxDepth)
 pub text-out : {s : List ℕ} {j : Json} → OurText s j → JsonText s j
 text-out (json {s} {j} a x b) =
     let y = value-out maxDepth s j x in
-    record { grammar = (maxDepth, json a (y .0) b); bytes = own-all (own-both (ws-own a) (own-both (y .1) (ws-own b))); depth = y .2 }
+    record { grammar = (maxDepth, json a (y .0) b); bytes = own-all (own-both (ws-own a) (own-both (y .1) (ws-own b))); depth = omega (arith, y .2) }
 
 narrow : (d : ℕ) {s : List ℕ} {j : Json} → TextOver (Value rfcLast d) s j → Own s → depthOf j ≤ maxDepth → OurText s j
 narrow d (json {u} {s} {v} {j} a x b) p h = json a (value-in d maxDepth s j x (own-left s v (own-right u _ p)) h) b

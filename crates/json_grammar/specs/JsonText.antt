@@ -21,12 +21,12 @@ unfoldable mutual
   depthOf jfalse = 0
   depthOf jnumber = 0
   depthOf (jstring s) = 0
-  depthOf (jlist l) = suc (valuesDepth l)
+  depthOf (jlist l) = suc (itemsDepth l)
   depthOf (jobject m) = suc (membersDepth m)
 
-  pub valuesDepth : Values → ℕ
-  valuesDepth vnil = 0
-  valuesDepth (vcons j l) = max (depthOf j) (valuesDepth l)
+  pub itemsDepth : Values → ℕ
+  itemsDepth vnil = 0
+  itemsDepth (vcons j l) = max (depthOf j) (itemsDepth l)
 
   pub membersDepth : Members → ℕ
   membersDepth mnil = 0
