@@ -11,7 +11,7 @@ use Rattle.text.specs.String.{bytes}
 use Rattle.json_grammar.specs.Abnf.{is, Rule, one, seq, first, second, absent, present, done, more}
 use Rattle.json_grammar.specs.Json.{Json, jnull, jtrue, jfalse, jnumber, jstring}
 use Rattle.json_grammar.specs.Grammar.{white, Ws, Sign, sign, DIGIT, digit1-9, e-or-E, Number, Quoted, quoted, Scalar, false-text, null-text, true-text, number, string}
-use Rattle.json_grammar.specs.Parser.{Reader, _>>=_, skip, plainly, readChars, readWord, readNumber, spaced, readScalar}
+use Rattle.json_grammar.specs.Parser.{Reader, _>>=_, skip, plainly, lastPlain, readChars, readWord, readNumber, spaced, readScalar}
 use Rattle.text.proofs.Tests.{by}
 use Rattle.json_grammar.proofs.Basics.{split, empty-handed, bound, binds, starts, lit, in-range, push, skip-sound, skip-star, skip-stop}
 use Rattle.json_grammar.proofs.Numbers.{pointed, numeric, number-read}
@@ -65,7 +65,7 @@ word-sound [] s t e = cc
 word-sound (x ∷ w) [] t e = empty-handed e
 word-sound (x ∷ w) (c ∷ s) t e = split (is x c) e (λ h k. ap (λ (y : ℕ). y ∷ s) (eqb-true c x h) ∙ push x (word-sound w s t k)) (λ h k. empty-handed k)
 
-pub quoted-sound : (c : ℕ) (s : List ℕ) (r : List ℕ × List ℕ) → is 0x22 c ≡ true → readChars plainly s ≡ some r → (v : List ℕ) × Quoted v (r .0) × (c ∷ s ≡ v ++ r .1)
+pub quoted-sound : (c : ℕ) (s : List ℕ) (r : List ℕ × List ℕ) → is 0x22 c ≡ true → readChars plainly s ≡ some r → (v : List ℕ) × Quoted lastPlain v (r .0) × (c ∷ s ≡ v ++ r .1)
 quoted-sound c s r h e =
     let g = chars-sound plainly s r e in
     (0x22 ∷ (r .0 ++ (0x22 ∷ [])), quoted (g .0), ap (λ (y : ℕ). y ∷ s) (eqb-true c 0x22 h) ∙ push 0x22 (g .1 ∙ sym (append-assoc (r .0) (0x22 ∷ []) (r .1))))
@@ -88,15 +88,15 @@ scalar-number c s l h = rw (ne-eqb c 0x22 (λ z. omega arith), ne-eqb c 0x74 (λ
 
 -- ---- scalars
 
-scalar-sound : (s : List ℕ) (r : Json × List ℕ) → readScalar s ≡ some r → Cuts Scalar s r
+scalar-sound : (s : List ℕ) (r : Json × List ℕ) → readScalar s ≡ some r → Cuts (Scalar lastPlain) s r
 unfolding readScalar
 scalar-sound [] r e = empty-handed e
 scalar-sound (c ∷ s) r e =
-    split (is 0x22 c) e (λ h k. let b = bound (readChars plainly s) (λ x. spaced (jstring (x .0)) (x .1)) k in let q = quoted-sound c s (b .0) h (b .1) in spaced-sound Scalar _ _ _ r (string (q .1)) (q .2) (b .2))
-    (λ _ e. split (is 0x74 c) e (λ h k. let b = bound (readWord (bytes "rue") s) (spaced jtrue) k in spaced-sound Scalar (bytes "true") _ _ r true-text (lit (λ (x : ℕ). x ∷ s) 0x74 c h (push 0x74 (word-sound (bytes "rue") s (b .0) (b .1)))) (b .2))
-    (λ _ e. split (is 0x66 c) e (λ h k. let b = bound (readWord (bytes "alse") s) (spaced jfalse) k in spaced-sound Scalar (bytes "false") _ _ r false-text (lit (λ (x : ℕ). x ∷ s) 0x66 c h (push 0x66 (word-sound (bytes "alse") s (b .0) (b .1)))) (b .2))
-    (λ _ e. split (is 0x6E c) e (λ h k. let b = bound (readWord (bytes "ull") s) (spaced jnull) k in spaced-sound Scalar (bytes "null") _ _ r null-text (lit (λ (x : ℕ). x ∷ s) 0x6E c h (push 0x6E (word-sound (bytes "ull") s (b .0) (b .1)))) (b .2))
-    (λ _ k. let b = bound (readNumber (c ∷ s)) (spaced jnumber) k in let n = number-read .sound (c ∷ s) (b .0) (b .1) in spaced-sound Scalar _ _ _ r (number (n .1)) (n .2) (b .2)))))
+    split (is 0x22 c) e (λ h k. let b = bound (readChars plainly s) (λ x. spaced (jstring (x .0)) (x .1)) k in let q = quoted-sound c s (b .0) h (b .1) in spaced-sound (Scalar lastPlain) _ _ _ r (string (q .1)) (q .2) (b .2))
+    (λ _ e. split (is 0x74 c) e (λ h k. let b = bound (readWord (bytes "rue") s) (spaced jtrue) k in spaced-sound (Scalar lastPlain) (bytes "true") _ _ r true-text (lit (λ (x : ℕ). x ∷ s) 0x74 c h (push 0x74 (word-sound (bytes "rue") s (b .0) (b .1)))) (b .2))
+    (λ _ e. split (is 0x66 c) e (λ h k. let b = bound (readWord (bytes "alse") s) (spaced jfalse) k in spaced-sound (Scalar lastPlain) (bytes "false") _ _ r false-text (lit (λ (x : ℕ). x ∷ s) 0x66 c h (push 0x66 (word-sound (bytes "alse") s (b .0) (b .1)))) (b .2))
+    (λ _ e. split (is 0x6E c) e (λ h k. let b = bound (readWord (bytes "ull") s) (spaced jnull) k in spaced-sound (Scalar lastPlain) (bytes "null") _ _ r null-text (lit (λ (x : ℕ). x ∷ s) 0x6E c h (push 0x6E (word-sound (bytes "ull") s (b .0) (b .1)))) (b .2))
+    (λ _ k. let b = bound (readNumber (c ∷ s)) (spaced jnumber) k in let n = number-read .sound (c ∷ s) (b .0) (b .1) in spaced-sound (Scalar lastPlain) _ _ _ r (number (n .1)) (n .2) (b .2)))))
 
 number-complete : (v : List ℕ) → Number v → (t : List ℕ) → starts numeric t ≡ false → readScalar (skip white (v ++ t)) ≡ some (jnumber, skip white t)
 number-complete v m t n =
@@ -105,7 +105,7 @@ number-complete v m t n =
     let e : v ++ t ≡ c ∷ (w ++ t) = ap (λ (z : List ℕ). z ++ t) (f .2) in
     ap readScalar (ap (skip white) e ∙ skip-stop white (c ∷ (w ++ t)) (number-dark c (f .3) (f .4))) ∙ scalar-number c (w ++ t) (f .3) (f .4) ∙ binds (spaced jnumber) (ap readNumber (sym e) ∙ number-read .complete v m t n)
 
-scalar-complete : (v : List ℕ) (j : Json) → Scalar v j → (t : List ℕ) → starts numeric t ≡ false → readScalar (skip white (v ++ t)) ≡ some (j, skip white t)
+scalar-complete : (v : List ℕ) (j : Json) → Scalar lastPlain v j → (t : List ℕ) → starts numeric t ≡ false → readScalar (skip white (v ++ t)) ≡ some (j, skip white t)
 unfolding readScalar skip white readWord bind _or_
 scalar-complete v j false-text t n = refl
 scalar-complete v j null-text t n = refl
@@ -113,5 +113,5 @@ scalar-complete v j true-text t n = refl
 scalar-complete v j (number {s} m) t n = number-complete s m t n
 scalar-complete v j (string (quoted {s} m)) t n = rw (append-assoc s (0x22 ∷ []) t) (binds (λ x. spaced (jstring (x .0)) (x .1)) (chars-complete m t))
 
-pub scalar-read : ReadsTo Scalar readScalar
+pub scalar-read : ReadsTo (Scalar lastPlain) readScalar
 scalar-read = record { sound = scalar-sound; complete = scalar-complete }

@@ -1,4 +1,5 @@
 pub mod Abnf
 pub mod Json
 pub mod Grammar
+pub mod JsonText
 pub mod Parser

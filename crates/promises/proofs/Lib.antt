@@ -4,6 +4,7 @@ pub mod Words
 pub mod PathReturn
 pub mod Groups
 pub mod Verdicts
+pub mod Json
 pub mod Rpc
 pub mod Rotation
 pub mod Probes

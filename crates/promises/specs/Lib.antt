@@ -4,6 +4,7 @@ pub mod PathReturn
 pub mod First
 pub mod Groups
 pub mod Verdicts
+pub mod Json
 pub mod Rpc
 pub mod Rotation
 pub mod Probes
