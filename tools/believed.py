@@ -185,7 +185,8 @@ def main():
         if read:
             rows.append((path, read, sum(len(b["lines"]) for b in rest), [b["name"] for b in rest]))
     total = sum(r[1] for r in rows)
-    totals = f"{total:,} lines in {len(rows)} files"
+    stated = sum(r[1] for r in rows if r[0].startswith("crates/promises/"))
+    totals = f"{total:,} lines in {len(rows)} files, {total - stated:,} of definitions and {stated} of promises"
     if "--total" in sys.argv:
         print(totals)
     elif "--check" in sys.argv or "--write" in sys.argv:
@@ -218,7 +219,7 @@ def page(rows, types, totals, write):
     for k, part in enumerate(parts):
         lines = sum(int(n) for _, n in row.findall(part))
         parts[k] = re.sub(r"^(## .*): \d+ lines?, \d+ minutes?$", lambda m: f"{m.group(1)}: {lines} lines, {(lines + 5) // 10} minutes", part, flags=re.M)
-    fresh = re.sub(r"[\d,]+ lines in \d+ files", totals, "".join(parts))
+    fresh = re.sub(r"[\d,]+ lines in \d+ files, [\d,]+ of definitions and \d+ of promises", totals, "".join(parts))
     for old, new in zip(text.split("\n"), fresh.split("\n")):
         if old != new and not write:
             wrong.append(f"{name} says: {old[:90]}\n  and it is: {new[:90]}")
