@@ -22,7 +22,7 @@ bytesFor s = Option·map pathBytes (readText s)
 unfoldable pub textFor : Str → Option Str
 textFor f = Option·map pathText (readBytes f)
 
--- "22: path text, or path bytes given to the writer", "23: the path result doesn't fit the lent buffer"
+-- 22: "path text, or path bytes given to the writer"; 23: "the path result doesn't fit the lent buffer"
 unfoldable pub answer : List ℕ → Option Str → Filled
 answer out none = Refused 22
 answer out (some s) = if leb (length s) (length out) then Length (length s) else Refused 23

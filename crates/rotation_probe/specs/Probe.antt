@@ -1,4 +1,4 @@
--- "A probe judges a request on what is in force: the candidate, else the live text, else factory, which names no rule."
+-- "A probe judges a request on what is in force: the candidate, else the live text, else factory, which names no rule"
 use Prim.Native.Nat.{ℕ}
 use mathlib.Core.Option.{none}
 use lib.Dec.{eqb}

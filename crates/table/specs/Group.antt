@@ -33,7 +33,7 @@ groupsOf t user = memberships (t .members) user 0 (t .groups)
 
 -- ---- the answer
 
--- "The first group is that with the smallest number."
+-- the first group is that with the smallest number
 unfoldable pub counted : List ℕ → Counted
 counted [] = NoGroup
 counted (g ∷ gs) = Count (length (g ∷ gs)) (record { 0 = g })

@@ -13,7 +13,7 @@ wild k = same (k .value) (bytes "*")
 abbrev pub given : List Key → List Key
 given ks = only (λ (k : Key). not (wild k)) ks
 
--- what an element gives: "a request key with value `*` counts as not given", "a key the rule leaves out is a wildcard"
+-- what an element gives: "A request key with value `*` counts as not given.", "A key the rule leaves out is a wildcard"
 unfoldable pub definite : Elem → List Key
 definite e = given (e .keys)
 
@@ -24,7 +24,7 @@ sameKey j k = same (j .name) (k .name) and same (j .value) (k .value)
 unfoldable pub holds : List Key → Key → Bool
 holds ks k = any (λ (j : Key). sameKey j k) ks
 
--- "the names agree .., and each definite key of the rule is given in that element of the request with that value";
+-- "the names agree .., and each definite key of the rule .. is given in that element of the request with that value";
 -- "and, in each of those, every key P gives, with P's value"
 unfoldable pub meets : Elem → Elem → Bool
 meets p d = same (p .name) (d .name) and all (holds (definite d)) (definite p)

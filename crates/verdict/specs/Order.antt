@@ -19,7 +19,7 @@ definites (e ∷ es) = length (definite e) + definites es
 abbrev pub oneUnless : Bool → ℕ
 oneUnless b = if b then 0 else 1
 
--- "more elements; then more definite keys, counted over the whole rule path; then user over group; then deny over permit; then .. the
+-- "more elements; then more definite keys, counted over the whole rule path; then user over group; then deny over permit ..; then .. the
 -- smaller id in byte order, where a proper prefix is smaller"
 unfoldable pub better : Rule → Rule → Bool
 better r s =

@@ -17,7 +17,7 @@ standing r = record { elements = length (r .path); keys = definites (r .path); g
 unfoldable pub decides : ℕ → ℕ → Step → Step → Step
 decides a b here next = if eqb a b then next else here
 
--- "more elements; then more definite keys ..; then user over group; then deny over permit; then .. the smaller id"
+-- "more elements; then more definite keys ..; then user over group; then deny over permit ..; then .. the smaller id"
 unfoldable pub stepOf : Standing → Standing → Step
 stepOf a b =
     decides (a .elements) (b .elements) step.Elements

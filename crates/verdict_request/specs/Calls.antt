@@ -32,7 +32,7 @@ badMode mode = not (eqb mode 1 or eqb mode 2)
 unfoldable pub badOrigin : Str → Bool
 badOrigin origin = ltb maxShortString (length origin) or stray origin
 
--- "20, 21, 22: user or mode not as a table allows; origin likewise; path text"
+-- 20, 21, 22: "user or mode not as a table allows; origin likewise; path text"
 unfoldable pub requestRefusal : Str → ℕ → Str → Str → ℕ
 requestRefusal user mode origin text =
     20 when (badUser user or badMode mode)
