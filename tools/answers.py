@@ -24,6 +24,7 @@ NEAR = 2
 START, START_FIELDS = "start", {"κs", "args", "good", "fits", "pre"}
 START_CALL = "start-call"                            # the thing of a call of a function named start
 SEARCH = "search needs"
+NO_LAW = {"omega", "arith", "search", "needs", "sym", "refl", "tt", "∙", "_", "c"}      # what a body is made of that only cites facts
 
 NAME = r"[\w·′'-]+"
 WAY = rf"(c|at-{NAME})((?:\s+\.before)*)(?:\s+\.({NAME}))?"
@@ -94,6 +95,11 @@ class Answer:
     def is_empty(self):
         """Whether it says nothing: a search, and no comment."""
         return self.body == SEARCH and "unfolding" not in self.head and "--" not in self.head
+
+    def names_no_law(self):
+        """Whether it only cites facts on the way, so that a search may find it."""
+        words = re.sub(rf"@{NAME}|\.{NAME}|\b\d+|[(),]", " ", self.body).split()
+        return self.body != SEARCH and not re.search("unfolding|--", self.head) and set(words) <= NO_LAW
 
     def write(self, depths=None):
         """The block, its places relative to each other; `depths` of the goals, else those of the text."""
@@ -220,6 +226,18 @@ def with_shared(text, shared):
             if answer.name in by:
                 blocks[k] = answer.share(*by[answer.name])
     return "\n\n".join(blocks) + "\n"
+
+
+def without_law(text):
+    """[(answer,)]: the answers that name no law and that no other answer cites."""
+    blocks = blocks_of(text)
+    return [(a,) for a in map(Answer, filter(Answer.is_one, blocks)) if a.names_no_law() and mentions(blocks, a.name) == 2]
+
+
+def with_searched(text, spared):
+    """The text with those answers (of `without_law`) left to the search."""
+    names = {answer.name for answer, in spared}
+    return "\n\n".join(f"{Answer(b).head} {SEARCH}" if Answer.is_one(b) and Answer(b).name in names else b for b in blocks_of(text)) + "\n"
 
 
 def write_spec(block, change):

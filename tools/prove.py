@@ -13,6 +13,7 @@
                                            the places that stand there; and the list of `spec`
     prove.py share CRATE                   an answer that repeats an earlier one of its file, at a place that lies on the way, is answered by that
                                            one; each is tried by rt dev, and what is refused stays as it was
+    prove.py spare CRATE                   an answer that names no law, only facts on the way, is left to the search; tried in the same way
     prove.py tidy [CRATE.. | FILE..]       brings proof files (default: all) into the form of answers.py, then rt fmt; in the other files of
                                            proofs/ it only breaks lines over 300 columns
 
@@ -119,22 +120,35 @@ def tidy(*names):
 
 
 def share(crate):
-    """Shares all that repeats, then takes back what the prover refuses, until it refuses nothing."""
+    """Answers that repeat an earlier one are answered by it."""
     make_goals(crate)
     files = {f: read(f) for f in proof_files(crate)}
     shared = {f: answers.repeats(t, read_goals(crate, os.path.dirname(f).split("/proofs/", 1)[1])) for f, t in files.items()}
-    while any(shared.values()):
+    print(f"{crate}: {keep_accepted(crate, files, shared, answers.with_shared)} answers by an earlier one")
+
+
+def spare(crate):
+    """Answers that the search finds by itself are left to it."""
+    files = {f: read(f) for f in proof_files(crate)}
+    spared = {f: answers.without_law(t) for f, t in files.items()}
+    print(f"{crate}: {keep_accepted(crate, files, spared, answers.with_searched)} answers left to the search")
+    return tidy(crate)
+
+
+def keep_accepted(crate, files, changes, changed):
+    """Makes all changes of the files' answers, then takes back those that the prover refuses, until it refuses nothing; how many stay."""
+    while any(changes.values()):
         for f in files:
-            write(f, answers.with_shared(files[f], shared[f]))
+            write(f, changed(files[f], changes[f]))
         run = subprocess.run([RT, "dev", crate], capture_output=True, text=True, env={**os.environ, "RT_CUT": "0"})
-        refused = {(f, name) for f, name in re.findall(r"(crates/\S+?):\d+:\d+: error: `([^`]+)`", run.stdout + run.stderr)}
-        kept = {f: [s for s in shared[f] if (f, s[0].name) not in refused] for f in files}
         if run.returncode == 0:
             break
-        shared = kept if kept != shared else {f: [] for f in files}
+        refused = {(f, name) for f, name in re.findall(r"(crates/\S+?):\d+:\d+: error: `([^`]+)`", run.stdout + run.stderr)}
+        kept = {f: [c for c in changes[f] if (f, c[0].name) not in refused] for f in files}
+        changes = kept if kept != changes else {f: [] for f in files}
     for f in files:
-        write(f, answers.with_shared(files[f], shared[f]))
-    print(f"{crate}: {sum(map(len, shared.values()))} answers by an earlier one")
+        write(f, changed(files[f], changes[f]))
+    return sum(map(len, changes.values()))
 
 
 def lines_of(texts):
@@ -235,11 +249,11 @@ def test_lemma(side, kind):
     return None
 
 
-COMMANDS = {"dev": dev, "things": things, "fill": fill, "returns": returns, "expand": expand, "share": share, "tidy": tidy}
+COMMANDS = {"dev": dev, "things": things, "fill": fill, "returns": returns, "expand": expand, "share": share, "spare": spare, "tidy": tidy}
 
 if __name__ == "__main__":
     command, *args = sys.argv[1:] or ["help"]
-    least = {"dev": 1, "things": 2, "fill": 2, "returns": 4, "expand": 2, "share": 1}.get(command, 0)
+    least = {"dev": 1, "things": 2, "fill": 2, "returns": 4, "expand": 2, "share": 1, "spare": 1}.get(command, 0)
     if command not in COMMANDS or len(args) < least:
         sys.exit(__doc__)
     sys.exit(COMMANDS[command](*args))

@@ -91,10 +91,19 @@ class Reads(unittest.TestCase):
         _, wrong = answers.expand(SHORT.replace("@put", "@gone"), GOALS)
         self.assertEqual(wrong, ["returns: not on the way: gone (there are: if1 put loop find start)"])
 
+    def test_answers_without_law_are_left_to_the_search(self):
+        facts, law = (FILE % SHORT).replace("add c = search needs", "add c = %s") % "omega (arith, @put .ensures .0)", FILE % SHORT
+        self.assertEqual([a.name for a, in answers.without_law(facts)], ["add"])
+        self.assertEqual(answers.without_law(law), [])
+        self.assertEqual(answers.with_searched(facts, answers.without_law(facts)), law)
+
 
 class Tidies(unittest.TestCase):
     def test_a_file(self):
         self.assertEqual(answers.tidy(FILE % OLD), (TIDY, []))
+
+    def test_modules_that_nothing_mentions(self):
+        self.assertEqual(answers.tidy("use some.Where.Reads as reads\n" + FILE % OLD), (TIDY, []))
 
     def test_twice_is_once(self):
         self.assertEqual(answers.tidy(TIDY), (TIDY, []))

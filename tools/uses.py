@@ -2,10 +2,11 @@
 import re
 
 BRINGS = re.compile(r"^((?:ghost )?use [^\s{]+\.\{)([^}]*)(\};?)$", re.M)
+MODULE = re.compile(r"^use [^\s{]+ as (\S+)\n", re.M)
 
 
 def without_unused(text, comment="--"):
-    """The text without the names that nothing mentions, and those names."""
+    """The text without the names, of items and of modules, that nothing mentions; and those names."""
     used, gone = mentioned(re.sub(rf"(^|\s){comment}(\s.*|$)", "", BRINGS.sub("", text), flags=re.M)), []
 
     def keep(m):
@@ -14,7 +15,13 @@ def without_unused(text, comment="--"):
         gone.extend(n for n in names if n not in kept)
         return m.group(1) + ", ".join(kept) + m.group(3) if kept else "\0"
 
-    return BRINGS.sub(keep, text).replace("\0\n", ""), gone
+    def keep_module(m):
+        if re.search(rf"(?<![\w·′'.-]){re.escape(m.group(1))}\.", text):
+            return m.group(0)
+        gone.append(m.group(1))
+        return ""
+
+    return MODULE.sub(keep_module, BRINGS.sub(keep, text).replace("\0\n", "")), gone
 
 
 def mentioned(text):

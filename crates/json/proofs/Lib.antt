@@ -1,4 +1,5 @@
 pub mod Turns
+pub mod Loops
 pub mod Blocks
 pub mod Places
 pub mod Strings

@@ -37,7 +37,7 @@ use Rattle.path_read.specs.declared.reader.Stored.{Stored}
 use Rattle.path_read.specs.declared.reader.Stored.the-variants.{To, Unread}
 use Rattle.path_read.proofs.Complete.{each-open, each-end, each-none}
 use Rattle.path_read.proofs.Storing.{stored-to, stores-after, room-end, stored-rest, stored-string, string-longer}
-use Rattle.path_read.proofs.Reading.{part-length, key-unequal, key-open}
+use Rattle.path_read.proofs.Reading.{name-low, name-high, name-room, part-length, key-unequal, key-open}
 
 -- ---- what passes
 
@@ -225,6 +225,29 @@ few-bytes n t = ltb-false maxString n (by (ltb maxString n) (λ u. clash (ors (e
     ors : (s t : Bool) → t ≡ true → (s || t) ≡ true
     ors true t e = refl
     ors false t e = e
+
+-- the name of s from `at` to n ends there, and can be stored at `to` of d, after its length
+pub record Named (a b : ℕ) (s : Str) (at n : ℕ) (d : List ℕ) (to : ℕ) : Type 0 where
+  pub ends : n ≡ at + upTo a b (drop at s)
+  pub few : n - at ≤ maxString
+  pub long : n - at ≡ length (part s at n)
+  pub room : to + 1 + (n - at) ≤ length d
+  pub passes : good nameRefusal (part s at n) ≡ true
+
+pub name-known : {a b at n c to : ℕ} {s : Str} {d : List ℕ} → Room maxStringBytes 1 s at d to × (isName a ≡ false) × (isName b ≡ false)
+    → n ≡ at + nameRun (drop at s) → c ≡ getD s n 0 → ((ltb n (length s) && not (eqb c a)) && not (eqb c b)) ≡ false → unsizedBy (n - at) ≡ false
+    → Named a b s at n d to
+name-known {a} {b} {at} {n} {c} {to} {s} {d} x e i t u =
+    let h = x .0 .starts in
+    let m = name-ends a b (x .1) (x .2) s at n c h e i t in
+    let f = few-bytes (n - at) u in
+    record {
+      ends = m;
+      few = f;
+      long = part-length s at n (name-low a b s at n h m) (name-high a b s at n h m);
+      room = name-room a b s at n h m to f d (x .0);
+      passes = name-clear a b (x .1) (x .2) s at n c h e i m u;
+    }
 
 -- ---- read_good_value
 

@@ -17,7 +17,7 @@ pub enum RpcAnswer {
 fn factory_rpc(identity: &[u8], path: &[u8], headers: &[u8]) -> RpcAnswer
     ensures { λ a. ⌜ a ≡ factoryRpc (rpcRefusal (now (identity .entry)) (now (path .entry)) (now (headers .entry))) ⌝ }
 {
-    let number = rpc_request::request::request_fault(identity, path, headers);
+    let number = rpc_request::request::request_refusal(identity, path, headers);
     if number != limits::CLEAR {
         return RpcAnswer::Judged(Verdict::Refused(number));
     }

@@ -1,12 +1,12 @@
 -- "A request has an identity (empty without a client certificate), a path, and header lines `name`, `:`, `value`, LF."
-use mathlib.Core.Bool.{Bool, true, false, not}
+use mathlib.Core.Bool.{Bool, not}
 use mathlib.Core.List.{List, [], _∷_, _++_, map}
 use mathlib.Core.Option.{Option, none, some}
 use Prim.Native.Nat.{ℕ, zero, suc}
 use lib.Dec.{eqb, ltb}
 use lib.ListN.{length}
 use Rattle.limits.specs.Limits.{maxRequestString, maxHeaderLines}
-use Rattle.text.specs.Test.{_and_, _or_, if_then_else_, all, only}
+use Rattle.text.specs.Test.{_and_, _or_, if_then_else_, all, only, absent}
 use Rattle.text.specs.Byte.{isPrint}
 use Rattle.text.specs.String.{Str, same}
 use Rattle.text.specs.Refusal.{_when_else_, clear}
@@ -58,18 +58,13 @@ linesOf (suc n) s = if empty s then some [] else lineThen (linesOf n) (cutAt 10 
 abbrev pub headersOf : Str → Option (List Line)
 headersOf s = linesOf (length s) s
 
--- whether something was read
-unfoldable pub readable : {A : Type 0} → Option A → Bool
-readable none = false
-readable (some a) = true
-
 -- 40: "identity or path over 256 bytes or a byte outside 0x20 to 0x7E"
 unfoldable pub badText : Str → Bool
 badText s = ltb maxRequestString (length s) or not (all isPrint s)
 
 -- 41: "header lines ill-formed, a value byte outside that range, or over 8,192 bytes together"
 unfoldable pub badHeaders : Str → Bool
-badHeaders s = ltb maxHeaderLines (length s) or not (readable (headersOf s))
+badHeaders s = ltb maxHeaderLines (length s) or absent (headersOf s)
 
 -- the refusal number of a request; `clear` where there is none
 unfoldable pub rpcRefusal : Str → Str → Str → ℕ

@@ -103,7 +103,7 @@ pub fn rpc_verdict(policy: &[u8], identity: &[u8], path: &[u8], headers: &[u8]) 
     if let Check::Refused(number) = c {
         return Verdict::Refused(number);
     }
-    let number = rpc_request::request::request_fault(identity, path, headers);
+    let number = rpc_request::request::request_refusal(identity, path, headers);
     if number != limits::CLEAR {
         return Verdict::Refused(number);
     }

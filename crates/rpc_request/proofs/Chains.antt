@@ -9,7 +9,7 @@ use lib.Dec.{eqb, ltb}
 use lib.ListN.{length, take, drop, getD, set, length-set, length-drop, drop-of-length-le}
 use lib.Seq.{take-all, drop-at, drop-drop, length-take-le, getD-set-same, getD-set-other}
 use borrow.Author.Tests.{eqb-true, eqb-false, ltb-true, ltb-false, lt-ltb, le-ltb}
-use Rattle.text.specs.Test.{_and_, if_then_else_, only, orNothing}
+use Rattle.text.specs.Test.{_and_, if_then_else_, only, absent, orNothing}
 use Rattle.text.specs.String.{Str}
 use Rattle.text.specs.Frame.{part}
 use Rattle.text.specs.Fill.{put}
@@ -21,7 +21,7 @@ use Rattle.text_affix.specs.Affix.{empty}
 use Rattle.text_search.specs.Search.{is}
 use Rattle.text_hash.specs.Mix.{Small}
 use Rattle.text_hash.specs.declared.Seed.{Seed}
-use Rattle.rpc.specs.Request.{Line, longer, cutAt, lineOf, cons, linesOf, headersOf, readable, badHeaders, joined, valuesOf, headerValue}
+use Rattle.rpc.specs.Request.{Line, longer, cutAt, lineOf, cons, linesOf, headersOf, badHeaders, joined, valuesOf, headerValue}
 use Rattle.rpc_request.specs.Steps.{Cut, commaed, lineValue}
 use Rattle.rpc_request.specs.Index.{bucketCount, bucketOf, inBucket, LineAt, Chain, stop, link, onto, Blank, Indexed}
 use Rattle.rpc_request.proofs.Lines.{part-long, until-later, cut-same, cut-until, firstLf, lf-cut, colon-before, cut-part, name-part, fueled, read-is, Reading, reading-on, lines-cut, lines-uncut, lines-bad, lines-on, lines-over, headers-short, headers-read}
@@ -103,7 +103,7 @@ module _ (seed : Seed) (b : ℕ) where
 pub record Indexing (seed : Seed) (h last before : Str) (i : ℕ) : Type 0 where
   pub fuel : ℕ
   pub reading : Reading h i fuel
-  pub good : readable (linesOf fuel (drop i h)) ≡ true
+  pub good : absent (linesOf fuel (drop i h)) ≡ false
   pub back : List Line
   pub is : orNothing (headersOf h) ≡ onto back (orNothing (linesOf fuel (drop i h)))
   pub buckets : length last ≡ bucketCount
@@ -125,20 +125,20 @@ indexing-start seed h last before x = record {
 }
 
 module _ (seed : Seed) (h last before : Str) (i e : ℕ) (l : i < length h) (k : Cut 10 h i e) (j : Indexing seed h last before i) where
-  turn : (g : ℕ) × (Reading h i (suc g)) × (readable (linesOf (suc g) (drop i h)) ≡ true) × (orNothing (headersOf h) ≡ onto (j .back) (orNothing (linesOf (suc g) (drop i h))))
+  turn : (g : ℕ) × (Reading h i (suc g)) × (absent (linesOf (suc g) (drop i h)) ≡ false) × (orNothing (headersOf h) ≡ onto (j .back) (orNothing (linesOf (suc g) (drop i h))))
   turn =
       let f = fueled h i l (j .fuel) (j .reading) in
       let q = f .1 in
-      (f .0, subst (Reading h i) q (j .reading), ap (λ (n : ℕ). readable (linesOf n (drop i h))) (sym q) ∙ j .good, j .is ∙ ap (λ (n : ℕ). onto (j .back) (orNothing (linesOf n (drop i h)))) q)
+      (f .0, subst (Reading h i) q (j .reading), ap (λ (n : ℕ). absent (linesOf n (drop i h))) (sym q) ∙ j .good, j .is ∙ ap (λ (n : ℕ). onto (j .back) (orNothing (linesOf n (drop i h)))) q)
 
   pub indexing-cut : e < length h
-  indexing-cut = let t = turn in by (ltb e (length h)) (λ z. ltb-true _ _ z) (λ z. clash (t .2) (lines-uncut h i e (t .0) l k (let x = ltb-false e (length h) z in let y = k .high in omega arith)))
+  indexing-cut = let t = turn in by (ltb e (length h)) (λ z. ltb-true _ _ z) (λ z. clash (lines-uncut h i e (t .0) l k (let x = ltb-false e (length h) z in let y = k .high in omega arith)) (t .2))
 
-  pub indexing-line : readable (lineOf (cutAt 58 (part h i e))) ≡ true
-  indexing-line = let t = turn in by (readable (lineOf (cutAt 58 (part h i e)))) (λ z. z) (λ z. clash (t .2) (lines-bad h i e (t .0) l k indexing-cut z))
+  pub indexing-line : absent (lineOf (cutAt 58 (part h i e))) ≡ false
+  indexing-line = let t = turn in by (absent (lineOf (cutAt 58 (part h i e)))) (λ z. clash (lines-bad h i e (t .0) l k indexing-cut z) (t .2)) (λ z. z)
 
-  lines-rest : (x : Line) → lineOf (cutAt 58 (part h i e)) ≡ some x → (g : ℕ) → readable (linesOf (suc g) (drop i h)) ≡ true
-      → (readable (linesOf g (drop (e + 1) h)) ≡ true) × (orNothing (linesOf (suc g) (drop i h)) ≡ x ∷ orNothing (linesOf g (drop (e + 1) h)))
+  lines-rest : (x : Line) → lineOf (cutAt 58 (part h i e)) ≡ some x → (g : ℕ) → absent (linesOf (suc g) (drop i h)) ≡ false
+      → (absent (linesOf g (drop (e + 1) h)) ≡ false) × (orNothing (linesOf (suc g) (drop i h)) ≡ x ∷ orNothing (linesOf g (drop (e + 1) h)))
   lines-rest x q g r =
       let a = sym (lines-on h i e g l k indexing-cut indexing-line) ∙ r in
       let o = read-is _ a in
@@ -187,7 +187,7 @@ module _ (seed : Seed) (h last before : Str) (i e : ℕ) (l : i < length h) (k :
 
 -- the colon is searched first, and the LF from behind it on
 module _ (seed : Seed) (h last before : Str) (i c : ℕ) (l : i < length h) (k : Cut 58 h i c) (j : Indexing seed h last before i) where
-  line-good : readable (lineOf (cutAt 58 (part h i (firstLf h i)))) ≡ true
+  line-good : absent (lineOf (cutAt 58 (part h i (firstLf h i)))) ≡ false
   line-good = indexing-line seed h last before i _ l (lf-cut h i l) j
 
   pub colon-inside : c < length h
@@ -203,7 +203,7 @@ module _ (seed : Seed) (h last before : Str) (i c : ℕ) (l : i < length h) (k :
     pub line-named : (b : ℕ) → b ≡ bucketOf seed (part h i c) → (x : Line) → lineOf (cutAt 58 (part h i e)) ≡ some x → b ≡ bucketOf seed (x .name)
     line-named b q =
         let z : c < e = omega (arith, colon-before h i c l k line-good, lf-is) in
-        line-bucket seed (part h i e) (c - i) (cut-part h i c e k z (m .high)) (ap (λ (n : ℕ). readable (lineOf (cutAt 58 (part h i n)))) (sym lf-is) ∙ line-good) b (q ∙ ap (bucketOf seed) (sym (name-part h i c e (k .low) z)))
+        line-bucket seed (part h i e) (c - i) (cut-part h i c e k z (m .high)) (ap (λ (n : ℕ). absent (lineOf (cutAt 58 (part h i n)))) (sym lf-is) ∙ line-good) b (q ∙ ap (bucketOf seed) (sym (name-part h i c e (k .low) z)))
 
 pub indexing-done : (seed : Seed) (h last before : Str) (i : ℕ) → badHeaders h ≡ false → Indexing seed h last before i → length h ≤ i → Indexed seed h last before
 indexing-done seed h last before i g j l = record {
@@ -272,12 +272,12 @@ module _ (key h before out : Str) (p at e : ℕ) (l : p < length h) (k : Cut 10 
   pub linked : Gathering key h before out p at → Linked key h before out p e at
   linked g = linked-chain (g .got) (g .chain) (g .is) (g .stored) (g .low) (g .high) (g .room)
 
-  read-known : {x : Line} {o : Option Line} → o ≡ some x → readable o ≡ true
-  unfolding readable
+  read-known : {x : Line} {o : Option Line} → o ≡ some x → absent o ≡ false
+  unfolding absent
   read-known q = rw q
 
   module _ (g : Linked key h before out p e at) where
-    pub linked-line : readable (lineOf (cutAt 58 (part h p e))) ≡ true
+    pub linked-line : absent (lineOf (cutAt 58 (part h p e))) ≡ false
     linked-line = read-known (g .stands .is)
 
     pub linked-long : length (part h p e) ≡ e - p

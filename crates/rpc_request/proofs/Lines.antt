@@ -11,7 +11,7 @@ use lib.ListN.{length, take, drop, getD, length-drop, drop-of-length-le}
 use lib.Seq.{drop-cons, take-nil, take-take, drop-drop, getD-drop, length-take-le}
 use borrow.Author.Tests.{eqb-true, eqb-false, eq-eqb, ne-eqb, lt-ltb, le-ltb, ltb-true, ltb-false, not-false}
 use Rattle.limits.specs.Limits.{maxRequestString, maxHeaderLines}
-use Rattle.text.specs.Test.{_and_, _or_, if_then_else_, all}
+use Rattle.text.specs.Test.{_and_, _or_, if_then_else_, all, absent}
 use Rattle.text.specs.Byte.{isPrint}
 use Rattle.text.specs.String.{Str}
 use Rattle.text.specs.Frame.{part}
@@ -21,7 +21,7 @@ use Rattle.text_affix.specs.Affix.{empty}
 use Rattle.text_search.specs.Search.{until, is, unprinted}
 use Rattle.text_search.proofs.Searching.{until-fits, found, passed, ran-out, found-low, found-high, printed}
 use Rattle.policy.specs.Text.{isHeaderByte}
-use Rattle.rpc.specs.Request.{Line, longer, cutAt, lineOf, cons, lineThen, linesOf, headersOf, readable, badText, badHeaders}
+use Rattle.rpc.specs.Request.{Line, longer, cutAt, lineOf, cons, lineThen, linesOf, headersOf, badText, badHeaders}
 use Rattle.rpc_request.specs.Steps.{cutHere, Cut, LineEnd}
 
 -- ---- parts
@@ -168,16 +168,16 @@ line-none = refl
 abbrev good : Str → Str → Bool
 good x y = not (empty x) and all isHeaderByte x and all isPrint y
 
-line-test : (x y : Str) → readable (lineOf (some (x, y))) ≡ good x y
-unfolding lineOf readable if_then_else_
+line-test : (x y : Str) → absent (lineOf (some (x, y))) ≡ not (good x y)
+unfolding lineOf absent if_then_else_
 line-test x y = by (good x y) (λ t. rw t) (λ t. rw t)
 
-line-is : (x y : Str) → readable (lineOf (some (x, y))) ≡ true → lineOf (some (x, y)) ≡ some (record { name = x; value = y })
+line-is : (x y : Str) → absent (lineOf (some (x, y))) ≡ false → lineOf (some (x, y)) ≡ some (record { name = x; value = y })
 unfolding lineOf if_then_else_
-line-is x y h = rw (sym (line-test x y) ∙ h)
+line-is x y h = rw (not-false (good x y) (sym (line-test x y) ∙ h))
 
-unread : {A : Type 0} {o : Option A} → o ≡ none → readable o ≡ false
-unfolding readable
+unread : {A : Type 0} {o : Option A} → o ≡ none → absent o ≡ true
+unfolding absent
 unread e = rw e
 
 good-nameless : (x y : Str) → length x ≡ 0 → good x y ≡ false
@@ -199,19 +199,19 @@ module _ (l : Str) (c : ℕ) (k : Cut 58 l 0 c) where
   pub line-cut : c < length l → cutAt 58 l ≡ some (part l 0 c, drop (c + 1) l)
   line-cut h = k .is ∙ here-some l 0 c h
 
-  line-judged : c < length l → readable (lineOf (cutAt 58 l)) ≡ good (part l 0 c) (drop (c + 1) l)
-  line-judged h = ap (λ (o : Option (Str × Str)). readable (lineOf o)) (line-cut h) ∙ line-test _ _
+  line-judged : c < length l → absent (lineOf (cutAt 58 l)) ≡ not (good (part l 0 c) (drop (c + 1) l))
+  line-judged h = ap (λ (o : Option (Str × Str)). absent (lineOf o)) (line-cut h) ∙ line-test _ _
 
-  pub line-uncut : c ≡ length l → readable (lineOf (cutAt 58 l)) ≡ false
+  pub line-uncut : c ≡ length l → absent (lineOf (cutAt 58 l)) ≡ true
   line-uncut e = unread (ap lineOf (k .is ∙ here-none l 0 c (omega arith)) ∙ line-none)
 
   -- value_from
-  module _ (g : readable (lineOf (cutAt 58 l)) ≡ true) where
+  module _ (g : absent (lineOf (cutAt 58 l)) ≡ false) where
     pub line-there : c < length l
-    line-there = by (ltb c (length l)) (λ t. ltb-true _ _ t) (λ t. clash g (line-uncut (let x = ltb-false c (length l) t in let y = k .high in omega arith)))
+    line-there = by (ltb c (length l)) (λ t. ltb-true _ _ t) (λ t. clash (line-uncut (let x = ltb-false c (length l) t in let y = k .high in omega arith)) g)
 
     pub line-whole : lineOf (cutAt 58 l) ≡ some (record { name = part l 0 c; value = drop (c + 1) l })
-    line-whole = let e = line-cut line-there in ap lineOf e ∙ line-is _ _ (ap (λ (o : Option (Str × Str)). readable (lineOf o)) (sym e) ∙ g)
+    line-whole = let e = line-cut line-there in ap lineOf e ∙ line-is _ _ (ap (λ (o : Option (Str × Str)). absent (lineOf o)) (sym e) ∙ g)
 
     pub tail-long : length (take (length l - (c + 1)) (drop (c + 1) l)) + (c + 1) ≡ length l
     tail-long = let h = line-there in omega (arith, length-take-le (length l - (c + 1)) (drop (c + 1) l) (omega (arith, length-drop (c + 1) l)))
@@ -245,10 +245,10 @@ module _ (h : Str) (i c e : ℕ) (k : Cut 58 h i c) (high : c < e) (within : e �
       cut-at (part h i e) 58 0 (c - i) (omega arith) (omega (arith, z, v))
 
   -- whether the line from i to e is well formed
-  line-parts : readable (lineOf (cutAt 58 (part h i e))) ≡ good (part h i c) (part h (c + 1) e)
+  line-parts : absent (lineOf (cutAt 58 (part h i e))) ≡ not (good (part h i c) (part h (c + 1) e))
   line-parts =
       let z : c - i < length (part h i e) = omega (arith, part-long h i e within, k .low) in
-      line-judged (part h i e) (c - i) cut-part z ∙ ap (λ (x : Str). good x (drop ((c - i) + 1) (part h i e))) (name-part h i c e (k .low) high) ∙ ap (good (part h i c)) (rest-part h i c e (k .low) high)
+      line-judged (part h i e) (c - i) cut-part z ∙ ap (λ (x : Str). not (good x (drop ((c - i) + 1) (part h i e)))) (name-part h i c e (k .low) high) ∙ ap (λ (y : Str). not (good (part h i c) y)) (rest-part h i c e (k .low) high)
 
 -- the first LF from i on
 abbrev pub firstLf : Str → ℕ → ℕ
@@ -261,7 +261,7 @@ lf-byte : (h : Str) (i : ℕ) → i < length h → firstLf h i < length h → ge
 lf-byte h i l z = sym (getD-drop i h _ 0) ∙ eqb-true _ _ (until-hit (is 10) (drop i h) (omega (arith, length-drop i h)))
 
 -- the colon of a good line stands before its LF
-pub colon-before : (h : Str) (i c : ℕ) → i < length h → Cut 58 h i c → readable (lineOf (cutAt 58 (part h i (firstLf h i)))) ≡ true → c < firstLf h i
+pub colon-before : (h : Str) (i c : ℕ) → i < length h → Cut 58 h i c → absent (lineOf (cutAt 58 (part h i (firstLf h i)))) ≡ false → c < firstLf h i
 colon-before h i c l k g =
     let e = firstLf h i in
     let m = cut-at (part h i e) 58 0 _ (omega arith) refl in
@@ -328,20 +328,20 @@ module _ {A : Type 0} where
   unfolding cons
   cons-none l = refl
 
-  cons-read : (a : A) (l : Option (List A)) → readable (cons (some a) l) ≡ readable l
-  unfolding cons readable
+  cons-read : (a : A) (l : Option (List A)) → absent (cons (some a) l) ≡ absent l
+  unfolding cons absent
   cons-read a none = refl
   cons-read a (some l) = refl
 
-  pub read-is : (o : Option A) → readable o ≡ true → (a : A) × (o ≡ some a)
-  unfolding readable
-  read-is none h = clash h refl
+  pub read-is : (o : Option A) → absent o ≡ false → (a : A) × (o ≡ some a)
+  unfolding absent
+  read-is none h = clash refl h
   read-is (some a) h = (a, refl)
 
-  unread-is : (o : Option A) → readable o ≡ false → o ≡ none
-  unfolding readable
+  unread-is : (o : Option A) → absent o ≡ true → o ≡ none
+  unfolding absent
   unread-is none h = refl
-  unread-is (some a) h = clash refl h
+  unread-is (some a) h = clash h refl
 
 -- lines from i on, read with room for `fuel` of them
 pub record Reading (h : Str) (i fuel : ℕ) : Type 0 where
@@ -358,33 +358,33 @@ module _ (h : Str) (i e fuel : ℕ) (l : i < length h) (k : Cut 10 h i e) where
   pub lines-cut : e < length h → linesOf (suc fuel) (drop i h) ≡ cons (lineOf (cutAt 58 (part h i e))) (linesOf fuel (drop (e + 1) h))
   lines-cut z = lines-open ∙ ap (lineThen (linesOf fuel)) (here-some h i e z) ∙ then-some fuel _ _
 
-  pub lines-uncut : e ≡ length h → readable (linesOf (suc fuel) (drop i h)) ≡ false
+  pub lines-uncut : e ≡ length h → absent (linesOf (suc fuel) (drop i h)) ≡ true
   lines-uncut z = unread (lines-open ∙ ap (lineThen (linesOf fuel)) (here-none h i e (omega arith)) ∙ then-none fuel)
 
-  pub lines-bad : e < length h → readable (lineOf (cutAt 58 (part h i e))) ≡ false → readable (linesOf (suc fuel) (drop i h)) ≡ false
+  pub lines-bad : e < length h → absent (lineOf (cutAt 58 (part h i e))) ≡ true → absent (linesOf (suc fuel) (drop i h)) ≡ true
   lines-bad z g = unread (lines-cut z ∙ ap (λ (o : Option Line). cons o (linesOf fuel (drop (e + 1) h))) (unread-is _ g) ∙ cons-none _)
 
-  pub lines-on : e < length h → readable (lineOf (cutAt 58 (part h i e))) ≡ true → readable (linesOf (suc fuel) (drop i h)) ≡ readable (linesOf fuel (drop (e + 1) h))
-  lines-on z g = let a = read-is _ g in ap readable (lines-cut z ∙ ap (λ (o : Option Line). cons o (linesOf fuel (drop (e + 1) h))) (a .1)) ∙ cons-read _ _
+  pub lines-on : e < length h → absent (lineOf (cutAt 58 (part h i e))) ≡ false → absent (linesOf (suc fuel) (drop i h)) ≡ absent (linesOf fuel (drop (e + 1) h))
+  lines-on z g = let a = read-is _ g in ap absent (lines-cut z ∙ ap (λ (o : Option Line). cons o (linesOf fuel (drop (e + 1) h))) (a .1)) ∙ cons-read _ _
 
 -- each way out of line_end; c is where the colon stands, or the end
 module _ (h : Str) (i c : ℕ) (l : i < length h) (k : Cut 58 h i c) where
   -- no good line stands at i
-  line-end-bad : (firstLf h i < length h → readable (lineOf (cutAt 58 (part h i (firstLf h i)))) ≡ true → ⊥) → LineEnd h i (length h)
+  line-end-bad : (firstLf h i < length h → absent (lineOf (cutAt 58 (part h i (firstLf h i)))) ≡ false → ⊥) → LineEnd h i (length h)
   line-end-bad f = record {
     high = omega arith;
     good = λ q. absurd (omega arith);
     bad = λ _ n.
         by (ltb (firstLf h i) (length h))
-        (λ t. by (readable (lineOf (cutAt 58 (part h i (firstLf h i))))) (λ g. absurd (f (ltb-true _ _ t) g)) (λ g. lines-bad h i _ n l (lf-cut h i l) (ltb-true _ _ t) g))
+        (λ t. by (absent (lineOf (cutAt 58 (part h i (firstLf h i))))) (λ g. lines-bad h i _ n l (lf-cut h i l) (ltb-true _ _ t) g) (λ g. absurd (f (ltb-true _ _ t) g)))
         (λ t. let z = ltb-false (firstLf h i) (length h) t in lines-uncut h i _ n l (lf-cut h i l) (omega (arith, lf-cut h i l .high)));
   }
 
   pub line-colonless : c ≡ length h → LineEnd h i (length h)
   line-colonless q = line-end-bad (λ z g. omega (arith, colon-before h i c l k g))
 
-  line-is-good : firstLf h i < length h → readable (lineOf (cutAt 58 (part h i (firstLf h i)))) ≡ true → good (part h i c) (part h (c + 1) (firstLf h i)) ≡ true
-  line-is-good z g = sym (line-parts h i c _ k (colon-before h i c l k g) (omega arith)) ∙ g
+  line-is-good : firstLf h i < length h → absent (lineOf (cutAt 58 (part h i (firstLf h i)))) ≡ false → good (part h i c) (part h (c + 1) (firstLf h i)) ≡ true
+  line-is-good z g = not-false _ (sym (line-parts h i c _ k (colon-before h i c l k g) (omega arith)) ∙ g)
 
   pub line-nameless : c ≡ i → LineEnd h i (length h)
   line-nameless q = line-end-bad (λ z g. clash (line-is-good z g) (good-nameless _ _ (part-long h i c (k .high) ∙ omega arith)))
@@ -394,7 +394,7 @@ module _ (h : Str) (i c : ℕ) (l : i < length h) (k : Cut 58 h i c) where
 
   -- e is where the first byte behind the colon stands that does not print
   module _ (e : ℕ) (m : e ≡ c + 1 + until unprinted (drop (c + 1) h)) where
-    print-end-is : firstLf h i < length h → readable (lineOf (cutAt 58 (part h i (firstLf h i)))) ≡ true → e ≡ firstLf h i
+    print-end-is : firstLf h i < length h → absent (lineOf (cutAt 58 (part h i (firstLf h i)))) ≡ false → e ≡ firstLf h i
     print-end-is z g =
         let b = colon-before h i c l k g in
         let w : c + 1 + (firstLf h i - (c + 1)) ≡ firstLf h i = omega arith in
@@ -425,7 +425,7 @@ module _ (h : Str) (i c : ℕ) (l : i < length h) (k : Cut 58 h i c) where
       pub line-ended : LineEnd h i e
       line-ended = record {
         high = omega arith;
-        good = λ _. (subst (Cut 10 h i) lf-here (lf-cut h i l), line-parts h i c e k (omega arith) (omega arith) ∙ good-last _ _ (λ x. named (omega (arith, part-long h i c (k .high), x, k .low))) name ∙ value-print);
+        good = λ _. (subst (Cut 10 h i) lf-here (lf-cut h i l), line-parts h i c e k (omega arith) (omega arith) ∙ ap not (good-last _ _ (λ x. named (omega (arith, part-long h i c (k .high), x, k .low))) name ∙ value-print));
         bad = λ q. absurd (omega arith);
       }
 
@@ -433,7 +433,7 @@ module _ (h : Str) (i c : ℕ) (l : i < length h) (k : Cut 58 h i c) where
 pub record Judging (h : Str) (i : ℕ) : Type 0 where
   pub fuel : ℕ
   pub reading : Reading h i fuel
-  pub is : readable (headersOf h) ≡ readable (linesOf fuel (drop i h))
+  pub is : absent (headersOf h) ≡ absent (linesOf fuel (drop i h))
 
 pub judging-start : (h : Str) → Judging h 0
 judging-start h = record { fuel = length h; reading = record { inside = omega arith; enough = omega arith }; is = refl }
@@ -444,11 +444,11 @@ module _ (h : Str) (i : ℕ) (l : i < length h) where
   fueled (suc g) r = (g, refl)
 
   module _ (e : ℕ) (k : LineEnd h i e) (j : Judging h i) where
-    turn : (g : ℕ) × (Reading h i (suc g)) × (readable (headersOf h) ≡ readable (linesOf (suc g) (drop i h)))
-    turn = let f = fueled (j .fuel) (j .reading) in (f .0, subst (Reading h i) (f .1) (j .reading), j .is ∙ ap (λ (n : ℕ). readable (linesOf n (drop i h))) (f .1))
+    turn : (g : ℕ) × (Reading h i (suc g)) × (absent (headersOf h) ≡ absent (linesOf (suc g) (drop i h)))
+    turn = let f = fueled (j .fuel) (j .reading) in (f .0, subst (Reading h i) (f .1) (j .reading), j .is ∙ ap (λ (n : ℕ). absent (linesOf n (drop i h))) (f .1))
 
-    pub judging-bad : e ≡ length h → false ≡ readable (headersOf h)
-    judging-bad z = let t = turn in sym (t .2 ∙ k .bad z (t .0))
+    pub judging-bad : e ≡ length h → false ≡ not (absent (headersOf h))
+    judging-bad z = let t = turn in ap not (sym (t .2 ∙ k .bad z (t .0)))
 
     pub judging-on : (e ≡ length h → ⊥) → (i ≤ e) × Judging h (e + 1)
     judging-on n =
@@ -460,12 +460,12 @@ module _ (h : Str) (i : ℕ) (l : i < length h) where
 pub lines-over : (h : Str) (i n : ℕ) → length h ≤ i → linesOf n (drop i h) ≡ some []
 lines-over h i n l = ap (linesOf n) (drop-of-length-le h l) ∙ lines-nil n
 
-read-some : {A : Type 0} (a : A) → readable (some a) ≡ true
-unfolding readable
+read-some : {A : Type 0} (a : A) → absent (some a) ≡ false
+unfolding absent
 read-some a = refl
 
-pub judging-done : (h : Str) (i : ℕ) → Judging h i → length h ≤ i → true ≡ readable (headersOf h)
-judging-done h i j l = sym (j .is ∙ ap readable (lines-over h i (j .fuel) l) ∙ read-some [])
+pub judging-done : (h : Str) (i : ℕ) → Judging h i → length h ≤ i → true ≡ not (absent (headersOf h))
+judging-done h i j l = ap not (sym (j .is ∙ ap absent (lines-over h i (j .fuel) l) ∙ read-some []))
 
 -- ---- 40 and 41
 
@@ -473,9 +473,9 @@ pub bad-long : (h : Str) → maxHeaderLines < length h → true ≡ badHeaders h
 unfolding badHeaders _or_
 bad-long h l = rw (lt-ltb maxHeaderLines (length h) l)
 
-pub bad-lines : (h : Str) (r : Bool) → length h ≤ maxHeaderLines → r ≡ readable (headersOf h) → not r ≡ badHeaders h
+pub bad-lines : (h : Str) (r : Bool) → length h ≤ maxHeaderLines → r ≡ not (absent (headersOf h)) → not r ≡ badHeaders h
 unfolding badHeaders _or_
-bad-lines h r l e = rw (le-ltb maxHeaderLines (length h) l) (ap not e)
+bad-lines h r l e = rw (le-ltb maxHeaderLines (length h) l, e) (by (absent (headersOf h)) (λ t. rw t) (λ t. rw t))
 
 pub text-long : (t : Str) → maxRequestString < length t → true ≡ badText t
 unfolding badText _or_
@@ -489,6 +489,6 @@ pub headers-short : (h : Str) → badHeaders h ≡ false → length h ≤ maxHea
 unfolding badHeaders
 headers-short h e = ltb-false maxHeaderLines (length h) (or-false-l _ _ e)
 
-pub headers-read : (h : Str) → badHeaders h ≡ false → readable (headersOf h) ≡ true
+pub headers-read : (h : Str) → badHeaders h ≡ false → absent (headersOf h) ≡ false
 unfolding badHeaders
-headers-read h e = not-false _ (or-false-r _ _ e)
+headers-read h e = or-false-r _ _ e

@@ -8,14 +8,14 @@ use native.Mathlib.Omega.{arith}
 use lib.ListN.{length, take, drop, set, length-drop}
 use lib.Seq.{take-all}
 use borrow.Author.Tests.{eq-eqb}
-use Rattle.text.specs.Test.{if_then_else_, only}
+use Rattle.text.specs.Test.{if_then_else_, only, absent}
 use Rattle.text.specs.String.{Str, same}
 use Rattle.text.specs.Frame.{part}
 use Rattle.text.specs.Fill.{put}
 use Rattle.text.specs.Steps.{Wrote}
 use Rattle.text.proofs.Tests.{by, clash, same→≡}
 use Rattle.text.proofs.Filling.{wrote-before, wrote-nothing, put-length}
-use Rattle.rpc.specs.Request.{Line, cutAt, lineOf, readable, joined, valuesOf}
+use Rattle.rpc.specs.Request.{Line, cutAt, lineOf, joined, valuesOf}
 use Rattle.rpc_request.specs.Steps.{Cut, commaed, oneLine, lineValue}
 use Rattle.text_hash.specs.declared.Seed.{Seed}
 use Rattle.rpc_request.specs.Index.{bucketOf, inBucket, onto}
@@ -122,10 +122,10 @@ some-is : {a b : Line} → some a ≡ some b → a ≡ b
 some-is e = cc
 
 -- next_bucket
-pub line-bucket : (seed : Seed) (l : Str) (c : ℕ) → Cut 58 l 0 c → readable (lineOf (cutAt 58 l)) ≡ true → (r : ℕ) → r ≡ bucketOf seed (part l 0 c) → (x : Line) → lineOf (cutAt 58 l) ≡ some x → r ≡ bucketOf seed (x .name)
+pub line-bucket : (seed : Seed) (l : Str) (c : ℕ) → Cut 58 l 0 c → absent (lineOf (cutAt 58 l)) ≡ false → (r : ℕ) → r ≡ bucketOf seed (part l 0 c) → (x : Line) → lineOf (cutAt 58 l) ≡ some x → r ≡ bucketOf seed (x .name)
 line-bucket seed l c k g r e x q = e ∙ ap (λ (y : Line). bucketOf seed (y .name)) (some-is (sym (line-whole l c k g) ∙ q))
 
-module _ (l : Str) (c : ℕ) (k : Cut 58 l 0 c) (g : readable (lineOf (cutAt 58 l)) ≡ true) (key out : Str) (at : ℕ) where
+module _ (l : Str) (c : ℕ) (k : Cut 58 l 0 c) (g : absent (lineOf (cutAt 58 l)) ≡ false) (key out : Str) (at : ℕ) where
   line-other : same (part l 0 c) key ≡ false → lineValue key l ≡ []
   line-other e = line-value key l _ (line-whole l c k g) ∙ ap commaed (alone-miss key _ e) ∙ commaed-nil
 

@@ -6,10 +6,10 @@ use mathlib.Core.Option.{Option, none, some}
 use Prim.Native.Nat.{ℕ, suc, _+_, _≤_, _<_}
 use lib.Dec.{ltb}
 use lib.ListN.{length, drop}
-use Rattle.text.specs.Test.{if_then_else_, orNothing}
+use Rattle.text.specs.Test.{if_then_else_, absent, orNothing}
 use Rattle.text.specs.String.{Str}
 use Rattle.text.specs.Frame.{part}
-use Rattle.rpc.specs.Request.{Line, cutAt, lineOf, linesOf, headersOf, readable, valuesOf, headerValue}
+use Rattle.rpc.specs.Request.{Line, cutAt, lineOf, linesOf, headersOf, valuesOf, headerValue}
 use Rattle.rpc_request.specs.declared.index.Span.{Span}
 
 -- the bytes from `from` on, cut at e; no cut where e is the end
@@ -25,8 +25,8 @@ pub record Cut (b : ℕ) (h : List ℕ) (from r : ℕ) : Type 0 where
 -- r is where the LF of the line at i stands, or the end, and then no lines stand from i on
 pub record LineEnd (h : List ℕ) (i r : ℕ) : Type 0 where
   pub high : r ≤ length h
-  pub good : r < length h → Cut 10 h i r × (readable (lineOf (cutAt 58 (part h i r))) ≡ true)
-  pub bad : r ≡ length h → (n : ℕ) → readable (linesOf (suc n) (drop i h)) ≡ false
+  pub good : r < length h → Cut 10 h i r × (absent (lineOf (cutAt 58 (part h i r))) ≡ false)
+  pub bad : r ≡ length h → (n : ℕ) → absent (linesOf (suc n) (drop i h)) ≡ true
 
 -- each value after a comma
 unfoldable pub commaed : List Str → Str

@@ -1,8 +1,10 @@
 // Header lines: `name`, `:`, `value`, LF.
 ghost use mathlib.Core.Path.{_≡_};
+ghost use mathlib.Core.Bool.{not};
 ghost use Prim.Native.Nat.{_+_, _≤_, _<_};
 ghost use lib.ListN.{length};
-ghost use Rattle.rpc.specs.Request.{headersOf, readable, badHeaders};
+ghost use Rattle.text.specs.Test.{absent};
+ghost use Rattle.rpc.specs.Request.{headersOf, badHeaders};
 ghost use Rattle.rpc_request.specs.Steps.{Cut, LineEnd};
 
 // Where the first byte b from `at` on stands; the end where there is none.
@@ -42,7 +44,7 @@ fn line_end(h: &[u8], i: usize) -> usize
 
 // Whether h is lines, each with its LF.
 fn are_lines(h: &[u8]) -> bool
-    ensures { λ r. ⌜ r ≡ readable (headersOf (now (h .entry))) ⌝ }
+    ensures { λ r. ⌜ r ≡ not (absent (headersOf (now (h .entry)))) ⌝ }
 {
     let n = h.len();
     let mut i = 0;

@@ -1,11 +1,12 @@
 // The header lines by bucket, so that the lines of one name are found without a look at the others.
 ghost use mathlib.Core.Path.{_≡_};
-ghost use mathlib.Core.Bool.{true};
+ghost use mathlib.Core.Bool.{false};
 ghost use Prim.Native.Nat.{_+_, _≤_};
 ghost use lib.ListN.{length};
+ghost use Rattle.text.specs.Test.{absent};
 ghost use Rattle.text.specs.Steps.{Wrote};
 ghost use Rattle.text_hash.specs.Mix.{Small};
-ghost use Rattle.rpc.specs.Request.{cutAt, lineOf, readable};
+ghost use Rattle.rpc.specs.Request.{cutAt, lineOf};
 ghost use Rattle.rpc_request.specs.Steps.{lineValue, Joined};
 ghost use Rattle.rpc_request.specs.Index.{bucketOf, Blank, Indexed, Ready};
 use text_hash::Seed;
@@ -85,7 +86,7 @@ pub fn index_lines(seed: Seed, h: &[u8], last: &mut [u16], before: &mut [u16])
 // Stores the value of a line of this name, after a comma, so that it ends at `at`; and nothing for a line of another name. Answers where what is stored
 // starts.
 fn join_line(l: &[u8], key: &[u8], out: &mut [u8], at: usize) -> usize
-    requires { ⌜ (readable (lineOf (cutAt 58 (now l))) ≡ true) × (length (now l) ≤ at) × (at ≤ length (now out)) ⌝ }
+    requires { ⌜ (absent (lineOf (cutAt 58 (now l))) ≡ false) × (length (now l) ≤ at) × (at ≤ length (now out)) ⌝ }
     ensures { λ r. ⌜ Wrote (now (out .entry)) r (lineValue (now (key .entry)) (now (l .entry))) (now (out .exit)) at
         × (at ≤ r + length (now (l .entry))) ⌝ }
 {

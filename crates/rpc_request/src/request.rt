@@ -13,7 +13,7 @@ fn is_bad_text(t: &[u8]) -> bool
 }
 
 // The refusal number of a request; `CLEAR` where there is none.
-pub fn request_fault(identity: &[u8], path: &[u8], headers: &[u8]) -> u8
+pub fn request_refusal(identity: &[u8], path: &[u8], headers: &[u8]) -> u8
     ensures { λ r. ⌜ r ≡ rpcRefusal (now (identity .entry)) (now (path .entry)) (now (headers .entry)) ⌝ }
 {
     if is_bad_text(identity) {

@@ -31,9 +31,6 @@ loop-again c = let at-loop-test = c .before .before .before .before in let at-lo
     elems-turn _ _ _ _ (at-start .args .f .now) (at-loop .loop .p) _ _ (at-loop .loop .left) (at-loop .loop .inv)
     (at-loop-test .loop-test .taken) _ _ (c .before .before .write-element .ensures)
 
-same-length : tie.Need-same-length Inv-loop μ-loop
-same-length c = c .before .loop .inv .pending .long
-
 returns : tie.Need-returns Inv-loop μ-loop
 returns c = let at-start = c .before .before .before .before in
     let d = elems-done _ _ _ _ (at-start .args .f .now) (c .before .loop .p) _ _ (c .before .loop .left) (c .before .loop .inv) (c .loop-test .left) in
@@ -41,4 +38,4 @@ returns c = let at-start = c .before .before .before .before in
 
 pub write-elements-spec : {M : Type 1} → statement M
 write-elements-spec = tie.close (tie.spec Inv-loop μ-loop loop-holds write-element-requires (λ c. search needs)
-    (λ c. search needs) loop-again same-length returns)
+    (λ c. search needs) loop-again (λ c. search needs) returns)

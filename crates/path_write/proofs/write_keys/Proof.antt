@@ -24,17 +24,10 @@ abbrev μ-loop : tie.MeasureT-loop
 loop-holds : tie.Need-loop-holds Inv-loop μ-loop
 loop-holds c = writing-start keyText _ _ _ (c .before .before .pre)
 
-same-length : tie.Need-same-length Inv-loop μ-loop
-same-length c = let at-loop = c .before .before .before .before in at-loop .loop .inv .pending .long
-
 returns : tie.Need-returns Inv-loop μ-loop
 returns c = let at-loop-test = c .before .before .before in
     writing-never _ _ _ _ _ _ _ _ (at-loop-test .before .loop .inv)
     (times-unread key _ _ _ (at-loop-test .loop-test .taken) (key-nameless _ _ _ (c .before .before .string-end .ensures) (c .enum-told .given .1)))
-
-same-length-2 : tie.Need-same-length-2 Inv-loop μ-loop
-same-length-2 c = let at-loop = c .before .before .before .before .before .before .before .before in
-    at-loop .loop .inv .pending .long
 
 returns-2 : tie.Need-returns-2 Inv-loop μ-loop
 returns-2 c = let at-n = c .before .before .before .before in let at-loop-test = at-n .before .before .before in
@@ -93,9 +86,6 @@ loop-again c = let at-v = c .before .before .before .before .before .before .bef
     (key-got _ _ _ (at-n .before .before .string-end .ensures) _ _ _ (at-n .n .given .1)
     (at-v .before .before .string-end2 .ensures) (at-v .v .given .1))) _ _ (c .before .before .write-key .ensures)
 
-same-length-3 : tie.Need-same-length-3 Inv-loop μ-loop
-same-length-3 c = c .before .loop .inv .pending .long
-
 returns-3 : tie.Need-returns-3 Inv-loop μ-loop
 returns-3 c =
     let d = writing-done _ _ _ _ _ _ _ _ (c .before .loop .inv) _ (times-done key _ _ _ (c .loop-test .left)) in
@@ -103,7 +93,7 @@ returns-3 c =
 
 pub write-keys-spec : {M : Type 1} → statement M
 write-keys-spec = tie.close (tie.spec Inv-loop μ-loop loop-holds (λ c κs. search needs) (λ c. search needs)
-    (λ c. search needs) same-length returns (λ c κs. search needs) (λ c. search needs) (λ c. search needs) same-length-2
-    returns-2 add-start add-second sub-write-key part-write-key-start part-write-key-end sub-write-key-2
-    part-write-key-start-2 part-write-key-end-2 write-key-requires (λ c. search needs) (λ c. search needs) loop-again
-    same-length-3 returns-3)
+    (λ c. search needs) (λ c. search needs) returns (λ c κs. search needs) (λ c. search needs) (λ c. search needs)
+    (λ c. search needs) returns-2 add-start add-second sub-write-key part-write-key-start part-write-key-end
+    sub-write-key-2 part-write-key-start-2 part-write-key-end-2 write-key-requires (λ c. search needs)
+    (λ c. search needs) loop-again (λ c. search needs) returns-3)

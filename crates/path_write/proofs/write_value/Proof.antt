@@ -28,12 +28,9 @@ loop-again : tie.Need-loop-again Inv-loop μ-loop
 loop-again c = let at-loop-test = c .before .before .before .before .before in
     (omega arith, value-turn _ _ _ _ _ _ _ (at-loop-test .before .loop .inv .1) _ _ (at-loop-test .loop-test .taken) (c .before .before .write-byte .ensures))
 
-same-length : tie.Need-same-length Inv-loop μ-loop
-same-length c = c .before .loop .inv .1 .long
-
 returns : tie.Need-returns Inv-loop μ-loop
 returns c = value-done _ _ _ _ _ _ _ (c .before .loop .inv .1) (c .loop-test .left)
 
 pub write-value-spec : {M : Type 1} → statement M
 write-value-spec = tie.close (tie.spec Inv-loop μ-loop loop-holds (λ c. search needs) write-byte-requires
-    (λ c. search needs) (λ c. search needs) loop-again same-length returns)
+    (λ c. search needs) (λ c. search needs) loop-again (λ c. search needs) returns)

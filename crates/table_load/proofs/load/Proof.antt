@@ -47,10 +47,6 @@ loop-holds c = let at-start = c .before .before .before .before in (
 read-line-requires : tie.Need-read-line-requires Inv-loop μ-loop
 read-line-requires c κs = line-room (c .before .before .loop .inv .0)
 
-same-length : tie.Need-same-length Inv-loop μ-loop
-same-length c = let at-read-line = c .before .before .before .before in
-    let at-loop = at-read-line .before .before .before in at-read-line .read-line .kept .1 .1 .0 ∙ at-loop .loop .inv .1
-
 returns-3 : tie.Need-returns-3 Inv-loop μ-loop
 unfolding Outcome
 returns-3 c = let at-read-line = c .before .before .before .before in
@@ -75,11 +71,6 @@ take-row-requires c κs =
       ),
     )
 
-same-length-2 : tie.Need-same-length-2 Inv-loop μ-loop
-same-length-2 c =
-    let at-read-line = c .before .before .before .before .before .before .before .before .before .before .before .before .before .before .before .before .before in
-    let at-loop = at-read-line .before .before .before in at-read-line .read-line .kept .1 .1 .0 ∙ at-loop .loop .inv .1
-
 returns-4 : tie.Need-returns-4 Inv-loop μ-loop
 unfolding Outcome
 returns-4 c =
@@ -94,11 +85,6 @@ slice-read-after c =
     let at-read-line = at-l .before .before .before .before in let at-loop = at-read-line .before .before .before in
     let h = row-fits (at-loop .loop .inv .0) _ (at-read-line .read-line .ensures .0) _ _ (at-l .l .given .1) _
     (at-read-line .read-line .ensures .1) in omega (arith, h .0, h .1)
-
-after-requires : tie.Need-after-requires Inv-loop μ-loop
-after-requires c κs =
-    let at-loop = c .before .before .before .before .before .before .before .before .before .before .before .before .before .before .before .before .before .before .before .before .before in
-    at-loop .loop .inv .0 .held .holds .few
 
 add-line : tie.Need-add-line Inv-loop μ-loop
 add-line c =
@@ -123,14 +109,11 @@ loop-again c = let at-take-row = c .before .before .before in
           (at-read-line .read-line .ensures .1) ∙ at-loop .loop .inv .1,
     )
 
-same-length-3 : tie.Need-same-length-3 Inv-loop μ-loop
-same-length-3 c = c .before .loop .inv .1
-
 returns-5 : tie.Need-returns-5 Inv-loop μ-loop
 unfolding Outcome
 returns-5 c = load-end (c .before .loop .inv .0) (c .loop-test .left)
 
 pub load-spec : {M : Type 1} → statement M
 load-spec = tie.close (tie.spec Inv-loop μ-loop returns returns-2 loop-holds read-line-requires (λ c. search needs)
-    (λ c. search needs) same-length returns-3 add-end take-row-requires same-length-2 returns-4 slice-read-after
-    after-requires add-line loop-less loop-again same-length-3 returns-5)
+    (λ c. search needs) (λ c. search needs) returns-3 add-end take-row-requires (λ c. search needs) returns-4
+    slice-read-after (λ c κs. search needs) add-line loop-less loop-again (λ c. search needs) returns-5)

@@ -18,20 +18,8 @@ abbrev μ-loop : tie.MeasureT-loop
 loop-holds : tie.Need-loop-holds Inv-loop μ-loop
 loop-holds c = (search needs, set-start _ _ _ _ _)
 
-mul-at : tie.Need-mul-at Inv-loop μ-loop
-mul-at c = let at-start = c .before .before .before .before .before .before in
-    omega (arith, at-start .pre .listed .room)
-
-shared-slice-read-at : tie.Need-shared-slice-read-at Inv-loop μ-loop
-shared-slice-read-at c = let at-start = c .before .before .before .before .before .before .before in
-    omega (arith, at-start .pre .listed .room)
-
 cast-at : tie.Need-cast-at Inv-loop μ-loop
 cast-at c = omega (arith, c .shared-slice-known5 .given (c .before .before .loop .i))
-
-shared-slice-read-t14 : tie.Need-shared-slice-read-t14 Inv-loop μ-loop
-shared-slice-read-t14 c = let at-start = c .before .before .before .before .before .before .before .before in
-    omega (arith, at-start .pre .room)
 
 join-requires : tie.Need-join-requires Inv-loop μ-loop
 join-requires c κs = let at-loop = c .before .before .before in
@@ -48,5 +36,5 @@ returns : tie.Need-returns Inv-loop μ-loop
 returns c = set-end _ _ _ _ _ _ _ _ (c .loop-test .left) (c .before .loop .inv .1)
 
 pub memberships-spec : {M : Type 1} → statement M
-memberships-spec = tie.close (tie.spec Inv-loop μ-loop loop-holds mul-at shared-slice-read-at cast-at
-    shared-slice-read-t14 join-requires (λ c. search needs) (λ c. search needs) loop-again returns)
+memberships-spec = tie.close (tie.spec Inv-loop μ-loop loop-holds (λ c. search needs) (λ c. search needs) cast-at
+    (λ c. search needs) join-requires (λ c. search needs) (λ c. search needs) loop-again returns)

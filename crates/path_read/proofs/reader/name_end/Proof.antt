@@ -1,7 +1,7 @@
 -- `name_end` equals its definition: the bytes passed belong to the name.
 use borrow.Author.Needs.{needs}
 use native.Mathlib.Omega.{arith}
-use mathlib.Core.Path.{_≡_, refl, sym, ap, _∙_}
+use mathlib.Core.Path.{_≡_, sym, ap, _∙_}
 use mathlib.Core.Bool.{not}
 use Prim.Native.Nat.{_+_, _-_, _≤_}
 use lib.ListN.{length, drop}
@@ -17,9 +17,6 @@ Inv-loop text at i₀ i = (at ≤ i) × (i ≤ length text) × (at + nameRun (dr
 
 abbrev μ-loop : tie.MeasureT-loop
 μ-loop text at i₀ i = length text - i
-
-loop-holds : tie.Need-loop-holds Inv-loop μ-loop
-loop-holds c = (search needs, c .before .pre, refl)
 
 returns : tie.Need-returns Inv-loop μ-loop
 returns c = let at-loop-test = c .before .before .before in let at-start = at-loop-test .before .before .before in
@@ -47,5 +44,5 @@ returns-2 c = let at-start = c .before .before .before in
     omega (arith, ran-out noName (at-start .args .text .now) (c .before .loop .i) (c .loop-test .left), c .before .loop .inv .2)
 
 pub name-end-spec : {M : Type 1} → statement M
-name-end-spec = tie.close (tie.spec Inv-loop μ-loop loop-holds (λ c. search needs) (λ c κs. search needs) returns
-    (λ c. search needs) (λ c. search needs) loop-again returns-2)
+name-end-spec = tie.close (tie.spec Inv-loop μ-loop (λ c. search needs) (λ c. search needs) (λ c κs. search needs)
+    returns (λ c. search needs) (λ c. search needs) loop-again returns-2)

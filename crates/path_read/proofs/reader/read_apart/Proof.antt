@@ -8,9 +8,6 @@ use Rattle.path_read.proofs.Answers.{refused, unfit, filled, transcribe
 use Rattle.path_read.proofs.reader.read_apart.Statement.{statement}
 use Rattle.path_read.proofs.reader.read_apart.Tie as tie
 
-transcribe-requires : tie.Need-transcribe-requires
-transcribe-requires c κs = let at-start = c .before .before .before .before in at-start .pre
-
 returns : tie.Need-returns
 returns c = let at-transcribe = c .before .before .before .before in
     let at-start = at-transcribe .before .before .before .before .before in
@@ -42,6 +39,6 @@ returns-3 c = let at-if1 = c .before .before .before .before .before in
     filled (at-start .args .out .now) _ (u .0) (u .1) _ _ _ (u .2) (at-if1 .if1 .left) _ (c .before .before .copy .ensures)
 
 pub read-apart-spec : {M : Type 1} → statement M
-read-apart-spec = tie.close (tie.spec transcribe-requires (λ c. search needs) (λ c. search needs) (λ c. search needs)
+read-apart-spec = tie.close (tie.spec (λ c κs. search needs) (λ c. search needs) (λ c. search needs) (λ c. search needs)
     returns (λ c. search needs) returns-2 slice-reshare-prefix-copy slice-aggregate-copy copy-requires
     (λ c. search needs) (λ c. search needs) returns-3)

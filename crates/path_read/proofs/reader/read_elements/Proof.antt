@@ -102,12 +102,6 @@ loop-again c = let at-read-element = c .before .before .before .before .before i
       w,
     )
 
-sub-count : tie.Need-sub-count Inv-loop μ-loop
-sub-count c = c .before .before .loop .inv .1
-
-cast-out : tie.Need-cast-out Inv-loop μ-loop
-cast-out c = omega arith
-
 slice-write-out : tie.Need-slice-write-out Inv-loop μ-loop
 slice-write-out c = let at-start = c .before .before .before .before .before in
     omega (arith, storing-long _ _ _ _ _ _ _ _ (c .before .before .loop .inv .0), room-byte _ _ _ _ _ _ (at-start .pre) (omega arith) (omega arith))
@@ -125,4 +119,4 @@ returns-2 c = let at-loop = c .before .before in let at-start = at-loop .before 
 pub read-elements-spec : {M : Type 1} → statement M
 read-elements-spec = tie.close (tie.spec Inv-loop μ-loop loop-holds (λ c κs. search needs) add-read-element
     read-element-requires (λ c. search needs) (λ c. search needs) same-length returns sub-left loop-less loop-again
-    sub-count cast-out slice-write-out same-length-2 returns-2)
+    (λ c. search needs) (λ c. search needs) slice-write-out same-length-2 returns-2)

@@ -8,9 +8,6 @@ use Rattle.path_read.proofs.Judging.{pass-none, value-starts, value-end
 use Rattle.path_read.proofs.reader.read_good_value.Statement.{statement}
 use Rattle.path_read.proofs.reader.read_good_value.Tie as tie
 
-read-value-requires : tie.Need-read-value-requires
-read-value-requires c κs = let at-start = c .before .before .before in at-start .pre
-
 returns : tie.Need-returns
 returns c = let at-read-value = c .before .before .before .before in
     nothing (pass-none (good valueRefusal) (stored-not (at-read-value .read-value .ensures) (c .enum-told .given .1)))
@@ -52,6 +49,6 @@ returns-3 c = let at-v = c .before .before .before .before .before in
     value-stores (at-start .pre) (at-read-value .read-value .ensures) (at-v .v .given .1) _ (c .before .value-refusal .ensures) (c .if1 .left)
 
 pub read-good-value-spec : {M : Type 1} → statement M
-read-good-value-spec = tie.close (tie.spec read-value-requires (λ c. search needs) (λ c. search needs)
+read-good-value-spec = tie.close (tie.spec (λ c κs. search needs) (λ c. search needs) (λ c. search needs)
     (λ c. search needs) returns add-start sub-value-refusal part-value-refusal-start part-value-refusal-end
     (λ c κs. search needs) (λ c. search needs) returns-2 (λ c. search needs) returns-3)

@@ -106,9 +106,6 @@ loop-again c = let at-read-key = c .before .before .before .before .before in
       w,
     )
 
-sub-count : tie.Need-sub-count Inv-loop μ-loop
-sub-count c = c .before .before .loop .inv .1
-
 sub-has-twice : tie.Need-sub-has-twice Inv-loop μ-loop
 sub-has-twice c = storing-from _ _ _ _ _ _ _ _ (c .before .before .loop .inv .0)
 
@@ -130,9 +127,6 @@ returns-2 c = let at-if1 = c .before .before .before .before in let at-loop = at
     (each-done 91 (at-loop .loop .left) (at-start .args .text .now) (at-loop .loop .p) _ (at-if1 .before .byte-at .ensures) (at-if1 .if1 .left) goodKey))
     (ap not (sym (keys-twice _ _ _ _ _ _ _ (at-loop .loop .inv .0 .wrote) (at-loop .loop .inv .0 .room)
     (at-loop .loop .inv .0 .count) (c .before .has-twice .ensures)) ∙ c .if2 .taken)))
-
-cast-out : tie.Need-cast-out Inv-loop μ-loop
-cast-out c = omega arith
 
 slice-write-out : tie.Need-slice-write-out Inv-loop μ-loop
 slice-write-out c = let at-loop = c .before .before .before .before .before .before in
@@ -156,5 +150,5 @@ returns-3 c = let at-if1 = c .before .before .before .before in let at-loop = at
 pub read-keys-spec : {M : Type 1} → statement M
 read-keys-spec = tie.close (tie.spec Inv-loop μ-loop add-start loop-holds (λ c κs. search needs) add-read-key
     read-key-requires (λ c. search needs) (λ c. search needs) same-length returns sub-left loop-less loop-again
-    sub-count sub-has-twice part-has-twice-start part-has-twice-end (λ c κs. search needs) same-length-2 returns-2
-    cast-out slice-write-out same-length-3 returns-3)
+    (λ c. search needs) sub-has-twice part-has-twice-start part-has-twice-end (λ c κs. search needs) same-length-2
+    returns-2 (λ c. search needs) slice-write-out same-length-3 returns-3)

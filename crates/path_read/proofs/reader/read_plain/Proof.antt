@@ -58,12 +58,6 @@ add-q c = let at-read-item = c .before .before .before .before in let at-loop = 
           (at-start .pre) (storing-from _ _ _ _ _ _ _ _ (at-loop .loop .inv .0)),
     )
 
-sub-left : tie.Need-sub-left Inv-loop μ-loop
-sub-left c = omega (arith, c .if1 .left)
-
-loop-less : tie.Need-loop-less Inv-loop μ-loop
-loop-less c = omega (arith, c .if1 .left)
-
 loop-again : tie.Need-loop-again Inv-loop μ-loop
 loop-again c = let at-read-item = c .before .before .before .before in let at-loop = at-read-item .before in
     let at-start = at-loop .before .before .before in
@@ -108,5 +102,5 @@ returns-3 c = let at-loop = c .before .before .before in
 
 pub read-plain-spec : {M : Type 1} → statement M
 read-plain-spec = tie.close (tie.spec Inv-loop μ-loop loop-holds (λ c κs. search needs) (λ c. search needs) same-length
-    returns slice-write-out add-q sub-left loop-less loop-again (λ c. search needs) add-t13 same-length-2 returns-2
-    (λ c. search needs) same-length-3 returns-3)
+    returns slice-write-out add-q (λ c. search needs) (λ c. search needs) loop-again (λ c. search needs) add-t13
+    same-length-2 returns-2 (λ c. search needs) same-length-3 returns-3)

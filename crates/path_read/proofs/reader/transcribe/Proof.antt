@@ -7,9 +7,6 @@ use Rattle.path_read.proofs.reader.transcribe.Tie as tie
 returns : tie.Need-returns
 returns c = let at-start = c .before .before .before in empty-transcribed _ (at-start .pre .1) _ _ (c .if1 .taken)
 
-read-elements-requires : tie.Need-read-elements-requires
-read-elements-requires c κs = let at-start = c .before .before .before .before in at-start .pre .0
-
 returns-2 : tie.Need-returns-2
 returns-2 c = let at-read-elements = c .before .before .before .before in
     let at-start = at-read-elements .before .before .before .before .before in
@@ -29,5 +26,5 @@ returns-4 c = let at-read-elements = c .before .before .before .before .before .
     (at-read-elements .read-elements .ensures) _ _ (c .before .before .e .given .1) (c .if2 .left) (at-start .pre .0)
 
 pub transcribe-spec : {M : Type 1} → statement M
-transcribe-spec = tie.close (tie.spec returns read-elements-requires (λ c. search needs) (λ c. search needs)
+transcribe-spec = tie.close (tie.spec returns (λ c κs. search needs) (λ c. search needs) (λ c. search needs)
     (λ c. search needs) returns-2 (λ c. search needs) returns-3 (λ c. search needs) returns-4)

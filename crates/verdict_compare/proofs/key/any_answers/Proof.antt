@@ -1,5 +1,5 @@
 use borrow.Author.Needs.{needs}
-use mathlib.Core.Path.{_≡_, refl, sym, _∙_}
+use mathlib.Core.Path.{_≡_, sym, _∙_}
 use Prim.Native.Nat.{_≤_}
 use lib.ListN.{length}
 use Rattle.text.specs.Test.{any}
@@ -19,9 +19,6 @@ Inv-loop cover g at n f p q₀ left₀ q left =
 
 abbrev μ-loop : tie.MeasureT-loop
 μ-loop cover g at n f p q₀ left₀ q left = left
-
-loop-holds : tie.Need-loop-holds Inv-loop μ-loop
-loop-holds c = (c .before .before .pre .0, refl)
 
 answers-requires : tie.Need-answers-requires Inv-loop μ-loop
 answers-requires c κs = let at-start = c .before .before .before .before in
@@ -46,5 +43,5 @@ returns-2 : tie.Need-returns-2 Inv-loop μ-loop
 returns-2 c = sym (c .before .loop .inv .1 ∙ any-end _ _ _ (c .before .loop .q) (c .loop-test .left))
 
 pub any-answers-spec : {M : Type 1} → statement M
-any-answers-spec = tie.close (tie.spec Inv-loop μ-loop loop-holds answers-requires returns key-end-requires
+any-answers-spec = tie.close (tie.spec Inv-loop μ-loop (λ c. search needs) answers-requires returns key-end-requires
     (λ c. search needs) (λ c. search needs) loop-again returns-2)

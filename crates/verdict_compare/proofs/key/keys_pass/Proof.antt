@@ -1,5 +1,5 @@
 use borrow.Author.Needs.{needs}
-use mathlib.Core.Path.{_≡_, refl, sym, _∙_}
+use mathlib.Core.Path.{_≡_, sym, _∙_}
 use Prim.Native.Nat.{_≤_}
 use borrow.Author.Tests.{not-true, not-false}
 use lib.ListN.{length}
@@ -20,9 +20,6 @@ Inv-loop cover f s k r m g p n q₀ left₀ q left =
 
 abbrev μ-loop : tie.MeasureT-loop
 μ-loop cover f s k r m g p n q₀ left₀ q left = left
-
-loop-holds : tie.Need-loop-holds Inv-loop μ-loop
-loop-holds c = (c .before .before .pre .0, refl)
 
 key-passes-requires : tie.Need-key-passes-requires Inv-loop μ-loop
 key-passes-requires c κs = let at-start = c .before .before .before .before in
@@ -47,5 +44,5 @@ returns-2 : tie.Need-returns-2 Inv-loop μ-loop
 returns-2 c = sym (c .before .loop .inv .1 ∙ all-end _ _ _ (c .before .loop .q) (c .loop-test .left))
 
 pub keys-pass-spec : {M : Type 1} → statement M
-keys-pass-spec = tie.close (tie.spec Inv-loop μ-loop loop-holds key-passes-requires returns key-end-requires
+keys-pass-spec = tie.close (tie.spec Inv-loop μ-loop (λ c. search needs) key-passes-requires returns key-end-requires
     (λ c. search needs) (λ c. search needs) loop-again returns-2)

@@ -1,6 +1,6 @@
 use borrow.Author.Needs.{needs}
 use native.Mathlib.Omega.{arith}
-use mathlib.Core.Path.{_≡_, refl, sym, _∙_}
+use mathlib.Core.Path.{_≡_, sym, _∙_}
 use Prim.Native.Nat.{_≤_}
 use borrow.Author.Tests.{not-true, not-false}
 use lib.ListN.{length}
@@ -20,19 +20,10 @@ Inv-loop f s k r m g p n a₀ b₀ c₀ left₀ mine₀ more₀ a b c left mine 
 abbrev μ-loop : tie.MeasureT-loop
 μ-loop f s k r m g p n a₀ b₀ c₀ left₀ mine₀ more₀ a b c left mine more = left
 
-loop-holds : tie.Need-loop-holds Inv-loop μ-loop
-loop-holds c = (c .before .before .pre .0, c .before .before .pre .1, c .before .before .pre .2, refl)
-
-covers-at-requires : tie.Need-covers-at-requires Inv-loop μ-loop
-covers-at-requires c κs = (c .before .before .loop .inv .0, c .before .before .loop .inv .2)
-
 returns : tie.Need-returns Inv-loop μ-loop
 returns c = let at-loop = c .before .before .before in
     c .covers-at .ensures ∙ sym (at-loop .loop .inv .3 ∙ both-path _ _ _ (at-loop .loop .b) _ _ _ _
     (c .before .before .loop-test .taken) (c .before .if1 .taken))
-
-covers-at-requires-2 : tie.Need-covers-at-requires-2 Inv-loop μ-loop
-covers-at-requires-2 c κs = let at-loop = c .before .before .before in (at-loop .loop .inv .0, at-loop .loop .inv .1)
 
 returns-2 : tie.Need-returns-2 Inv-loop μ-loop
 returns-2 c = let at-loop-test = c .before .before .before in
@@ -80,6 +71,7 @@ returns-4 c =
     (c .before .loop .c) (c .before .loop .more) (c .loop-test .left))
 
 pub covers-both-spec : {M : Type 1} → statement M
-covers-both-spec = tie.close (tie.spec Inv-loop μ-loop loop-holds covers-at-requires returns covers-at-requires-2
-    returns-2 meets-both-requires returns-3 elem-end-requires elem-end-requires-2 elem-end-requires-3
-    (λ c. search needs) (λ c. search needs) (λ c. search needs) (λ c. search needs) loop-again returns-4)
+covers-both-spec = tie.close (tie.spec Inv-loop μ-loop (λ c. search needs) (λ c κs. search needs) returns
+    (λ c κs. search needs) returns-2 meets-both-requires returns-3 elem-end-requires elem-end-requires-2
+    elem-end-requires-3 (λ c. search needs) (λ c. search needs) (λ c. search needs) (λ c. search needs) loop-again
+    returns-4)

@@ -1,6 +1,6 @@
 use borrow.Author.Needs.{needs}
 use native.Mathlib.Omega.{arith}
-use mathlib.Core.Path.{_≡_, refl, sym, _∙_}
+use mathlib.Core.Path.{_≡_, sym, _∙_}
 use Prim.Native.Nat.{_≤_}
 use borrow.Author.Tests.{not-true, not-false}
 use lib.ListN.{length}
@@ -19,9 +19,6 @@ Inv-loop cover f s k g p n a₀ b₀ left₀ more₀ a b left more =
 
 abbrev μ-loop : tie.MeasureT-loop
 μ-loop cover f s k g p n a₀ b₀ left₀ more₀ a b left more = left
-
-loop-holds : tie.Need-loop-holds Inv-loop μ-loop
-loop-holds c = (c .before .before .pre .0, c .before .before .pre .1, refl)
 
 returns : tie.Need-returns Inv-loop μ-loop
 returns c = let at-start = c .before .before .before .before .before in
@@ -62,5 +59,6 @@ returns-3 c = let at-start = c .before .before .before .before in
     (at-start .args .cover) (c .loop-test .left))
 
 pub in-step-spec : {M : Type 1} → statement M
-in-step-spec = tie.close (tie.spec Inv-loop μ-loop loop-holds returns elem-passes-requires returns-2 elem-end-requires
-    elem-end-requires-2 (λ c. search needs) (λ c. search needs) (λ c. search needs) loop-again returns-3)
+in-step-spec = tie.close (tie.spec Inv-loop μ-loop (λ c. search needs) returns elem-passes-requires returns-2
+    elem-end-requires elem-end-requires-2 (λ c. search needs) (λ c. search needs) (λ c. search needs) loop-again
+    returns-3)

@@ -1,10 +1,10 @@
--- `request_fault` equals its definition.
+-- `request_refusal` equals its definition.
 use borrow.Author.Needs.{needs}
 use mathlib.Core.Path.{sym, _∙_}
 use Rattle.text.specs.Test.{_or_, if_then_else_}
 use Rattle.rpc.specs.Request.{rpcRefusal}
-use Rattle.rpc_request.proofs.request.request_fault.Statement.{statement}
-use Rattle.rpc_request.proofs.request.request_fault.Tie as tie
+use Rattle.rpc_request.proofs.request.request_refusal.Statement.{statement}
+use Rattle.rpc_request.proofs.request.request_refusal.Tie as tie
 
 returns : tie.Need-returns
 unfolding rpcRefusal _or_ if_then_else_
@@ -33,6 +33,6 @@ returns-4 c = let at-is-bad-text2 = c .before .before .before in
       sym (c .before .is-bad-headers .ensures) ∙ c .if3 .left,
     )
 
-pub request-fault-spec : {M : Type 1} → statement M
-request-fault-spec = tie.close (tie.spec (λ c κs. search needs) returns (λ c κs. search needs) returns-2
+pub request-refusal-spec : {M : Type 1} → statement M
+request-refusal-spec = tie.close (tie.spec (λ c κs. search needs) returns (λ c κs. search needs) returns-2
     (λ c κs. search needs) returns-3 returns-4)
