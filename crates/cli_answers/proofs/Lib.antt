@@ -1,1 +1,3 @@
 pub mod Naming
+pub mod PathLines
+pub mod Whole

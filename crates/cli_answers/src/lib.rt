@@ -1,5 +1,6 @@
-// Verdicts on a table, printed.
+// Verdicts on a table, printed; lines on its rows, and of paths.
 pub mod lines;
+pub mod paths;
 pub mod rows;
 
 use lines::Fallback;

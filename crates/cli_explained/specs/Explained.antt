@@ -1,11 +1,19 @@
--- What an explanation prints of a rule that matches.
-use Prim.Native.Nat.{ℕ}
-use mathlib.Core.List.{_++_}
+-- What an explanation prints of the rules that match.
+use Prim.Native.Nat.{ℕ, _+_}
+use mathlib.Core.Bool.{false}
+use mathlib.Core.List.{List, [], _∷_, _++_}
 use lib.Dec.{eqb}
+use lib.ListN.{getD}
 use Rattle.limits.specs.Limits.{maxString}
 use Rattle.text.specs.Test.{if_then_else_}
 use Rattle.text.specs.String.{Str, bytes}
-use Rattle.table.specs.Table.{Rule}
+use Rattle.table.specs.Table.{Rule, Table}
+use Rattle.table.specs.Text.{tableOf}
+use Rattle.verdict.specs.Verdict.{Request}
+use Rattle.verdict_request.specs.Calls.{request, pathVerdict}
+use Rattle.verdict_request.specs.declared.PathAnswer.{PathAnswer}
+use Rattle.verdict_request.specs.declared.PathAnswer.the-variants as path
+use Rattle.verdict_explain.specs.Ranking.{ranking}
 use Rattle.verdict_explain.specs.Standing.{standing, stepOf}
 use Rattle.verdict_explain.specs.declared.Standing.{Standing}
 use Rattle.verdict_explain.specs.declared.Step.{Step}
@@ -41,3 +49,37 @@ ranked place number own s = decimal place ++ fate place s ++ decimal number ++ s
 unfoldable pub rankedLine : ℕ → ℕ → Rule → Rule → Str
 rankedLine place number rule best =
     ranked place number (standing rule) (stepOf (standing rule) (standing best)) ++ upTo maxString (rule .id) ++ bytes "\n"
+
+-- ---- the whole ranking
+
+-- where no rule has a number
+unfoldable pub noRule : Rule
+noRule = record { permit = false; mode = 0; byGroup = false; subject = []; id = []; origin = []; path = [] }
+
+-- "Rules .. are numbered from 0 in text order."
+unfoldable pub ruleOf : List Rule → ℕ → Rule
+ruleOf rules n = getD rules n noRule
+
+-- the lines of the rules of these numbers, from that place of the ranking on
+unfoldable pub linesFrom : List Rule → Rule → ℕ → List ℕ → Str
+linesFrom rules best place [] = []
+linesFrom rules best place (n ∷ ns) = rankedLine place n (ruleOf rules n) best ++ linesFrom rules best (place + 1) ns
+
+-- a line for each rule of a ranking, in its order
+unfoldable pub rankingLines : List Rule → List ℕ → Str
+rankingLines rules order = linesFrom rules (ruleOf rules (getD order 0 0)) 1 order
+
+-- those of the rules that match a request
+unfoldable pub matchLines : Table → Request → Str
+matchLines t q = rankingLines (t .rules) (ranking t q)
+
+-- below the verdict, where a rule decides
+unfoldable pub below : PathAnswer → Str → Str
+below (path.Permit rule) matches = matches
+below (path.Deny rule) matches = matches
+below path.Default matches = []
+below (path.Refused number line) matches = []
+
+-- what `burgee explain` prints below the verdict
+unfoldable pub explanation : Str → Str → ℕ → Str → Str → Str
+explanation text user mode origin p = below (pathVerdict text user mode origin p) (matchLines (tableOf text) (request user mode origin p))

@@ -1,15 +1,19 @@
 // The lines of an explanation, made in a buffer.
 ghost use Prim.Native.Nat.{_+_, _≤_};
-ghost use lib.ListN.{length};
+ghost use lib.ListN.{length, take};
 ghost use Rattle.limits.specs.Limits.{maxString};
-ghost use Rattle.table_rows.specs.Rules.{ruleIn, ruleEnd};
+ghost use Rattle.table_rows.specs.Rules.{ruleIn, ruleEnd, rulesIn};
 ghost use Rattle.cli_show.specs.Added.{Added, AddedUpTo};
 ghost use Rattle.cli_show.specs.Text.{upTo};
-ghost use Rattle.cli_explained.specs.Explained.{stepName, fate, actionText, subjectText, standingText, rankedLine};
+ghost use Rattle.cli_explained.specs.Explained.{stepName, fate, actionText, subjectText, standingText, rankedLine, rankingLines};
 ghost use Rattle.cli_explained.specs.Explained.{ranked as Explained·ranked};
+ghost use Rattle.cli_explained.specs.Steps.{maxRankedLine, Rankable};
 use cli_show::add;
 use verdict_explain::Standing;
 use verdict_explain::Step;
+
+// Room for a line.
+pub const MAX_LINE: usize = 161 + limits::MAX_STRING;
 
 fn step_name(s: Step, out: &mut [u8], at: usize) -> usize
     requires { ⌜ at + 17 ≤ length (now out) ⌝ }
@@ -70,11 +74,11 @@ fn standing(s: Standing, out: &mut [u8], at: usize) -> usize
 }
 
 // A rule's place, its fate, its number and its standing.
-fn ranked(place: usize, number: u16, own: Standing, s: Step, out: &mut [u8]) -> usize
-    requires { ⌜ 160 ≤ length (now out) ⌝ }
-    ensures { λ r. ⌜ AddedUpTo 160 (now (out .entry)) 0 (Explained·ranked place number own s) (now (out .exit)) r ⌝ }
+fn ranked(place: usize, number: u16, own: Standing, s: Step, out: &mut [u8], at: usize) -> usize
+    requires { ⌜ at + 160 ≤ length (now out) ⌝ }
+    ensures { λ r. ⌜ AddedUpTo 160 (now (out .entry)) at (Explained·ranked place number own s) (now (out .exit)) r ⌝ }
 {
-    let a = add::decimal(place as u64, out, 0);
+    let a = add::decimal(place as u64, out, at);
     let b = add_fate(place, s, out, a);
     let c = add::decimal(number as u64, out, b);
     standing(own, out, c)
@@ -92,16 +96,45 @@ fn id(f: &[u8], s: usize, out: &mut [u8], at: usize) -> usize
 }
 
 // The rule at s of that number, at its place of the ranking, whose first rule stands at `best`.
-pub fn line(f: &[u8], place: usize, number: u16, s: usize, best: usize, out: &mut [u8]) -> usize
-    requires { ⌜ (ruleEnd (now f) s ≤ length (now f)) × (ruleEnd (now f) best ≤ length (now f)) × (161 + maxString ≤ length (now out)) ⌝ }
-    ensures { λ r. ⌜ Added (now (out .entry)) 0
+fn line(
+    f: &[u8],
+    place: usize,
+    number: u16,
+    s: usize,
+    best: usize,
+    out: &mut [u8],
+    at: usize,
+) -> usize
+    requires { ⌜ (ruleEnd (now f) s ≤ length (now f)) × (ruleEnd (now f) best ≤ length (now f)) × (at + maxRankedLine ≤ length (now out)) ⌝ }
+    ensures { λ r. ⌜ AddedUpTo maxRankedLine (now (out .entry)) at
         (rankedLine place number (ruleIn (now (f .entry)) s) (ruleIn (now (f .entry)) best))
         (now (out .exit)) r ⌝ }
 {
     let own = verdict_explain::standing_at(f, s);
     let first = verdict_explain::standing_at(f, best);
     let step = verdict_explain::lost_at(own, first);
-    let a = ranked(place, number, own, step, out);
+    let a = ranked(place, number, own, step, out, at);
     let b = id(f, s, out, a);
     add::string(b"\n", out, b)
+}
+
+// The lines of a ranking: the first m of `order` are the numbers of its rules, of n in all.
+pub fn ranking(f: &[u8], starts: &[u16], n: usize, order: &[u16], m: usize, out: &mut [u8]) -> usize
+    requires { ⌜ Rankable (now f) (now starts) n (now order) m (now out) ⌝ }
+    ensures { λ r. ⌜ Added (now (out .entry)) 0
+        (rankingLines (rulesIn (now (f .entry)) (now (starts .entry)) n 0) (take m (now (order .entry))))
+        (now (out .exit)) r ⌝ }
+{
+    let mut at = 0;
+    let mut i = 0;
+    while i < m {
+        let number = order[i];
+        let first = order[0] as usize;
+        let k = number as usize;
+        let s = starts[k] as usize;
+        let best = starts[first] as usize;
+        i += 1;
+        at = line(f, i, number, s, best, out, at);
+    }
+    at
 }

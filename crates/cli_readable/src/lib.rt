@@ -1,4 +1,6 @@
 // A rule table as readable text, and back. Standard output holds the text that is made, and nothing else: what is refused is told on standard error.
+pub mod lines;
+
 use readable::Converted;
 
 // Saves a table as the file that argument i names, and tells how many bytes it has.
@@ -16,25 +18,19 @@ fn save(i: usize, table: &[u8]) {
     }
 }
 
-// Why nothing was made of a text.
+// Tells why nothing was made of a text, and the line that it is about.
 fn refuse(c: Converted, text: &[u8]) {
+    let mut out = [0u8; cli_refusal::MAX_LINE];
+    let n = lines::refusal(c, &mut out);
+    cli_show::first_to(2, &out, n);
+    cli_show::marks::refusal();
     match c {
         Converted::Length(_) => {}
         Converted::Refused { number, line } => {
-            cli_console::refusal::of_text_to(2, text, number, line)
+            cli_console::refusal::quote_line(2, text, line, number == 2)
         }
-        Converted::Unread { line } => {
-            cli_console::refusal::begin(2);
-            cli_show::word_to(2, b" at line ");
-            cli_show::decimal_to(2, line as u64);
-            cli_show::word_to(2, b": not a line of the readable form\n");
-            cli_console::refusal::quote_line(2, text, line);
-            cli_console::refusal::tell_end(2, text, line);
-        }
-        Converted::NoRoom => {
-            cli_console::refusal::begin(2);
-            cli_show::word_to(2, b": too long for a table\n");
-        }
+        Converted::Unread { line } => cli_console::refusal::quote_line(2, text, line, true),
+        Converted::NoRoom => {}
     }
 }
 

@@ -54,7 +54,7 @@ fn add_meaning(number: u8, out: &mut [u8], at: usize) -> usize
 }
 
 // Adds where the refused text has its fault; there is no line 0.
-fn add_place(line: usize, out: &mut [u8], at: usize) -> usize
+pub fn add_place(line: usize, out: &mut [u8], at: usize) -> usize
     requires { ⌜ at + 29 ≤ length (now out) ⌝ }
     ensures { λ r. ⌜ AddedUpTo 29 (now (out .entry)) at (place line) (now (out .exit)) r ⌝ }
 {

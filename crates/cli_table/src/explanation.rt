@@ -1,45 +1,30 @@
 // Which rules match a request, in ranking order, and the step of the ranking at which each lost to the first.
-ghost use Prim.Native.Nat.{_≤_};
+ghost use mathlib.Core.Path.{_≡_};
+ghost use Prim.Native.Nat.{_*_, _≤_};
 ghost use lib.ListN.{length};
-ghost use Rattle.table_rows.specs.Rules.{ruleEnd};
-ghost use Rattle.verdict_judge.specs.Rules.{Placed};
-ghost use Rattle.verdict_explain.specs.Ranking.{RuleNumbers};
+ghost use Rattle.limits.specs.Limits.{maxRules};
+ghost use Rattle.verdict_request.specs.Calls.{pathVerdict};
+ghost use Rattle.cli_show.specs.Added.{Added};
+ghost use Rattle.cli_explained.specs.Explained.{explanation};
+ghost use Rattle.cli_explained.specs.Steps.{maxRankedLine, ListsMatches};
 use cli_answers::lines::Fallback;
 use path_read::Filled;
 use table_load::Loaded;
 use verdict_request::PathAnswer;
 
-// Prints one of the rules that match, in its place. It stands at s, and the first at `best`.
-fn rule(f: &[u8], place: usize, number: u16, s: usize, best: usize)
-    requires { ⌜ (ruleEnd (now f) s ≤ length (now f)) × (ruleEnd (now f) best ≤ length (now f)) ⌝ }
-{
-    let mut out = [0u8; cli_show::add::MAX_LINES];
-    let n = cli_explained::line(f, place, number, s, best, &mut out);
-    cli_show::first(&out, n);
-}
+// Room for a line of each rule.
+const MAX_LINES: usize = limits::MAX_RULES * cli_explained::MAX_LINE;
 
-// The first m rules of `order`, of n in all.
-fn ranked(f: &[u8], starts: &[u16], n: usize, order: &[u16], m: usize)
-    requires { ⌜ Placed (now f) (now starts) n × RuleNumbers (now order) n m × (n ≤ length (now order)) ⌝ }
+// The lines of the rules that match, the best first: the table is loaded once. Nothing where it is refused, or the path.
+fn list(text: &[u8], user: &[u8], mode: u32, origin: &[u8], path: &[u8], out: &mut [u8]) -> usize
+    requires { ⌜ maxRules * maxRankedLine ≤ length (now out) ⌝ }
+    ensures { λ r. ⌜ ListsMatches (now (text .entry)) (now (user .entry)) mode (now (origin .entry)) (now (path .entry))
+        (now (out .entry)) (now (out .exit)) r ⌝ }
 {
-    let mut i = 0;
-    while i < m {
-        let number = order[i];
-        let first = order[0] as usize;
-        let at = number as usize;
-        let s = starts[at] as usize;
-        let best = starts[first] as usize;
-        i += 1;
-        rule(f, i, number, s, best);
-    }
-}
-
-// The rules that match, the best first: the table is loaded once.
-fn list(text: &[u8], user: &[u8], mode: u32, origin: &[u8], path: &[u8]) {
     let mut bytes = [0u8; limits::MAX_PATH_BYTES];
     let filled = path_read::reader::read_text(path, &mut bytes);
     let Filled::Length(len) = filled else {
-        return;
+        return 0;
     };
     let mut buf = [0u8; limits::MAX_TABLE_BYTES];
     let mut groups = [0u16; limits::MAX_GROUPS];
@@ -57,7 +42,7 @@ fn list(text: &[u8], user: &[u8], mode: u32, origin: &[u8], path: &[u8]) {
         &mut holders,
     );
     let Loaded::Table { used, counts } = l else {
-        return;
+        return 0;
     };
     let f = &buf[..used];
     let set = table_membership::memberships(f, &users, &owners, counts.members, user);
@@ -74,7 +59,30 @@ fn list(text: &[u8], user: &[u8], mode: u32, origin: &[u8], path: &[u8]) {
         &bytes[..len],
         &mut order,
     );
-    ranked(f, &starts, counts.rules, &order, m);
+    cli_explained::ranking(f, &starts, counts.rules, &order, m, out)
+}
+
+// What stands below the verdict a: the lines of the rules that match, where one decides.
+fn explain(
+    text: &[u8],
+    user: &[u8],
+    mode: u32,
+    origin: &[u8],
+    path: &[u8],
+    a: PathAnswer,
+    out: &mut [u8],
+) -> usize
+    requires { ⌜ (a ≡ pathVerdict (now text) (now user) mode (now origin) (now path)) × (maxRules * maxRankedLine ≤ length (now out)) ⌝ }
+    ensures { λ r. ⌜ Added (now (out .entry)) 0
+        (explanation (now (text .entry)) (now (user .entry)) mode (now (origin .entry)) (now (path .entry)))
+        (now (out .exit)) r ⌝ }
+{
+    match a {
+        PathAnswer::Permit(rule) => list(text, user, mode, origin, path, out),
+        PathAnswer::Deny(rule) => list(text, user, mode, origin, path, out),
+        PathAnswer::Default => 0,
+        PathAnswer::Refused { number, line } => 0,
+    }
 }
 
 // The verdict, and the rules that match where one decides.
@@ -82,10 +90,7 @@ pub fn all(text: &[u8], user: &[u8], mode: u32, origin: &[u8], path: &[u8]) {
     cli_names::tell(text, user);
     let a = verdict_call::path_verdict(text, user, mode, origin, path);
     cli_answers::path(text, a, Fallback::Explained);
-    match a {
-        PathAnswer::Permit(rule) => list(text, user, mode, origin, path),
-        PathAnswer::Deny(rule) => list(text, user, mode, origin, path),
-        PathAnswer::Default => {}
-        PathAnswer::Refused { number, line } => {}
-    }
+    let mut out = [0u8; MAX_LINES];
+    let n = explain(text, user, mode, origin, path, a, &mut out);
+    cli_show::first(&out, n);
 }

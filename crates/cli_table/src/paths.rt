@@ -9,22 +9,19 @@ const MAX_BYTES: usize = 65536 / 2;
 
 // Prints the bytes of a path text, in hex.
 pub fn read(text: &[u8]) {
-    let mut out = [0u8; limits::MAX_PATH_BYTES];
-    let r = path_read::reader::read_text(text, &mut out);
+    let mut out = [0u8; cli_answers::paths::MAX_BYTES_LINE];
+    let r = cli_answers::paths::bytes_line(text, &mut out);
     match r {
-        Filled::Length(n) => {
-            cli_show::hex(&out[..cli_console::input::within(n, &out)]);
-            cli_show::word(b"\n");
-        }
+        Filled::Length(n) => cli_show::first(&out, n),
         Filled::Refused(number) => cli_console::refusal::at(number, 0),
     }
 }
 
 fn write_bytes(bytes: &[u8]) {
-    let mut out = [0u8; limits::MAX_PATH_TEXT];
-    let r = path_write::write_text(bytes, &mut out);
+    let mut out = [0u8; cli_answers::paths::MAX_TEXT_LINE];
+    let r = cli_answers::paths::text_line(bytes, &mut out);
     match r {
-        Filled::Length(n) => cli_show::line(&out[..cli_console::input::within(n, &out)]),
+        Filled::Length(n) => cli_show::first(&out, n),
         Filled::Refused(number) => cli_console::refusal::at(number, 0),
     }
 }
