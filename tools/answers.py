@@ -23,7 +23,7 @@ WIDEST = 300                                         # no line of a proof is lon
 NEAR = 2
 START, START_FIELDS = "start", {"κs", "args", "good", "fits", "pre"}
 START_CALL = "start-call"                            # the thing of a call of a function named start
-SEARCH = "search needs"
+SEARCH, SEARCHES = "search needs", "use borrow.Author.Needs.{needs}"
 NO_LAW = {"omega", "arith", "search", "needs", "sym", "refl", "tt", "∙", "_", "c"}      # what a body is made of that only cites facts
 
 NAME = r"[\w·′'-]+"
@@ -237,7 +237,10 @@ def without_law(text):
 def with_searched(text, spared):
     """The text with those answers (of `without_law`) left to the search."""
     names = {answer.name for answer, in spared}
-    return "\n\n".join(f"{Answer(b).head} {SEARCH}" if Answer.is_one(b) and Answer(b).name in names else b for b in blocks_of(text)) + "\n"
+    blocks = [f"{Answer(b).head} {SEARCH}" if Answer.is_one(b) and Answer(b).name in names else b for b in blocks_of(text)]
+    if names and SEARCHES not in text:
+        blocks[0] = re.sub("^use ", f"{SEARCHES}\nuse ", blocks[0], count=1, flags=re.M)
+    return "\n\n".join(blocks) + "\n"
 
 
 def write_spec(block, change):

@@ -95,7 +95,8 @@ class Reads(unittest.TestCase):
         facts, law = (FILE % SHORT).replace("add c = search needs", "add c = %s") % "omega (arith, @put .ensures .0)", FILE % SHORT
         self.assertEqual([a.name for a, in answers.without_law(facts)], ["add"])
         self.assertEqual(answers.without_law(law), [])
-        self.assertEqual(answers.with_searched(facts, answers.without_law(facts)), law)
+        for text in (facts, facts.replace("use borrow.Author.Needs.{needs}\n", "")):
+            self.assertEqual(answers.with_searched(text, answers.without_law(text)), law)
 
 
 class Tidies(unittest.TestCase):

@@ -131,10 +131,10 @@ module _ (seed : Seed) (h last before : Str) (i e : ℕ) (l : i < length h) (k :
       let q = f .1 in
       (f .0, subst (Reading h i) q (j .reading), ap (λ (n : ℕ). absent (linesOf n (drop i h))) (sym q) ∙ j .good, j .is ∙ ap (λ (n : ℕ). onto (j .back) (orNothing (linesOf n (drop i h)))) q)
 
-  pub indexing-cut : e < length h
+  indexing-cut : e < length h
   indexing-cut = let t = turn in by (ltb e (length h)) (λ z. ltb-true _ _ z) (λ z. clash (lines-uncut h i e (t .0) l k (let x = ltb-false e (length h) z in let y = k .high in omega arith)) (t .2))
 
-  pub indexing-line : absent (lineOf (cutAt 58 (part h i e))) ≡ false
+  indexing-line : absent (lineOf (cutAt 58 (part h i e))) ≡ false
   indexing-line = let t = turn in by (absent (lineOf (cutAt 58 (part h i e)))) (λ z. clash (lines-bad h i e (t .0) l k indexing-cut z) (t .2)) (λ z. z)
 
   lines-rest : (x : Line) → lineOf (cutAt 58 (part h i e)) ≡ some x → (g : ℕ) → absent (linesOf (suc g) (drop i h)) ≡ false
@@ -144,7 +144,7 @@ module _ (seed : Seed) (h last before : Str) (i e : ℕ) (l : i < length h) (k :
       let o = read-is _ a in
       (a, ap orNothing (lines-cut h i e g l k indexing-cut ∙ ap (λ (z : Option Line). cons z (linesOf g (drop (e + 1) h))) q ∙ ap (cons (some x)) (o .1) ∙ cons-some x (o .0)) ∙ written-some _ ∙ ap (λ (z : List Line). x ∷ z) (sym (written-some _) ∙ ap orNothing (sym (o .1))))
 
-  pub third-place : i / 3 < length before
+  third-place : i / 3 < length before
   third-place = third-small i (length h) (length before) l (j .places)
 
   module _ (b : ℕ) (small : b < bucketCount) (named : (x : Line) → lineOf (cutAt 58 (part h i e)) ≡ some x → b ≡ bucketOf seed (x .name)) where
@@ -168,7 +168,7 @@ module _ (seed : Seed) (h last before : Str) (i e : ℕ) (l : i < length h) (k :
         let w : getD last′ n 0 ≡ getD last n 0 = getD-set-other last b n i 0 (λ z. bucket-not seed n x t (sym (named x q) ∙ sym z)) in
         subst (Chain h before′ (e + 1) (getD last′ n 0)) (sym (only-out seed n x (j .back) t)) (subst (λ (m : ℕ). Chain h before′ (e + 1) m (only (inBucket seed n) (j .back))) (sym w) (chain-under h before′ (chain-set h before i (getD last b 0) (j .chains n s) (omega arith)) (omega arith))))
 
-    pub indexing-on : Indexing seed h last′ before′ (e + 1)
+    indexing-on : Indexing seed h last′ before′ (e + 1)
     indexing-on =
         let t = turn in
         let x = read-is _ indexing-line in
@@ -186,24 +186,33 @@ module _ (seed : Seed) (h last before : Str) (i e : ℕ) (l : i < length h) (k :
         }
 
 -- the colon is searched first, and the LF from behind it on
-module _ (seed : Seed) (h last before : Str) (i c : ℕ) (l : i < length h) (k : Cut 58 h i c) (j : Indexing seed h last before i) where
+module _ {seed : Seed} {h last before : Str} {i c : ℕ} (l : i < length h) (k : Cut 58 h i c) (j : Indexing seed h last before i) where
   line-good : absent (lineOf (cutAt 58 (part h i (firstLf h i)))) ≡ false
   line-good = indexing-line seed h last before i _ l (lf-cut h i l) j
 
   pub colon-inside : c < length h
   colon-inside = omega (arith, colon-before h i c l k line-good, lf-cut h i l .high)
 
-  module _ (e : ℕ) (m : Cut 10 h (c + 1) e) where
+  module _ {e : ℕ} (m : Cut 10 h (c + 1) e) where
     lf-is : firstLf h i ≡ e
     lf-is = sym (cut-until 10 h (c + 1) e m ∙ until-later (is 10) h i (c + 1) (omega (arith, k .low)) (omega (arith, colon-before h i c l k line-good)))
 
-    pub line-ends : Cut 10 h i e
+    line-ends : Cut 10 h i e
     line-ends = subst (Cut 10 h i) lf-is (lf-cut h i l)
 
-    pub line-named : (b : ℕ) → b ≡ bucketOf seed (part h i c) → (x : Line) → lineOf (cutAt 58 (part h i e)) ≡ some x → b ≡ bucketOf seed (x .name)
+    line-named : (b : ℕ) → b ≡ bucketOf seed (part h i c) → (x : Line) → lineOf (cutAt 58 (part h i e)) ≡ some x → b ≡ bucketOf seed (x .name)
     line-named b q =
         let z : c < e = omega (arith, colon-before h i c l k line-good, lf-is) in
         line-bucket seed (part h i e) (c - i) (cut-part h i c e k z (m .high)) (ap (λ (n : ℕ). absent (lineOf (cutAt 58 (part h i n)))) (sym lf-is) ∙ line-good) b (q ∙ ap (bucketOf seed) (sym (name-part h i c e (k .low) z)))
+
+    pub line-inside : e < length h
+    line-inside = indexing-cut seed h last before i e l line-ends j
+
+    pub line-place : i / 3 < length before
+    line-place = third-place seed h last before i e l line-ends j
+
+    pub line-indexed : {b : ℕ} → b < bucketCount → b ≡ bucketOf seed (part h i c) → Indexing seed h (set last b i) (set before (i / 3) (getD last b 0)) (e + 1)
+    line-indexed {b} small q = indexing-on seed h last before i e l line-ends j b small (line-named b q)
 
 pub indexing-done : (seed : Seed) (h last before : Str) (i : ℕ) → badHeaders h ≡ false → Indexing seed h last before i → length h ≤ i → Indexed seed h last before
 indexing-done seed h last before i g j l = record {

@@ -16,13 +16,6 @@ abbrev μ-loop : tie.MeasureT-loop
 loop-holds : tie.Need-loop-holds Inv-loop μ-loop
 loop-holds c = let at-start = c .before .before .before in listing-start _ _ _ _ _ (at-start .pre .1)
 
-mul-p : tie.Need-mul-p Inv-loop μ-loop
-mul-p c = let at-start = c .before .before .before .before .before in omega (arith, at-start .pre .0 .room)
-
-shared-slice-read-p : tie.Need-shared-slice-read-p Inv-loop μ-loop
-shared-slice-read-p c = let at-start = c .before .before .before .before .before .before in
-    omega (arith, at-start .pre .0 .room)
-
 cast-p : tie.Need-cast-p Inv-loop μ-loop
 cast-p c = omega (arith, c .shared-slice-known3 .given (c .before .before .loop .i))
 
@@ -37,12 +30,9 @@ loop-again : tie.Need-loop-again Inv-loop μ-loop
 loop-again c = let at-loop-test = c .before .before .before .before .before in
     listing-turn _ _ _ _ _ _ _ _ (at-loop-test .before .loop .inv) (at-loop-test .loop-test .taken) _ _ (c .before .before .add-name .ensures)
 
-same-length : tie.Need-same-length Inv-loop μ-loop
-same-length c = c .before .loop .inv .left .long
-
 returns : tie.Need-returns Inv-loop μ-loop
 returns c = listing-done _ _ _ _ _ _ _ _ (c .before .loop .inv) (c .loop-test .left)
 
 pub add-names-spec : {M : Type 1} → statement M
-add-names-spec = tie.close (tie.spec Inv-loop μ-loop loop-holds mul-p shared-slice-read-p cast-p add-name-requires
-    (λ c. search needs) (λ c. search needs) loop-again same-length returns)
+add-names-spec = tie.close (tie.spec Inv-loop μ-loop loop-holds (λ c. search needs) (λ c. search needs) cast-p
+    add-name-requires (λ c. search needs) (λ c. search needs) loop-again (λ c. search needs) returns)

@@ -17,65 +17,33 @@ abbrev μ-loop : tie.MeasureT-loop
 loop-holds : tie.Need-loop-holds Inv-loop μ-loop
 loop-holds c = finding-start _ _ _ _
 
-mul-s : tie.Need-mul-s Inv-loop μ-loop
-mul-s c = let at-start = c .before .before .before .before .before in omega (arith, at-start .pre .rules .room)
-
-shared-slice-read-s : tie.Need-shared-slice-read-s Inv-loop μ-loop
-shared-slice-read-s c = let at-start = c .before .before .before .before .before .before in
-    omega (arith, at-start .pre .rules .room)
-
 cast-s : tie.Need-cast-s Inv-loop μ-loop
 cast-s c = omega (arith, c .shared-slice-known3 .given (c .before .before .loop .i))
 
 add-by-user : tie.Need-add-by-user Inv-loop μ-loop
 add-by-user c = let at-start = c .before .before .before .before .before .before in
-    omega (
-      arith,
-      subject-room (at-start .args .f .now) (at-start .args .starts .now) (at-start .args .n) (at-start .pre .rules)
-          (c .before .before .loop .i) (c .before .loop-test .taken),
-    )
+    omega (arith, subject-room _ _ _ (at-start .pre .rules) (c .before .before .loop .i) (c .before .loop-test .taken))
 
 shared-slice-read-by-user : tie.Need-shared-slice-read-by-user Inv-loop μ-loop
 shared-slice-read-by-user c = let at-loop = c .before .before .before in
     let at-start = at-loop .before .before .before .before in
-    omega (
-      arith,
-      subject-room (at-start .args .f .now) (at-start .args .starts .now) (at-start .args .n) (at-start .pre .rules)
-          (at-loop .loop .i) (c .before .before .loop-test .taken),
-    )
+    omega (arith, subject-room _ _ _ (at-start .pre .rules) (at-loop .loop .i) (c .before .before .loop-test .taken))
 
 add-push-where : tie.Need-add-push-where Inv-loop μ-loop
 add-push-where c = let at-loop-test = c .before .before .before in
     let at-start = at-loop-test .before .before .before .before .before in
-    omega (
-      arith,
-      subject-room (at-start .args .f .now) (at-start .args .starts .now) (at-start .args .n) (at-start .pre .rules)
-          (at-loop-test .before .loop .i) (at-loop-test .loop-test .taken),
-    )
+    omega (arith, subject-room _ _ _ (at-start .pre .rules) (at-loop-test .before .loop .i) (at-loop-test .loop-test .taken))
 
 cast-push-where : tie.Need-cast-push-where Inv-loop μ-loop
 cast-push-where c = let at-loop-test = c .before .before .before in
     let at-start = at-loop-test .before .before .before .before .before in
-    omega (
-      arith,
-      at-start .pre .short,
-      subject-room (at-start .args .f .now) (at-start .args .starts .now) (at-start .args .n) (at-start .pre .rules)
-          (at-loop-test .before .loop .i) (at-loop-test .loop-test .taken),
-    )
-
-push-where-requires : tie.Need-push-where-requires Inv-loop μ-loop
-push-where-requires c κs = let at-loop-test = c .before .before .before in
-    let at-start = at-loop-test .before .before .before .before .before in
-    omega (arith, at-loop-test .before .loop .inv .few, at-loop-test .before .loop .inv .long, at-start .pre .room, at-loop-test .loop-test .taken)
+    omega (arith, at-start .pre .short, subject-room _ _ _ (at-start .pre .rules) (at-loop-test .before .loop .i) (at-loop-test .loop-test .taken))
 
 loop-again : tie.Need-loop-again Inv-loop μ-loop
 loop-again c = let at-loop-test = c .before .before .before .before .before .before in
     let at-start = at-loop-test .before .before .before .before .before in
     finding-turn _ _ _ _ _ _ _ (at-loop-test .before .loop .inv) (at-loop-test .loop-test .taken) (at-start .pre .room)
     _ refl _ refl (subject-laid _ _ _ (at-start .pre .rules) _ (at-loop-test .loop-test .taken)) _ _ (c .before .before .push-where .ensures)
-
-same-length : tie.Need-same-length Inv-loop μ-loop
-same-length c = c .before .loop .inv .long
 
 returns : tie.Need-returns Inv-loop μ-loop
 returns c = (
@@ -85,6 +53,6 @@ returns c = (
 )
 
 pub find-subjects-spec : {M : Type 1} → statement M
-find-subjects-spec = tie.close (tie.spec Inv-loop μ-loop loop-holds mul-s shared-slice-read-s cast-s add-by-user
-    shared-slice-read-by-user add-push-where cast-push-where push-where-requires (λ c. search needs) (λ c. search needs)
-    loop-again same-length returns)
+find-subjects-spec = tie.close (tie.spec Inv-loop μ-loop loop-holds (λ c. search needs) (λ c. search needs) cast-s
+    add-by-user shared-slice-read-by-user add-push-where cast-push-where (λ c κs. search needs) (λ c. search needs)
+    (λ c. search needs) loop-again (λ c. search needs) returns)

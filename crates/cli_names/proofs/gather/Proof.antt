@@ -16,13 +16,6 @@ abbrev μ-loop : tie.MeasureT-loop
 loop-holds : tie.Need-loop-holds Inv-loop μ-loop
 loop-holds c = let at-start = c .before .before .before .before in gathering-start _ _ _ _ _ _ (at-start .pre .laid)
 
-mul-at : tie.Need-mul-at Inv-loop μ-loop
-mul-at c = let at-start = c .before .before .before .before .before .before in omega (arith, at-start .pre .names .room)
-
-shared-slice-read-at : tie.Need-shared-slice-read-at Inv-loop μ-loop
-shared-slice-read-at c = let at-start = c .before .before .before .before .before .before .before in
-    omega (arith, at-start .pre .names .room)
-
 cast-is-new : tie.Need-cast-is-new Inv-loop μ-loop
 cast-is-new c = omega (arith, c .shared-slice-known4 .given (c .before .before .loop .i))
 
@@ -36,11 +29,6 @@ is-new-requires c κs = let at-loop = c .before .before .before in
       },
     )
 
-push-where-requires : tie.Need-push-where-requires Inv-loop μ-loop
-push-where-requires c κs = let at-loop-test = c .before .before .before .before in
-    let at-start = at-loop-test .before .before .before .before .before .before in
-    omega (arith, at-loop-test .before .loop .inv .few, at-loop-test .before .loop .inv .long, at-start .pre .room, at-loop-test .loop-test .taken)
-
 loop-again : tie.Need-loop-again Inv-loop μ-loop
 loop-again c = let at-is-new = c .before .before .before .before in
     let at-loop-test = at-is-new .before .before .before in
@@ -49,12 +37,10 @@ loop-again c = let at-is-new = c .before .before .before .before in
     (at-start .pre .room) (at-start .pre .names .laid (at-loop-test .before .loop .i)
     (at-loop-test .loop-test .taken)) _ (at-is-new .is-new .ensures) _ _ (c .before .before .push-where .ensures)
 
-same-length : tie.Need-same-length Inv-loop μ-loop
-same-length c = c .before .loop .inv .long
-
 returns : tie.Need-returns Inv-loop μ-loop
 returns c = gathering-done _ _ _ _ _ _ _ _ _ (c .before .loop .inv) (c .loop-test .left)
 
 pub gather-spec : {M : Type 1} → statement M
-gather-spec = tie.close (tie.spec Inv-loop μ-loop loop-holds mul-at shared-slice-read-at cast-is-new is-new-requires
-    push-where-requires (λ c. search needs) (λ c. search needs) loop-again same-length returns)
+gather-spec = tie.close (tie.spec Inv-loop μ-loop loop-holds (λ c. search needs) (λ c. search needs) cast-is-new
+    is-new-requires (λ c κs. search needs) (λ c. search needs) (λ c. search needs) loop-again (λ c. search needs)
+    returns)

@@ -5,9 +5,6 @@ use Rattle.readable_lines.specs.Lines.{lineBy}
 use Rattle.readable_lines.proofs.convert_line.Statement.{statement}
 use Rattle.readable_lines.proofs.convert_line.Tie as tie
 
-pack-line-requires : tie.Need-pack-line-requires
-pack-line-requires c κs = let at-start = c .before .before .before .before in (at-start .pre .0, at-start .pre .2)
-
 returns : tie.Need-returns
 unfolding lineBy if_then_else_
 returns c = let at-if1 = c .before .before .before .before in
@@ -23,5 +20,5 @@ returns-2 c = let at-if1 = c .before .before .before .before in
     rw (at-if1 .if1 .left) (c .before .before .show-line .ensures)
 
 pub convert-line-spec : {M : Type 1} → statement M
-convert-line-spec = tie.close (tie.spec pack-line-requires (λ c. search needs) returns show-line-requires
+convert-line-spec = tie.close (tie.spec (λ c κs. search needs) (λ c. search needs) returns show-line-requires
     (λ c. search needs) returns-2)

@@ -7,21 +7,9 @@ use Rattle.readable_lines.proofs.Lining.{pack-open, pack-unread, pack-e
 use Rattle.readable_lines.proofs.pack_line.Statement.{statement}
 use Rattle.readable_lines.proofs.pack_line.Tie as tie
 
-find-requires : tie.Need-find-requires
-find-requires c κs = omega (arith, c .before .before .pre .0)
-
 returns : tie.Need-returns
 returns c = let at-start = c .before .before .before .before in
     pack-open (at-start .args .text .now) (at-start .args .from) (at-start .pre .0) _ (c .before .find .ensures) (c .if1 .taken)
-
-sub-pack-frame : tie.Need-sub-pack-frame
-sub-pack-frame c = omega (arith, c .before .find .ensures)
-
-part-pack-frame-start : tie.Need-part-pack-frame-start
-part-pack-frame-start c = omega (arith, c .before .find .ensures)
-
-part-pack-frame-end : tie.Need-part-pack-frame-end
-part-pack-frame-end c = omega (arith, c .if1 .left)
 
 returns-2 : tie.Need-returns-2
 returns-2 c = let at-pack-frame = c .before .before .before in let at-if1 = at-pack-frame .before .before .before in
@@ -61,11 +49,6 @@ slice-write-out c = let at-s = c .before .before .before .before .before .before
     (at-if1 .if1 .left) _ _ _ (at-pack-frame .pack-frame .ensures) _ _ (at-s .s .given .1)
     (at-start .args .out .now) (at-start .pre .1) _ _ (c .before .before .write-hex .ensures) .0
 
-add-t9 : tie.Need-add-t9
-add-t9 c =
-    let at-if1 = c .before .before .before .before .before .before .before .before .before .before .before .before in
-    omega (arith, at-if1 .if1 .left)
-
 add-t21 : tie.Need-add-t21
 add-t21 c = let at-s = c .before .before .before .before .before .before in
     let at-pack-frame = at-s .before .before .before in let at-if1 = at-pack-frame .before .before .before in
@@ -94,7 +77,7 @@ returns-3 c = let at-s = c .before .before .before .before .before .before in
     (at-start .args .out .now) (at-start .pre .1) _ _ (c .before .before .write-hex .ensures)
 
 pub pack-line-spec : {M : Type 1} → statement M
-pack-line-spec = tie.close (tie.spec find-requires returns sub-pack-frame part-pack-frame-start part-pack-frame-end
-    (λ c. search needs) (λ c κs. search needs) (λ c. search needs) (λ c. search needs) returns-2
-    array-share-prefix-frame slice-aggregate-write-hex write-hex-requires slice-write-out add-t9 add-t21 same-length
-    returns-3)
+pack-line-spec = tie.close (tie.spec (λ c κs. search needs) returns (λ c. search needs) (λ c. search needs)
+    (λ c. search needs) (λ c. search needs) (λ c κs. search needs) (λ c. search needs) (λ c. search needs) returns-2
+    array-share-prefix-frame slice-aggregate-write-hex write-hex-requires slice-write-out (λ c. search needs) add-t21
+    same-length returns-3)

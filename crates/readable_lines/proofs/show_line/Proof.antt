@@ -4,13 +4,8 @@ use native.Mathlib.Omega.{arith}
 use mathlib.Core.Path.{sym}
 use lib.Seq.{length-take-le}
 use Rattle.readable_lines.proofs.Lining.{show-bad, frame-room, show-unread, show-room, show-lays, show-long}
-use Rattle.readable_lines.proofs.Lining.{show-bad, show-unread, show-room, show-lays, show-long}
 use Rattle.readable_lines.proofs.show_line.Statement.{statement}
 use Rattle.readable_lines.proofs.show_line.Tie as tie
-
-read-line-requires : tie.Need-read-line-requires
-read-line-requires c κs = let at-start = c .before .before .before in
-    (omega (arith, at-start .pre .0), omega (arith, at-start .pre .1))
 
 returns : tie.Need-returns
 returns c = let at-read-line = c .before .before .before in
@@ -36,11 +31,6 @@ slice-aggregate-show-frame c = let at-read-line = c .before .before .before .bef
           _ (at-read-line .read-line .ensures .1),
       at-start .pre .1,
     )))
-
-show-frame-requires : tie.Need-show-frame-requires
-show-frame-requires c κs =
-    let at-start = c .before .before .before .before .before .before .before .before .before .before in
-    omega (arith, at-start .pre .2)
 
 returns-2 : tie.Need-returns-2
 returns-2 c = let at-show-frame = c .before .before .before .before in
@@ -81,6 +71,6 @@ returns-3 c = let at-show-frame = c .before .before .before .before .before in
     (at-read-line .read-line .ensures .1) _ _ _ (at-show-frame .show-frame .ensures) _ _ (c .before .s .given .1) (at-start .pre .2)
 
 pub show-line-spec : {M : Type 1} → statement M
-show-line-spec = tie.close (tie.spec (λ c. search needs) read-line-requires (λ c. search needs) (λ c. search needs)
-    returns array-share-prefix-frame slice-aggregate-show-frame show-frame-requires (λ c. search needs)
+show-line-spec = tie.close (tie.spec (λ c. search needs) (λ c κs. search needs) (λ c. search needs) (λ c. search needs)
+    returns array-share-prefix-frame slice-aggregate-show-frame (λ c κs. search needs) (λ c. search needs)
     (λ c. search needs) (λ c. search needs) returns-2 slice-write-out add-t17 same-length-2 returns-3)

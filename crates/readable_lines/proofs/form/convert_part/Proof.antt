@@ -5,15 +5,9 @@ use Rattle.readable_lines.specs.Steps.{partsBy}
 use Rattle.readable_lines.proofs.form.convert_part.Statement.{statement}
 use Rattle.readable_lines.proofs.form.convert_part.Tie as tie
 
-part-requires : tie.Need-part-requires
-part-requires c κs = let at-start = c .before .before .before .before in (at-start .pre .0, at-start .pre .1)
-
 returns : tie.Need-returns
 unfolding partsBy if_then_else_
 returns c = let at-if1 = c .before .before .before .before in rw (at-if1 .if1 .taken) (c .before .before .part .ensures)
-
-part-requires-2 : tie.Need-part-requires-2
-part-requires-2 c κs = let at-start = c .before .before .before .before in (at-start .pre .0, at-start .pre .1)
 
 returns-2 : tie.Need-returns-2
 unfolding partsBy if_then_else_
@@ -21,5 +15,5 @@ returns-2 c = let at-if1 = c .before .before .before .before in
     rw (at-if1 .if1 .left) (c .before .before .part2 .ensures)
 
 pub convert-part-spec : {M : Type 1} → statement M
-convert-part-spec = tie.close (tie.spec part-requires (λ c. search needs) returns part-requires-2 (λ c. search needs)
-    returns-2)
+convert-part-spec = tie.close (tie.spec (λ c κs. search needs) (λ c. search needs) returns (λ c κs. search needs)
+    (λ c. search needs) returns-2)

@@ -16,10 +16,6 @@ returns-2 : tie.Need-returns-2
 returns-2 c = let at-start = c .before .before .before .before .before in
     rw (line-empty (at-start .args .s .now) (omega (arith, c .if2 .taken))) nothing
 
-by-kind-requires : tie.Need-by-kind-requires
-by-kind-requires c κs = let at-start = c .before .before .before .before .before .before .before .before in
-    (omega (arith, at-start .pre), omega arith)
-
 returns-3 : tie.Need-returns-3
 returns-3 c = let at-by-kind = c .before .before .before .before in
     let at-if1 = at-by-kind .before .before .before .before .before in
@@ -44,5 +40,5 @@ returns-5 c = let at-by-kind = c .before .before .before .before .before .before
 
 pub pack-frame-spec : {M : Type 1} → statement M
 pack-frame-spec = tie.close (tie.spec (λ c κs. search needs) returns returns-2 (λ c. search needs)
-    (λ c κs. search needs) by-kind-requires (λ c. search needs) (λ c. search needs) (λ c. search needs) returns-3
+    (λ c κs. search needs) (λ c κs. search needs) (λ c. search needs) (λ c. search needs) (λ c. search needs) returns-3
     (λ c. search needs) returns-4 (λ c. search needs) (λ c. search needs) returns-5)

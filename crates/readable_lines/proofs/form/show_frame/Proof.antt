@@ -13,10 +13,6 @@ returns : tie.Need-returns
 returns c = let at-start = c .before .before .before in
     rw (frame-empty (at-start .args .f .now) (omega (arith, c .if1 .taken))) nothing
 
-by-kind-requires : tie.Need-by-kind-requires
-by-kind-requires c κs = let at-start = c .before .before .before .before .before in
-    (omega (arith, at-start .pre), omega (arith, c .before .before .if1 .left))
-
 returns-2 : tie.Need-returns-2
 returns-2 c = let at-by-kind = c .before .before .before .before in
     let at-start = at-by-kind .before .before .before .before .before .before in
@@ -53,6 +49,6 @@ returns-5 c = let at-if2 = c .before .before .before in
     (at-if2 .if2 .left) (sym (c .before .all-print .ensures) ∙ not-false _ (c .if3 .left))
 
 pub show-frame-spec : {M : Type 1} → statement M
-show-frame-spec = tie.close (tie.spec returns (λ c. search needs) by-kind-requires (λ c. search needs)
+show-frame-spec = tie.close (tie.spec returns (λ c. search needs) (λ c κs. search needs) (λ c. search needs)
     (λ c. search needs) (λ c. search needs) returns-2 (λ c. search needs) returns-3 slice-reshare-prefix-all-print
     slice-aggregate-all-print (λ c κs. search needs) (λ c. search needs) returns-4 (λ c. search needs) returns-5)

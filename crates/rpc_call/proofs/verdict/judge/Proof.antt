@@ -5,23 +5,9 @@ use Rattle.rpc_call.proofs.Answers.{verdict-denied, verdict-permitted, 
 use Rattle.rpc_call.proofs.verdict.judge.Statement.{statement}
 use Rattle.rpc_call.proofs.verdict.judge.Tie as tie
 
-member-at-requires : tie.Need-member-at-requires
-member-at-requires c κs = let at-start = c .before .before .before .before .before .before .before .before in
-    at-start .pre .0
-
-first-rule-requires : tie.Need-first-rule-requires
-first-rule-requires c κs =
-    let at-start = c .before .before .before .before .before .before .before .before .before .before in
-    (c .before .member-at .ensures .1, at-start .pre .1)
-
 returns : tie.Need-returns
 returns c = let at-first-rule = c .before .before .before .before .before in
     verdict-denied _ _ _ _ (at-first-rule .before .before .member-at .ensures .0) _ (at-first-rule .first-rule .ensures) _ (c .before .denied .given .1)
-
-member-at-requires-2 : tie.Need-member-at-requires-2
-member-at-requires-2 c κs =
-    let at-start = c .before .before .before .before .before .before .before .before .before .before .before .before .before .before .before .before in
-    at-start .pre .0
 
 first-rule-requires-2 : tie.Need-first-rule-requires-2
 first-rule-requires-2 c κs = let at-out = c .before .before .before .before .before .before in
@@ -45,6 +31,6 @@ returns-3 c = let at-first-rule2 = c .before .before .before .before in
     (at-first-rule2 .before .before .member-at2 .ensures .0) _ (at-first-rule2 .first-rule2 .ensures) (c .enum-told2 .given .1)
 
 pub judge-spec : {M : Type 1} → statement M
-judge-spec = tie.close (tie.spec (λ c. search needs) member-at-requires first-rule-requires (λ c. search needs)
-    (λ c. search needs) returns (λ c. search needs) (λ c. search needs) member-at-requires-2 first-rule-requires-2
+judge-spec = tie.close (tie.spec (λ c. search needs) (λ c κs. search needs) (λ c κs. search needs) (λ c. search needs)
+    (λ c. search needs) returns (λ c. search needs) (λ c. search needs) (λ c κs. search needs) first-rule-requires-2
     (λ c. search needs) (λ c. search needs) returns-2 (λ c. search needs) (λ c. search needs) returns-3)

@@ -29,17 +29,7 @@ judge-requires c κs = let at-index-lines = c .before .before .before .before .b
       },
     )
 
-verdict-on-few-requires : tie.Need-verdict-on-few-requires
-verdict-on-few-requires c κs = let at-start = c .before .before .before .before .before in
-    (at-start .pre .0, at-start .pre .1, c .if1 .taken)
-
-returns : tie.Need-returns
-returns c = c .verdict-on-few .ensures
-
-returns-2 : tie.Need-returns-2
-returns-2 c = c .before .judge .ensures
-
 pub verdict-at-spec : {M : Type 1} → statement M
-verdict-at-spec = tie.close (tie.spec verdict-on-few-requires returns (λ c κs. search needs) (λ c. search needs)
-    (λ c. search needs) index-lines-requires (λ c. search needs) (λ c. search needs) (λ c. search needs) judge-requires
-    returns-2)
+verdict-at-spec = tie.close (tie.spec (λ c κs. search needs) (λ c. search needs) (λ c κs. search needs)
+    (λ c. search needs) (λ c. search needs) index-lines-requires (λ c. search needs) (λ c. search needs)
+    (λ c. search needs) judge-requires (λ c. search needs))

@@ -23,9 +23,6 @@ judge-requires c κs = let at-index-lines = c .before .before .before .before .b
     let at-start = at-index-lines .before .before .before .before .before .before .before .before in
     (at-start .pre .0, record { indexed = at-index-lines .index-lines .ensures; room = omega (arith, length-replicate {A = ℕ} fewBytes 0, at-start .pre .2) })
 
-returns : tie.Need-returns
-returns c = c .before .judge .ensures
-
 pub verdict-on-few-spec : {M : Type 1} → statement M
 verdict-on-few-spec = tie.close (tie.spec (λ c κs. search needs) (λ c. search needs) (λ c. search needs)
-    index-lines-requires (λ c. search needs) (λ c. search needs) (λ c. search needs) judge-requires returns)
+    index-lines-requires (λ c. search needs) (λ c. search needs) (λ c. search needs) judge-requires (λ c. search needs))

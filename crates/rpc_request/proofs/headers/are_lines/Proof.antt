@@ -21,9 +21,6 @@ returns : tie.Need-returns Inv-loop μ-loop
 returns c = let at-loop = c .before .before .before in
     judging-bad _ _ (c .before .before .loop-test .taken) _ (c .before .line-end .ensures) (at-loop .loop .inv) (c .if1 .taken)
 
-add-i : tie.Need-add-i Inv-loop μ-loop
-add-i c = omega (arith, c .if1 .left, c .before .line-end .ensures .high)
-
 loop-less : tie.Need-loop-less Inv-loop μ-loop
 loop-less c = let at-loop = c .before .before .before in
     omega (
@@ -41,5 +38,5 @@ returns-2 : tie.Need-returns-2 Inv-loop μ-loop
 returns-2 c = judging-done _ _ (c .before .loop .inv) (c .loop-test .left)
 
 pub are-lines-spec : {M : Type 1} → statement M
-are-lines-spec = tie.close (tie.spec Inv-loop μ-loop loop-holds (λ c κs. search needs) returns add-i loop-less
-    loop-again returns-2)
+are-lines-spec = tie.close (tie.spec Inv-loop μ-loop loop-holds (λ c κs. search needs) returns (λ c. search needs)
+    loop-less loop-again returns-2)

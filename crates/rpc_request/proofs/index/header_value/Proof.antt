@@ -41,11 +41,6 @@ join-line-requires c κs = let at-loop-test = c .before .before .before in
       g .high,
     )
 
-mul-p-2 : tie.Need-mul-p-2 Inv-loop μ-loop
-mul-p-2 c =
-    let at-start = c .before .before .before .before .before .before .before .before .before .before .before .before .before .before .before in
-    omega (arith, at-start .pre .indexed .short)
-
 shared-slice-read-p-2 : tie.Need-shared-slice-read-p-2 Inv-loop μ-loop
 shared-slice-read-p-2 c = let at-byte-from = c .before .before .before .before .before .before in
     let at-start = at-byte-from .before .before .before .before .before .before .before .before .before .before in
@@ -75,9 +70,6 @@ loop-again c = let at-join-line = c .before .before .before in
           (at-join-line .join-line .ensures .0) (at-join-line .join-line .ensures .1),
     )
 
-same-length : tie.Need-same-length Inv-loop μ-loop
-same-length c = c .before .before .loop .inv .0
-
 returns : tie.Need-returns Inv-loop μ-loop
 returns c =
     record {
@@ -86,12 +78,6 @@ returns c =
       low = omega arith;
       high = omega (arith, c .before .before .loop .inv .0);
     }
-
-add-t13 : tie.Need-add-t13 Inv-loop μ-loop
-add-t13 c = omega (arith, c .if1 .left, c .before .before .loop .inv .0, c .before .before .loop .inv .1 .high)
-
-same-length-2 : tie.Need-same-length-2 Inv-loop μ-loop
-same-length-2 c = c .before .before .loop .inv .0
 
 returns-2 : tie.Need-returns-2 Inv-loop μ-loop
 returns-2 c = let at-loop = c .before .before in
@@ -105,4 +91,5 @@ returns-2 c = let at-loop = c .before .before in
 pub header-value-spec : {M : Type 1} → statement M
 header-value-spec = tie.close (tie.spec Inv-loop μ-loop (λ c κs. search needs) mul-p shared-slice-read-p cast-p
     loop-holds (λ c κs. search needs) (λ c. search needs) (λ c. search needs) (λ c. search needs) join-line-requires
-    mul-p-2 shared-slice-read-p-2 cast-p-2 loop-less loop-again same-length returns add-t13 same-length-2 returns-2)
+    (λ c. search needs) shared-slice-read-p-2 cast-p-2 loop-less loop-again (λ c. search needs) returns
+    (λ c. search needs) (λ c. search needs) returns-2)

@@ -1,14 +1,14 @@
 -- `index_lines` stores what its definition says. The invariant: the lines before i are in the chains.
 use borrow.Author.Needs.{needs}
 use native.Mathlib.Omega.{arith}
-use mathlib.Core.Path.{_≡_, refl, sym, _∙_}
+use mathlib.Core.Path.{_≡_, refl}
 use Prim.Native.Nat.{_-_, _≤_}
 use lib.ListN.{length, length-set}
 use Rattle.text.specs.Frame.{part}
 use Rattle.text_hash.proofs.Mixing.{place-within}
 use Rattle.rpc_request.specs.Index.{bucketOf}
 use Rattle.rpc_request.proofs.Lines.{headers-short}
-use Rattle.rpc_request.proofs.Chains.{Indexing, indexing-start, indexing-cut, third-place, indexing-on, colon-inside, line-ends, line-named, indexing-done}
+use Rattle.rpc_request.proofs.Chains.{Indexing, indexing-start, colon-inside, line-inside, line-place, line-indexed, indexing-done}
 use Rattle.rpc_request.proofs.index.index_lines.Statement.{statement}
 use Rattle.rpc_request.proofs.index.index_lines.Tie as tie
 
@@ -24,32 +24,13 @@ loop-holds : tie.Need-loop-holds Inv-loop μ-loop
 loop-holds c = let at-start = c .before .before .before .before .before in
     (indexing-start _ _ _ _ (at-start .pre), refl, omega arith, omega arith, c .place .ensures)
 
-sub-next-bucket-2 : tie.Need-sub-next-bucket-2 Inv-loop μ-loop
-sub-next-bucket-2 c = let at-loop = c .before .before .before in at-loop .loop .inv .2
-
-part-next-bucket-start-2 : tie.Need-part-next-bucket-start-2 Inv-loop μ-loop
-part-next-bucket-start-2 c = let at-loop = c .before .before .before in at-loop .loop .inv .2
-
-part-next-bucket-end-2 : tie.Need-part-next-bucket-end-2 Inv-loop μ-loop
-part-next-bucket-end-2 c = let at-loop = c .before .before .before in at-loop .loop .inv .3
-
-next-bucket-requires : tie.Need-next-bucket-requires Inv-loop μ-loop
-next-bucket-requires c κs = let at-loop = c .before .before .before .before in
-    (at-loop .loop .inv .0 .small, at-loop .loop .inv .4)
-
 add-byte-from : tie.Need-add-byte-from Inv-loop μ-loop
 add-byte-from c = let at-byte-from = c .before .before .before in
-    omega (
-      arith,
-      colon-inside _ _ _ _ _ _ (at-byte-from .before .loop-test .taken) (at-byte-from .byte-from .ensures) (at-byte-from .before .before .loop .inv .0),
-    )
+    omega (arith, colon-inside (at-byte-from .before .loop-test .taken) (at-byte-from .byte-from .ensures) (at-byte-from .before .before .loop .inv .0))
 
 byte-from-requires-2 : tie.Need-byte-from-requires-2 Inv-loop μ-loop
 byte-from-requires-2 c κs = let at-byte-from = c .before .before .before in
-    omega (
-      arith,
-      colon-inside _ _ _ _ _ _ (at-byte-from .before .loop-test .taken) (at-byte-from .byte-from .ensures) (at-byte-from .before .before .loop .inv .0),
-    )
+    omega (arith, colon-inside (at-byte-from .before .loop-test .taken) (at-byte-from .byte-from .ensures) (at-byte-from .before .before .loop .inv .0))
 
 mul-before : tie.Need-mul-before Inv-loop μ-loop
 mul-before c = omega (arith, place-within _ _ _ _ (c .before .next-bucket .ensures) (omega arith))
@@ -65,9 +46,8 @@ mul-before-2 c =
 
 slice-write-before : tie.Need-slice-write-before Inv-loop μ-loop
 slice-write-before c = let at-byte-from = c .before .before .before .before .before in
-    third-place _ _ _ _ _ _ (at-byte-from .before .loop-test .taken)
-    (line-ends _ _ _ _ _ _ (at-byte-from .before .loop-test .taken) (at-byte-from .byte-from .ensures)
-    (at-byte-from .before .before .loop .inv .0) _ (c .before .byte-from2 .ensures)) (at-byte-from .before .before .loop .inv .0)
+    line-place (at-byte-from .before .loop-test .taken) (at-byte-from .byte-from .ensures)
+    (at-byte-from .before .before .loop .inv .0) (c .before .byte-from2 .ensures)
 
 cast-last : tie.Need-cast-last Inv-loop μ-loop
 cast-last c =
@@ -85,9 +65,8 @@ add-i : tie.Need-add-i Inv-loop μ-loop
 add-i c = let at-byte-from = c .before .before .before .before .before in
     omega (
       arith,
-      indexing-cut _ _ _ _ _ _ (at-byte-from .before .loop-test .taken)
-          (line-ends _ _ _ _ _ _ (at-byte-from .before .loop-test .taken) (at-byte-from .byte-from .ensures)
-          (at-byte-from .before .before .loop .inv .0) _ (c .before .byte-from2 .ensures)) (at-byte-from .before .before .loop .inv .0),
+      line-inside (at-byte-from .before .loop-test .taken) (at-byte-from .byte-from .ensures)
+          (at-byte-from .before .before .loop .inv .0) (c .before .byte-from2 .ensures),
     )
 
 loop-less : tie.Need-loop-less Inv-loop μ-loop
@@ -96,32 +75,21 @@ loop-less c = let at-byte-from = c .before .before .before .before .before in
       arith,
       at-byte-from .byte-from .ensures .low,
       c .before .byte-from2 .ensures .low,
-      indexing-cut _ _ _ _ _ _ (at-byte-from .before .loop-test .taken)
-          (line-ends _ _ _ _ _ _ (at-byte-from .before .loop-test .taken) (at-byte-from .byte-from .ensures)
-          (at-byte-from .before .before .loop .inv .0) _ (c .before .byte-from2 .ensures)) (at-byte-from .before .before .loop .inv .0),
+      line-inside (at-byte-from .before .loop-test .taken) (at-byte-from .byte-from .ensures)
+          (at-byte-from .before .before .loop .inv .0) (c .before .byte-from2 .ensures),
     )
 
 loop-again : tie.Need-loop-again Inv-loop μ-loop
-loop-again c = let at-byte-from = c .before .before .before .before .before in
-    let at-loop = at-byte-from .before .before in (
-      indexing-on _ _ _ _ _ _ (at-byte-from .before .loop-test .taken)
-          (line-ends _ _ _ _ _ _ (at-byte-from .before .loop-test .taken) (at-byte-from .byte-from .ensures)
-          (at-loop .loop .inv .0) _ (c .before .byte-from2 .ensures)) (at-loop .loop .inv .0) _
-          (place-within _ _ _ _ (c .before .before .next-bucket .ensures) (omega arith))
-          (line-named _ _ _ _ _ _ (at-byte-from .before .loop-test .taken) (at-byte-from .byte-from .ensures)
-          (at-loop .loop .inv .0) _ (c .before .byte-from2 .ensures) _ (c .before .before .next-bucket .ensures)),
-      simp length-set (at-loop .loop .inv .1),
-      at-byte-from .byte-from .ensures .low,
-      at-byte-from .byte-from .ensures .high,
-      c .before .before .next-bucket .ensures,
-    )
-
-same-length : tie.Need-same-length Inv-loop μ-loop
-same-length c = let at-start = c .before .before .before .before .before .before .before in
-    c .before .loop .inv .0 .buckets ∙ sym (at-start .pre .buckets)
-
-same-length-2 : tie.Need-same-length-2 Inv-loop μ-loop
-same-length-2 c = c .before .loop .inv .1
+loop-again c = let at-byte-from = c .before .before .before .before .before in (
+  line-indexed (at-byte-from .before .loop-test .taken) (at-byte-from .byte-from .ensures)
+      (at-byte-from .before .before .loop .inv .0) (c .before .byte-from2 .ensures)
+      (place-within _ _ _ _ (c .before .before .next-bucket .ensures) (omega arith))
+      (c .before .before .next-bucket .ensures),
+  simp length-set (at-byte-from .before .before .loop .inv .1),
+  at-byte-from .byte-from .ensures .low,
+  at-byte-from .byte-from .ensures .high,
+  c .before .before .next-bucket .ensures,
+)
 
 returns : tie.Need-returns Inv-loop μ-loop
 returns c = let at-start = c .before .before .before .before .before .before .before in
@@ -130,6 +98,6 @@ returns c = let at-start = c .before .before .before .before .before .before .be
 pub index-lines-spec : {M : Type 1} → statement M
 index-lines-spec = tie.close (tie.spec Inv-loop μ-loop (λ c. search needs) (λ c. search needs) (λ c. search needs)
     (λ c κs. search needs) loop-holds (λ c κs. search needs) (λ c. search needs) (λ c. search needs) (λ c. search needs)
-    sub-next-bucket-2 part-next-bucket-start-2 part-next-bucket-end-2 next-bucket-requires add-byte-from
+    (λ c. search needs) (λ c. search needs) (λ c. search needs) (λ c κs. search needs) add-byte-from
     byte-from-requires-2 mul-before slice-read-before mul-before-2 slice-write-before cast-last mul-last
-    slice-write-last add-i loop-less loop-again same-length same-length-2 returns)
+    slice-write-last add-i loop-less loop-again (λ c. search needs) (λ c. search needs) returns)
