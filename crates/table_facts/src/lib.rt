@@ -32,27 +32,29 @@ fn copy_at(f: &[u8], at: usize, out: &mut [u8]) -> usize
     n
 }
 
-// The same for number k of n strings, whose positions are in `starts`.
-fn copy_number(f: &[u8], starts: &[u16], n: usize, k: usize, out: &mut [u8]) -> usize
-    requires { ⌜ Listed (now f) (now starts) n ⌝ }
+// The same for the name of group g of n, whose positions are in `groups`.
+fn copy_name(f: &[u8], groups: &[u16], n: usize, g: GroupNumber, out: &mut [u8]) -> usize
+    requires { ⌜ Listed (now f) (now groups) n ⌝ }
     ensures { λ r. ⌜ Wrote (now (out .entry)) 0
-        (storedOf (now (out .entry)) (getD (stringsIn (now (f .entry)) (now (starts .entry)) n 0) k []))
+        (storedOf (now (out .entry)) (getD (stringsIn (now (f .entry)) (now (groups .entry)) n 0) (g .0) []))
         (now (out .exit)) r ⌝ }
 {
+    let k = g.0 as usize;
     if n <= k {
         return 0;
     }
-    let at = starts[k] as usize;
+    let at = groups[k] as usize;
     copy_at(f, at, out)
 }
 
-// The same for the id of rule k of n, whose positions are in `starts`.
-fn copy_id(f: &[u8], starts: &[u16], n: usize, k: usize, out: &mut [u8]) -> usize
+// The same for the id of one of n rules, whose positions are in `starts`.
+fn copy_id(f: &[u8], starts: &[u16], n: usize, rule: RuleNumber, out: &mut [u8]) -> usize
     requires { ⌜ Identified (now f) (now starts) n ⌝ }
     ensures { λ r. ⌜ Wrote (now (out .entry)) 0
-        (storedOf (now (out .entry)) (getD (idsIn (now (f .entry)) (now (starts .entry)) n) k []))
+        (storedOf (now (out .entry)) (getD (idsIn (now (f .entry)) (now (starts .entry)) n) (rule .0) []))
         (now (out .exit)) r ⌝ }
 {
+    let k = rule.0 as usize;
     if n <= k {
         return 0;
     }
@@ -87,7 +89,7 @@ pub fn name_of(text: &[u8], row: Row, out: &mut [u8]) -> usize
     };
     let f = &buf[..used];
     match row {
-        Row::Group(g) => copy_number(f, &groups, counts.groups, g.0 as usize, out),
-        Row::Rule(k) => copy_id(f, &starts, counts.rules, k.0 as usize, out),
+        Row::Group(g) => copy_name(f, &groups, counts.groups, g, out),
+        Row::Rule(rule) => copy_id(f, &starts, counts.rules, rule, out),
     }
 }

@@ -9,7 +9,7 @@ use borrow.Author.Tests.{leb-false, eqb-false, ltb-true, ltb-false, eq-eqb, ne-e
 use lib.Dec.{eqb, ltb, leb}
 use lib.ListN.{length, take, drop, getD, set, length-append, length-drop}
 use lib.Seq.{take-at}
-use Rattle.limits.specs.Limits.{maxGroups, maxMembers, maxString}
+use Rattle.limits.specs.Limits.{maxMembers, maxString}
 use Rattle.text.specs.Test.{_and_, _or_, any, all}
 use Rattle.text.specs.Byte.{isPrint}
 use Rattle.text.specs.String.{Str, same}
@@ -228,9 +228,6 @@ module _ (J : Judged) where
 
   again-is : J .found .again ≡ any (sameMember (this R)) (members R)
   again-is = met .told ∙ sym (R .ready .held .told (key R)) ∙ ap (λ (l : Str). any (same l) (bytesOf (members R))) (key-is R) ∙ sym (any-bytes (this R) _)
-
-  pub owner-small : J .owner ≤ maxGroups
-  owner-small = omega (arith, place-small _ _ _ _ _ (J .owner-is), R .ready .few)
 
   pub member-graded : (b : Earlier) → b .kind ≡ J .last → b .groups ≡ groups R → b .members ≡ membersIn (b .groups) (R .owners) (R .old) (R .users) (R .n)
       → J .number ≡ refusal b (framed (entryOf (R .f)))

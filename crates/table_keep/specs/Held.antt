@@ -43,6 +43,7 @@ pub record Named (f names : List ℕ) (n : ℕ) (groups : List Str) : Type 0 whe
 
 -- what a lookup of a group's name needs: the first `count` groups, no two alike, and their names in byte order
 pub record Groups (f groups names : List ℕ) (count : ℕ) : Type 0 where
+  pub few : count ≤ maxGroups
   pub distinct : Distinct f groups count
   pub named : Named f names count (stringsIn f groups count 0)
 
@@ -88,7 +89,6 @@ pub record GroupReady (old f starts names : List ℕ) (n : ℕ) : Type 0 where
 pub record MemberReady (old f starts names : List ℕ) (count : ℕ) (users owners keys : List ℕ) (n : ℕ) : Type 0 where
   pub kind : OfKind kindMember f
   pub room : length old + length f ≤ maxTableBytes
-  pub few : count ≤ maxGroups
   pub groups : Groups old starts names count
   pub long : length keys ≡ memberKeys
   pub held : InSet old starts count users owners keys n

@@ -2,12 +2,18 @@
 // decoded frames before it, f is its own frame, which follows them, `last` the kind of the frame before, and n the rows of its kind before it.
 ghost use mathlib.Core.Path.{_≡_};
 ghost use Prim.Native.Nat.{_≤_};
-ghost use lib.ListN.{length};
+ghost use lib.Dec.{ltb};
+ghost use lib.ListN.{length, getD};
+ghost use Rattle.limits.specs.Limits.{maxGroups};
+ghost use Rattle.text.specs.Test.{_and_};
+ghost use Rattle.text.specs.String.{same};
 ghost use Rattle.text.specs.Refusal.{clear};
-ghost use Rattle.table_rows.specs.Strings.{stringsIn, place};
+ghost use Rattle.table_place.specs.Place.{strIn};
+ghost use Rattle.table_rows.specs.Strings.{stringsIn, Listed, place};
 ghost use Rattle.table.specs.Frame.{entryOf};
 ghost use Rattle.table.specs.Refusal.{Earlier, framed, refusal};
 ghost use Rattle.table_keep.specs.Held.{hintPlaces, Groups, membersIn, GroupReady, MemberReady, GroupKept, MemberKept};
+use table::GroupNumber;
 use text::frame::End;
 
 // Where a name's hash says which group to try first.
@@ -64,13 +70,26 @@ pub fn take_group(
     limits::CLEAR
 }
 
-// The number of that of n groups whose name begins at `start`, found by halving, since groups stand in the order of the text. Nothing is promised: the
-// caller tries what is answered.
-fn number_at(groups: &[u16], n: usize, start: usize) -> usize
-    requires { ⌜ n ≤ length (now groups) ⌝ }
+// Whether group g is one of the first `count`, and has that name.
+fn is_named(old: &[u8], groups: &[u16], count: usize, g: GroupNumber, name: &[u8]) -> bool
+    requires { ⌜ Listed (now old) (now groups) count ⌝ }
+    ensures { λ r. ⌜ r ≡ (ltb (g .0) count and same (now (name .entry)) (strIn (now (old .entry)) (getD (now (groups .entry)) (g .0) 0))) ⌝ }
+{
+    let k = g.0 as usize;
+    if count <= k {
+        return false;
+    }
+    let at = groups[k] as usize;
+    table_rows::is_at(old, at, name)
+}
+
+// That of the first `count` groups whose name begins at `start`, found by halving, since groups stand in the order of the text. Nothing is promised:
+// the caller tries what is answered.
+fn number_at(groups: &[u16], count: usize, start: usize) -> GroupNumber
+    requires { ⌜ (count ≤ length (now groups)) × (count ≤ maxGroups) ⌝ }
 {
     let mut low = 0;
-    let mut high = n;
+    let mut high = count;
     while low < high {
         let mid = low + (high - low) / 2;
         if groups[mid] as usize + 1 < start {
@@ -79,25 +98,35 @@ fn number_at(groups: &[u16], n: usize, start: usize) -> usize
             high = mid;
         }
     }
-    low
+    GroupNumber(low as u8)
 }
 
 // The same as `number_of`, by the sorted names: where the name is there, its position tells which group to try.
-fn number_by_name(old: &[u8], groups: &[u16], count: usize, names: &[u32], name: &[u8]) -> usize
+fn number_by_name(
+    old: &[u8],
+    groups: &[u16],
+    count: usize,
+    names: &[u32],
+    name: &[u8],
+) -> GroupNumber
     requires { ⌜ Groups (now old) (now groups) (now names) count ⌝ }
-    ensures { λ r. ⌜ r ≡ place (now (name .entry)) (stringsIn (now (old .entry)) (now (groups .entry)) count 0) ⌝ }
+    ensures { λ r. ⌜ r .0 ≡ place (now (name .entry)) (stringsIn (now (old .entry)) (now (groups .entry)) count 0) ⌝ }
 {
     let s = text_sorted::find(old, names, count, name);
     let at = s.at;
     if !s.again | (count <= at) {
-        return count;
+        return GroupNumber(count as u8);
     }
     let k = names[at] as usize;
-    let i = number_at(groups, count, k / 65536);
-    table_rows::find_from(old, groups, count, i, name)
+    let g = number_at(groups, count, k / 65536);
+    if is_named(old, groups, count, g, name) {
+        return g;
+    }
+    let i = table_rows::find(old, groups, count, name);
+    GroupNumber(i as u8)
 }
 
-// The number of a group's name among the groups; `count` where it is not listed. The hint at its hash is tried first.
+// The number of the group with that name; the number after the last group's where none has it. The hint at the name's hash is tried first.
 pub fn number_of(
     old: &[u8],
     groups: &[u16],
@@ -105,13 +134,13 @@ pub fn number_of(
     hints: &[u8],
     names: &[u32],
     name: &[u8],
-) -> usize
+) -> GroupNumber
     requires { ⌜ Groups (now old) (now groups) (now names) count × (hintPlaces ≤ length (now hints)) ⌝ }
-    ensures { λ r. ⌜ r ≡ place (now (name .entry)) (stringsIn (now (old .entry)) (now (groups .entry)) count 0) ⌝ }
+    ensures { λ r. ⌜ r .0 ≡ place (now (name .entry)) (stringsIn (now (old .entry)) (now (groups .entry)) count 0) ⌝ }
 {
     let h = table_rows::hash(name) % HINT_PLACES;
-    let hint = hints[h] as usize;
-    if table_rows::is_number(old, groups, count, hint, name) {
+    let hint = GroupNumber(hints[h]);
+    if is_named(old, groups, count, hint, name) {
         return hint;
     }
     number_by_name(old, groups, count, names, name)
@@ -167,12 +196,12 @@ pub fn take_member(
         | table::frame::is_unsized(limits::MAX_STRING, user.len())
         | (limits::MAX_MEMBERS <= n);
     let six = !text::string::all_print(group) | !text::string::all_print(user);
-    let number = table::frame::number(limits::CLEAR, five, six, s.again, g == count);
+    let number = table::frame::number(limits::CLEAR, five, six, s.again, g.0 as usize == count);
     if number != limits::CLEAR {
         return number;
     }
     users[n] = (old.len() + middle) as u16;
-    owners[n] = g as u8;
+    owners[n] = g.0;
     let begin = old.len() + after;
     let to = old.len() + end;
     text_set::add(keys, limits::MAX_MEMBERS, p, s.at, begin, to);

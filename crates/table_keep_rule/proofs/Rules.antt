@@ -8,7 +8,7 @@ use native.Mathlib.Omega.{arith}
 use borrow.Author.Tests.{leb-false}
 use lib.Dec.{eqb, ltb, leb}
 use lib.ListN.{length, getD, set}
-use Rattle.limits.specs.Limits.{maxGroups, maxRules, maxString, maxShortString}
+use Rattle.limits.specs.Limits.{maxRules, maxString, maxShortString}
 use Rattle.text.specs.Test.{_and_, _or_, if_then_else_, any, all}
 use Rattle.text.specs.Byte.{isPrint}
 use Rattle.text.specs.String.{Str, same}
@@ -35,7 +35,7 @@ use Rattle.table.proofs.Rules.{rule-untold}
 use Rattle.table.proofs.Versions.{refused-unread, refused-read}
 use Rattle.table_keep_rule.specs.Kept.{idsOf, idPlaces, firstIdPlace, idKeys, idPlace, Ids, RuleReady, RuleKept}
 use Rattle.table_keep.proofs.Names.{new-span, new-inside}
-use Rattle.table_keep.proofs.Members.{unlisted-is, listed-is, place-small}
+use Rattle.table_keep.proofs.Members.{unlisted-is, listed-is}
 
 -- ---- the holder
 
@@ -49,11 +49,6 @@ held-is : (bg : Bool) (name : Str) (groups : List Str) (g count : ℕ) → g ≡
 unfolding if_then_else_
 held-is true name groups g count e l n t = let h : place name groups < length groups = listed-is name groups g count e l n in rw e (h, place-at name groups h)
 held-is false name groups g count e l n t = clash t refl
-
-holder-small : (bg : Bool) (name : Str) (f starts : List ℕ) (g count : ℕ) → g ≡ (if bg then place name (stringsIn f starts count 0) else 0) → g ≤ count
-unfolding if_then_else_
-holder-small true name f starts g count e = place-small name f starts count g e
-holder-small false name f starts g count e = omega arith
 
 -- ---- ids
 
@@ -135,8 +130,8 @@ pub record Read : Type 0 where
   pub subject-end : ℕ
   pub id-end : ℕ
   pub origin-end : ℕ
-  pub fault : ℕ
-  pub at : RuleAt f subject-end id-end origin-end fault
+  pub path-refusal : ℕ
+  pub at : RuleAt f subject-end id-end origin-end path-refusal
 
 module _ (R : Read) where
   abbrev subject : Str
@@ -168,11 +163,11 @@ module _ (R : Read) where
   pub number-told : (u v x y z : Bool) (m g : ℕ) (q : Found)
       → u ≡ unsizedBy maxString (length subject) → v ≡ unsizedBy maxShortString (length id)
       → x ≡ all isPrint subject → y ≡ all isPrint id → z ≡ all isPrint origin
-      → m ≡ merged (R .fault) ((u || v) || (ltb maxShortString (length origin) || leb maxRules (R .n))) (not x || (not y || not z)) (q .again) (byGroup && eqb g (R .count))
-      → m ≡ merged (R .fault) (five (R .at .rule) (R .n)) (six (R .at .rule)) (q .again) (byGroup && eqb g (R .count))
+      → m ≡ merged (R .path-refusal) ((u || v) || (ltb maxShortString (length origin) || leb maxRules (R .n))) (not x || (not y || not z)) (q .again) (byGroup && eqb g (R .count))
+      → m ≡ merged (R .path-refusal) (five (R .at .rule) (R .n)) (six (R .at .rule)) (q .again) (byGroup && eqb g (R .count))
   number-told u v x y z m g q uu vv xx yy zz e =
       let a = R .at in
-      e ∙ ap₂ (λ (s t : Bool). merged (R .fault) s t (q .again) (byGroup && eqb g (R .count)))
+      e ∙ ap₂ (λ (s t : Bool). merged (R .path-refusal) s t (q .again) (byGroup && eqb g (R .count)))
       (five-is (a .rule) subject id origin (a .subject) (a .id) (a .origin) u v (R .n) uu vv)
       (six-is (a .rule) subject id origin (a .subject) (a .id) (a .origin) x y z xx yy zz)
 
@@ -190,7 +185,7 @@ pub record Judged : Type 0 where
   pub found : Found
   pub found-is : Met (read .old) (read .keys) maxRules (firstIdPlace + hash % idPlaces) (id read) found
   pub number : ℕ
-  pub number-is : number ≡ merged (read .fault) (five (read .at .rule) (read .n)) (six (read .at .rule)) (found .again) (byGroup read && eqb holder (read .count))
+  pub number-is : number ≡ merged (read .path-refusal) (five (read .at .rule) (read .n)) (six (read .at .rule)) (found .again) (byGroup read && eqb holder (read .count))
 
 module _ (J : Judged) where
   abbrev R : Read
@@ -205,9 +200,6 @@ module _ (J : Judged) where
   counted : R .count ≡ length (groups R)
   counted = sym (strings-length (R .old) (R .starts) (R .count))
 
-  pub holder-few : J .holder ≤ maxGroups
-  holder-few = omega (arith, holder-small _ _ _ _ _ _ (J .holder-told), R .ready .few)
-
   met : Met (R .old) (R .keys) maxRules (idPlace (id R)) (id R) (J .found)
   met = rw (id-spot (id R) (J .hash) (J .hash-is)) at (J .found-is)
 
@@ -219,14 +211,14 @@ module _ (J : Judged) where
   rule-graded b w e d =
       let long : length (b .rules) ≡ R .n = sym (ids-length (b .rules)) ∙ d .counted in
       refused-read b (R .f) _ (J .number) (reading R)
-      (number-rule b this (order R b _ _ w (J .ordered)) (J .number) (R .fault) _ _ (J .found .again) _ (J .number-is) (R .at .path)
+      (number-rule b this (order R b _ _ w (J .ordered)) (J .number) (R .path-refusal) _ _ (J .found .again) _ (J .number-is) (R .at .path)
       (ap (λ (k : ℕ). five this k or overLimit (this .path)) (sym long)) refl
       (ap (λ (l : Bool). l or keyTwice (this .path)) (again-is b d))
       (nine-is this (byGroup R) (subject R) (groups R) (b .groups) (J .holder) (R .count) (R .at .byGroup) (R .at .subject) e (J .holder-told) counted))
 
   module _ (fine : J .number ≡ clear) where
     clear-is : (five this (R .n) ≡ false) × (nine ≡ false) × (J .found .again ≡ false)
-    clear-is = merged-clear (R .fault) (five this (R .n)) (six this) (J .found .again) nine (sym (J .number-is) ∙ fine)
+    clear-is = merged-clear (R .path-refusal) (five this (R .n)) (six this) (J .found .again) nine (sym (J .number-is) ∙ fine)
 
     rule-room : R .n < maxRules
     rule-room =

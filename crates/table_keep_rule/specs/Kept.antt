@@ -5,7 +5,7 @@ use mathlib.Core.Bool.{true}
 use mathlib.Core.List.{List, [], _∷_, _++_, map}
 use mathlib.Core.Option.{some}
 use lib.ListN.{length, getD, set}
-use Rattle.limits.specs.Limits.{maxGroups, maxRules}
+use Rattle.limits.specs.Limits.{maxRules}
 use Rattle.limits.specs.Sizes.{maxTableBytes}
 use Rattle.text.specs.String.{Str}
 use Rattle.text.specs.Frame.{got}
@@ -46,7 +46,6 @@ pub record Ids (f keys : List ℕ) (n : ℕ) (ids : List Str) : Type 0 where
 pub record RuleReady (old f groups names : List ℕ) (count : ℕ) (keys : List ℕ) (n : ℕ) : Type 0 where
   pub kind : OfKind kindRule f
   pub room : length old + length f ≤ maxTableBytes
-  pub few : count ≤ maxGroups
   pub lookup : Groups old groups names count
   pub long : length keys ≡ idKeys
   pub before : List Str

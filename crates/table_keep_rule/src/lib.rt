@@ -11,6 +11,8 @@ ghost use Rattle.table.specs.Frame.{entryOf};
 ghost use Rattle.table.specs.Refusal.{Earlier, framed, refusal};
 ghost use Rattle.table_keep.specs.Held.{hintPlaces, Groups};
 ghost use Rattle.table_keep_rule.specs.Kept.{idsOf, Ids, RuleReady, RuleKept};
+use table::GroupNumber;
+use table::RuleNumber;
 use table::frame::RuleFrame;
 
 // The set of ids: sorted keys, their count, and a place for each hash.
@@ -20,7 +22,7 @@ const FIRST_ID_PLACE: usize = limits::MAX_RULES + 1;
 
 pub const ID_KEYS: usize = FIRST_ID_PLACE + ID_PLACES;
 
-// The number of the subject among the groups; `count` where it is not listed, and 0 where it is a user.
+// The number of the subject among the groups, as `table_keep::number_of` gives it; 0 where it is a user.
 fn holder_of(
     old: &[u8],
     groups: &[u16],
@@ -29,30 +31,31 @@ fn holder_of(
     names: &[u32],
     by_group: bool,
     subject: &[u8],
-) -> usize
+) -> GroupNumber
     requires { ⌜ Groups (now old) (now groups) (now names) count × (hintPlaces ≤ length (now hints)) ⌝ }
-    ensures { λ r. ⌜ r ≡ (if «by_group» then place (now (subject .entry)) (stringsIn (now (old .entry)) (now (groups .entry)) count 0) else 0) ⌝ }
+    ensures { λ r. ⌜ r .0 ≡ (if «by_group» then place (now (subject .entry)) (stringsIn (now (old .entry)) (now (groups .entry)) count 0) else 0) ⌝ }
 {
     if by_group {
         return table_keep::number_of(old, groups, count, hints, names, subject);
     }
-    0
+    GroupNumber(0)
 }
 
-// Rule n: its frame's content stands at `start`, and g holds it.
+// The rule's content stands at `start`, and group g holds it.
 fn store(
     starts: &mut [u16; limits::MAX_RULES],
     holders: &mut [u8; limits::MAX_RULES],
-    n: usize,
+    rule: RuleNumber,
     start: usize,
-    g: usize,
+    g: GroupNumber,
 )
-    requires { ⌜ (n < maxRules) × (start < 65536) × (g < 256) ⌝ }
-    ensures { λ _. ⌜ now (starts .exit) ≡ set (now (starts .entry)) n start ⌝ }
-    ensures { λ _. ⌜ now (holders .exit) ≡ set (now (holders .entry)) n g ⌝ }
+    requires { ⌜ (rule .0 < maxRules) × (start < 65536) ⌝ }
+    ensures { λ _. ⌜ now (starts .exit) ≡ set (now (starts .entry)) (rule .0) start ⌝ }
+    ensures { λ _. ⌜ now (holders .exit) ≡ set (now (holders .entry)) (rule .0) (g .0) ⌝ }
 {
-    starts[n] = start as u16;
-    holders[n] = g as u8;
+    let k = rule.0 as usize;
+    starts[k] = start as u16;
+    holders[k] = g.0;
 }
 
 // The number of a rule's frame. Where that is CLEAR, the rule is kept.
@@ -83,7 +86,7 @@ pub fn take_rule(
         subject: s,
         id: i,
         origin: o,
-        fault,
+        fault: path_refusal,
     } = r
     else {
         return 3;
@@ -106,12 +109,18 @@ pub fn take_rule(
         | ((limits::MAX_SHORT_STRING < origin.len()) | (limits::MAX_RULES <= n));
     let six = !text::string::all_print(subject)
         | (!text::string::all_print(id) | !text::string::all_print(origin));
-    let nine = by_group & (g == count);
-    let number = table::frame::number(fault, five, six, t.again, nine);
+    let nine = by_group & (g.0 as usize == count);
+    let number = table::frame::number(path_refusal, five, six, t.again, nine);
     if number != limits::CLEAR {
         return number;
     }
-    store(starts, holders, n, old.len() + table::AFTER_KIND, g);
+    store(
+        starts,
+        holders,
+        RuleNumber(n as u16),
+        old.len() + table::AFTER_KIND,
+        g,
+    );
     let begin = old.len() + from;
     let to = old.len() + i;
     text_set::add(keys, limits::MAX_RULES, p, t.at, begin, to);

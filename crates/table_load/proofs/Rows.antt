@@ -52,6 +52,7 @@ module _ {b : Earlier} {old : List ℕ} {c : Counts} {groups users owners starts
 
   lookup : Groups old groups names (c .groups)
   lookup = record {
+    few = H .holds .few .0;
     distinct = record {
       listed = record { laid = H .holds .groups-laid; room = omega (arith, H .holds .long .of-groups, H .holds .few .0) };
       distinct = all-distinct;
@@ -70,11 +71,11 @@ module _ {b : Earlier} {old : List ℕ} {c : Counts} {groups users owners starts
     group-ready k = record { kind = (some′, k); room = room; few = H .holds .few .0; named = all-named }
 
     pub member-ready : getD f 0 0 ≡ kindMember → MemberReady old f groups names (c .groups) users owners ms (c .members)
-    member-ready k = record { kind = (some′, k); room = room; few = H .holds .few .0; groups = lookup; long = H .sets-long .0; held = members-in }
+    member-ready k = record { kind = (some′, k); room = room; groups = lookup; long = H .sets-long .0; held = members-in }
 
     pub rule-ready : getD f 0 0 ≡ kindRule → RuleReady old f groups names (c .groups) is (c .rules)
     rule-ready k =
-        record { kind = (some′, k); room = room; few = H .holds .few .0; lookup = lookup; long = H .sets-long .1; before = idsOf (b .rules); ids = ids-in }
+        record { kind = (some′, k); room = room; lookup = lookup; long = H .sets-long .1; before = idsOf (b .rules); ids = ids-in }
 
 -- ---- what is kept, by its kind
 

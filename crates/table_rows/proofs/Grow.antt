@@ -131,7 +131,7 @@ place-is name f starts n o d h e =
     let l : o < length (stringsIn f starts n 0) = omega (arith, strings-length f starts n) in
     eqb-true _ _ (sym (place-test name (stringsIn f starts n 0) o d l) ∙ ap (same name) (strings-at f starts n o h) ∙ e)
 
--- the same, as `is_number` tells it
+-- the same, from one test
 pub number-is : (name : Str) (f starts : List ℕ) (n o : ℕ) → twice same (stringsIn f starts n 0) ≡ false → (ltb o n and same name (strIn f (getD starts o 0))) ≡ true
     → o ≡ place name (stringsIn f starts n 0)
 number-is name f starts n o d e = place-is name f starts n o d (ltb-true o n (and-l _ _ e)) (and-r _ _ e)

@@ -42,7 +42,7 @@ module _ (f starts : List ℕ) (n : ℕ) (name : Str) (i : ℕ) where
 pub find-start : (f starts : List ℕ) (n : ℕ) (name : Str) → place name (stringsIn f starts n 0) ≡ 0 + place name (stringsIn f starts (n - 0) 0)
 find-start f starts n name = let e : n - 0 ≡ n = omega arith in rw e (omega arith)
 
--- ---- is_number
+-- ---- string number i is one of the first n, and passes a test
 
 module _ (n i : ℕ) (t : Bool) where
   pub number-past : n ≤ i → false ≡ (ltb i n and t)

@@ -1,12 +1,10 @@
 // Strings of decoded rows, found by an array of positions: lookups, and a hash that says where to look first.
 ghost use mathlib.Core.Path.{_≡_};
 ghost use Prim.Native.Nat.{_≤_};
-ghost use lib.ListN.{length, getD};
-ghost use lib.Dec.{ltb};
-ghost use Rattle.text.specs.Test.{_and_};
+ghost use lib.ListN.{length};
 ghost use Rattle.text.specs.String.{same};
 ghost use Rattle.table_place.specs.Place.{strEnd, strIn};
-ghost use Rattle.table_rows.specs.Strings.{stringsIn, Listed, Distinct, place, hashOf};
+ghost use Rattle.table_rows.specs.Strings.{stringsIn, Listed, place, hashOf};
 use text_hash::Seed;
 
 // The string at `at` is the name.
@@ -34,29 +32,6 @@ pub fn find(f: &[u8], starts: &[u16], n: usize, name: &[u8]) -> usize
         i += 1;
     }
     n
-}
-
-// String number i is the name, and one of the first n.
-pub fn is_number(f: &[u8], starts: &[u16], n: usize, i: usize, name: &[u8]) -> bool
-    requires { ⌜ Listed (now f) (now starts) n ⌝ }
-    ensures { λ r. ⌜ r ≡ (ltb i n and same (now (name .entry)) (strIn (now (f .entry)) (getD (now (starts .entry)) i 0))) ⌝ }
-{
-    if n <= i {
-        return false;
-    }
-    let at = starts[i] as usize;
-    is_at(f, at, name)
-}
-
-// The same where no two of the strings are alike: number `hint` is tried first.
-pub fn find_from(f: &[u8], starts: &[u16], n: usize, hint: usize, name: &[u8]) -> usize
-    requires { ⌜ Distinct (now f) (now starts) n ⌝ }
-    ensures { λ r. ⌜ r ≡ place (now (name .entry)) (stringsIn (now (f .entry)) (now (starts .entry)) n 0) ⌝ }
-{
-    if is_number(f, starts, n, hint, name) {
-        return hint;
-    }
-    find(f, starts, n, name)
 }
 
 // How many numbers the hash gives: the upper 13 bits of the 32 of `mix`.

@@ -50,7 +50,7 @@ module _ (over : Rule → Rule → Bool) where
         (λ h. by (app (ruleIn f s) and also (ruleIn f s)) (λ t. rw (h, t) (rw (rw h at e))) (λ t. rw (h, t)))
 
     pub step-take : (x : ℕ) → (x ≡ 0 → ⊥) → app (ruleIn f s) ≡ true → also (ruleIn f s) ≡ true → wins over f s b ≡ true
-        → held f (record { weight = x; number = i; at = s }) ≡ After
+        → held f (record { weight = x; number = record { 0 = i }; at = s }) ≡ After
     unfolding held candidate prefer if_then_else_ _or_ _and_
     step-take x n e a w =
         by (lacks b) (λ h. rw (h, ne-eqb x 0 n, e, a)) (λ h. rw (h, ne-eqb x 0 n, e, a) (rw (rw h at w)))
@@ -58,7 +58,7 @@ module _ (over : Rule → Rule → Bool) where
   -- ---- the rules from number i on
 
   module _ (o : Order over) (test : Rule → Bool) (f starts : List ℕ) (n : ℕ) where
-    pub best-none : choose over test 0 (rulesIn f starts n 0) ≡ prefer over (held f (record { weight = 0; number = 0; at = 0 })) (choose over test 0 (rulesIn f starts (n - 0) 0))
+    pub best-none : choose over test 0 (rulesIn f starts n 0) ≡ prefer over (held f (record { weight = 0; number = record { 0 = 0 }; at = 0 })) (choose over test 0 (rulesIn f starts (n - 0) 0))
     unfolding held prefer if_then_else_
     best-none = let e : n - 0 ≡ n = omega arith in rw e
 

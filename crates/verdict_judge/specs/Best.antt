@@ -7,6 +7,7 @@ use mathlib.Core.List.{List}
 use mathlib.Core.Option.{Option, none, some}
 use lib.Dec.{eqb}
 use lib.ListN.{length}
+use Rattle.limits.specs.Limits.{maxRules}
 use Rattle.text.specs.Test.{_and_, _or_, if_then_else_}
 use Rattle.path.specs.Path.{Path}
 use Rattle.table.specs.Table.{Rule}
@@ -24,7 +25,7 @@ lacks b = eqb (b .weight) 0
 
 -- the rule that is kept, with its number
 unfoldable pub held : List ℕ → Best → Option Numbered
-held f b = if lacks b then none else some (record { number = b .number; rule = ruleIn f (b .at) })
+held f b = if lacks b then none else some (record { number = b .number .0; rule = ruleIn f (b .at) })
 
 -- where there is one, it lies within the bytes
 abbrev pub Sound : List ℕ → Best → Type 0
@@ -44,9 +45,9 @@ matching app p s = app s and covers (s .path) p
 
 -- where there is one, its number is below n
 abbrev pub NumberBelow : ℕ → Best → Type 0
-NumberBelow n b = lacks b ≡ false → b .number < n
+NumberBelow n b = lacks b ≡ false → b .number .0 < n
 
--- c is the best after b and the rule at s, whose number is i, where that is marked and its path covers p
+-- c is the best after b and rule i, which stands at s, where that is marked and its path covers p
 pub record Taken (f : List ℕ) (b : Best) (i s mark : ℕ) (p : Path) (c : Best) : Type 0 where
   pub ranked : Ranked f c
   pub numbered : (n : ℕ) → i < n → NumberBelow n b → NumberBelow n c
@@ -56,6 +57,7 @@ pub record Taken (f : List ℕ) (b : Best) (i s mark : ℕ) (p : Path) (c : Best
 -- what `decide` takes: n rules, a mark for each, and the asked path, k elements at p of g
 pub record Asked (f starts on : List ℕ) (n : ℕ) (g : List ℕ) (p k : ℕ) : Type 0 where
   pub rules : Placed f starts n
+  pub few : n ≤ maxRules
   pub marks : n ≤ length on
   pub path : elemsEnd k g p ≤ length g
 

@@ -8,11 +8,12 @@ ghost use Rattle.verdict.specs.Verdict.{action};
 ghost use Rattle.table_rows.specs.Rules.{ruleIn, ruleEnd};
 ghost use Rattle.verdict_judge.specs.Rules.{Short};
 ghost use Rattle.verdict_judge.specs.Best.{held, Sound, Ranked, wins};
+use table::RuleNumber;
 
 // Its number, and where its action byte stands. The weight is 0 where there is none yet; where the ranking decides, it is the rank + 1.
 pub struct Best {
     pub weight: usize,
-    pub number: usize,
+    pub number: RuleNumber,
     pub at: usize,
 }
 

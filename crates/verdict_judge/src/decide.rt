@@ -6,11 +6,21 @@ ghost use Rattle.table_rows.specs.Rules.{ruleEnd};
 ghost use Rattle.verdict_judge.specs.Rules.{Short};
 ghost use Rattle.verdict_judge.specs.Best.{Ranked, Taken, Asked, BestMarked};
 use crate::best::Best;
+use table::RuleNumber;
 
-// The best after the rule at s, whose number is i: that rule where it is marked, matches the k elements at p of g, and wins.
-fn take_match(b: Best, i: usize, s: usize, mark: u8, f: &[u8], g: &[u8], p: usize, k: usize) -> Best
+// The best after rule i, which stands at s: that rule where it is marked, matches the k elements at p of g, and wins.
+fn take_match(
+    b: Best,
+    i: RuleNumber,
+    s: usize,
+    mark: u8,
+    f: &[u8],
+    g: &[u8],
+    p: usize,
+    k: usize,
+) -> Best
     requires { ⌜ (ruleEnd (now f) s ≤ length (now f)) × Ranked (now f) b × (elemsEnd k (now g) p ≤ length (now g)) × Short (now f) ⌝ }
-    ensures { λ c. ⌜ Taken (now (f .entry)) b i s mark (elemsIn k (now (g .entry)) p) c ⌝ }
+    ensures { λ c. ⌜ Taken (now (f .entry)) b (i .0) s mark (elemsIn k (now (g .entry)) p) c ⌝ }
 {
     if mark != 1 {
         return b;
@@ -38,13 +48,13 @@ pub fn decide(f: &[u8], starts: &[u16], on: &[u8], n: usize, g: &[u8], p: usize,
 {
     let mut b = Best {
         weight: 0,
-        number: 0,
+        number: RuleNumber(0),
         at: 0,
     };
     let mut i = 0;
     while i < n {
         let s = starts[i] as usize;
-        b = take_match(b, i, s, on[i], f, g, p, k);
+        b = take_match(b, RuleNumber(i as u16), s, on[i], f, g, p, k);
         i += 1;
     }
     b

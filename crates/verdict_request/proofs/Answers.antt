@@ -20,7 +20,7 @@ use Rattle.verdict_request.specs.declared.Verdict.the-variants as verdic
 
 -- ---- the answers, by what is held
 
-pub held-some : (f : List ℕ) (b : Best) → lacks b ≡ false → held f b ≡ some (record { number = b .number; rule = ruleIn f (b .at) })
+pub held-some : (f : List ℕ) (b : Best) → lacks b ≡ false → held f b ≡ some (record { number = b .number .0; rule = ruleIn f (b .at) })
 unfolding held if_then_else_
 held-some f b e = rw e
 
@@ -33,15 +33,15 @@ module _ (f : List ℕ) (b : Best) where
   unfolding action held if_then_else_
   action-is w x a = sym (rw w at a)
 
-  pub permit-is : (b .weight ≡ 0 → ⊥) → (x : Bool) → x ≡ action (held f b) → x ≡ true → path.Permit (record { 0 = b .number }) ≡ decidedBy (held f b)
+  pub permit-is : (b .weight ≡ 0 → ⊥) → (x : Bool) → x ≡ action (held f b) → x ≡ true → path.Permit (b .number) ≡ decidedBy (held f b)
   unfolding decidedBy if_then_else_
   permit-is n x a e = let w : lacks b ≡ false = ne-eqb (b .weight) 0 n in rw (held-some f b w, action-is w x a ∙ e)
 
-  pub deny-is : (b .weight ≡ 0 → ⊥) → (x : Bool) → x ≡ action (held f b) → x ≡ false → path.Deny (record { 0 = b .number }) ≡ decidedBy (held f b)
+  pub deny-is : (b .weight ≡ 0 → ⊥) → (x : Bool) → x ≡ action (held f b) → x ≡ false → path.Deny (b .number) ≡ decidedBy (held f b)
   unfolding decidedBy if_then_else_
   deny-is n x a e = let w : lacks b ≡ false = ne-eqb (b .weight) 0 n in rw (held-some f b w, action-is w x a ∙ e)
 
-  pub mixed-is : (v : Bool) → (b .weight ≡ 0 → ⊥) → trees.Mixed (record { 0 = b .number }) ≡ spread (answer v (held f b))
+  pub mixed-is : (v : Bool) → (b .weight ≡ 0 → ⊥) → trees.Mixed (b .number) ≡ spread (answer v (held f b))
   unfolding spread answer
   mixed-is v n = rw (held-some f b (ne-eqb (b .weight) 0 n))
 

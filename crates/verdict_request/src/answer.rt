@@ -1,24 +1,23 @@
 // What is found, as an answer. f are the decoded bytes of a table.
 ghost use mathlib.Core.Path.{_≡_};
 ghost use Rattle.verdict.specs.Verdict.{answer};
-ghost use Rattle.verdict_judge.specs.Best.{held, Sound, NumberBelow};
+ghost use Rattle.verdict_judge.specs.Best.{held, Sound};
 ghost use Rattle.verdict_request.specs.Calls.{decidedBy, spread};
 ghost use Rattle.verdict_request.specs.Either.{refusedAs, pathOf, treeOf};
 use crate::PathAnswer;
 use crate::TreeAnswer;
 use crate::Verdict;
-use table::RuleNumber;
 use verdict_judge::best::Best;
 
 // The answer that the deciding rule gives.
 pub fn decided(f: &[u8], b: Best) -> PathAnswer
-    requires { ⌜ Sound (now f) b × NumberBelow 65536 b ⌝ }
+    requires { ⌜ Sound (now f) b ⌝ }
     ensures { λ r. ⌜ r ≡ decidedBy (held (now (f .entry)) b) ⌝ }
 {
     if b.weight == 0 {
         return PathAnswer::Default;
     }
-    let rule = RuleNumber(b.number as u16);
+    let rule = b.number;
     if verdict_judge::best::permitted(f, b) {
         return PathAnswer::Permit(rule);
     }
@@ -27,11 +26,11 @@ pub fn decided(f: &[u8], b: Best) -> PathAnswer
 
 // The tree answer, where v is the verdict on the path itself, and b the opposing rule of smallest id.
 pub fn spread_of(f: &[u8], v: bool, b: Best) -> TreeAnswer
-    requires { ⌜ NumberBelow 65536 b ⌝ }
     ensures { λ r. ⌜ r ≡ spread (answer «v» (held (now (f .entry)) b)) ⌝ }
 {
     if b.weight != 0 {
-        return TreeAnswer::Mixed(RuleNumber(b.number as u16));
+        let rule = b.number;
+        return TreeAnswer::Mixed(rule);
     }
     if v {
         return TreeAnswer::All;

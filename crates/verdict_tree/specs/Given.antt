@@ -5,6 +5,7 @@ use mathlib.Core.Bool.{Bool}
 use mathlib.Core.List.{List}
 use lib.Dec.{eqb}
 use lib.ListN.{length, getD}
+use Rattle.limits.specs.Limits.{maxRules}
 use Rattle.path.specs.Path.{Path}
 use Rattle.table.specs.Table.{Rule}
 use Rattle.verdict.specs.Order.{earlier, prefer, candidate, choose}
@@ -16,7 +17,7 @@ use Rattle.verdict_filter.specs.declared.Filter.{Filter}
 use Rattle.verdict_filter.specs.Bloom.{beyond}
 use Rattle.table_rows.specs.Rules.{ruleIn, rulesIn}
 use Rattle.verdict_judge.specs.Rules.{Placed, Marked}
-use Rattle.verdict_judge.specs.Best.{held, Sound, NumberBelow}
+use Rattle.verdict_judge.specs.Best.{held, Sound}
 use Rattle.verdict_judge.specs.declared.best.Best.{Best}
 use Rattle.verdict_tree.specs.Tree.{fitting, opposing, weight, Weights, Packed, Paths, PathsLaid, filterOf, Prepared}
 
@@ -31,6 +32,7 @@ pub record Stored (x : Filter) (i : ℕ) (before after : List ℕ) : Type 0 wher
 -- what `fill` takes
 pub record ForFill (s : Seed) (f weights paths : List ℕ) (n : ℕ) (g : List ℕ) (p k : ℕ) (filters : List ℕ) : Type 0 where
   pub seed : Small s
+  pub few : n ≤ maxRules
   pub laid : PathsLaid f paths n
   pub each-weight : n ≤ length weights
   pub each-path : n ≤ length paths
@@ -77,13 +79,11 @@ pub record ForSearch (f starts weights paths next filters : List ℕ) (n first :
 -- c is the witness after b and rule i
 pub record Opposed (f starts weights : List ℕ) (n : ℕ) (p : Path) (v : Bool) (b : Best) (i : ℕ) (c : Best) : Type 0 where
   pub sound : Sound f c
-  pub numbered : NumberBelow n b → NumberBelow n c
   pub best : (test : Rule → Bool) → Weights test f starts weights n
       → held f c ≡ prefer earlier (held f b) (candidate (opposing test (rulesIn f starts n 0) p v) i (ruleIn f (getD starts i 0)))
 
 -- c is the witness of all rules: of those that oppose v, the verdict on p, the one with the smallest id
 pub record Witness (f starts weights : List ℕ) (n : ℕ) (p : Path) (v : Bool) (c : Best) : Type 0 where
   pub sound : Sound f c
-  pub numbered : NumberBelow n c
   pub best : (test : Rule → Bool) → Weights test f starts weights n
       → held f c ≡ choose earlier (opposing test (rulesIn f starts n 0) p v) 0 (rulesIn f starts n 0)

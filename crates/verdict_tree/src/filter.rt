@@ -10,6 +10,7 @@ ghost use Rattle.text_hash.specs.Mix.{Small};
 ghost use Rattle.verdict_filter.specs.Bloom.{unite, beyond};
 ghost use Rattle.verdict_tree.specs.Tree.{filterOf, Fits, Filters};
 ghost use Rattle.verdict_tree.specs.Given.{Stored, ForFill};
+use table::RuleNumber;
 use text_hash::Seed;
 use verdict_filter::Filter;
 
@@ -26,14 +27,15 @@ fn filter_at(s: Seed, x: usize, f: &[u8], a: usize, g: &[u8], p: usize, k: usize
 }
 
 // Stores the filter of rule i.
-fn store(x: Filter, i: usize, filters: &mut [u64])
-    requires { ⌜ 4 * i + 4 ≤ length (now filters) ⌝ }
-    ensures { λ _. ⌜ Stored x i (now (filters .entry)) (now (filters .exit)) ⌝ }
+fn store(x: Filter, i: RuleNumber, filters: &mut [u64])
+    requires { ⌜ 4 * (i .0) + 4 ≤ length (now filters) ⌝ }
+    ensures { λ _. ⌜ Stored x (i .0) (now (filters .entry)) (now (filters .exit)) ⌝ }
 {
-    filters[4 * i] = x.a;
-    filters[4 * i + 1] = x.b;
-    filters[4 * i + 2] = x.c;
-    filters[4 * i + 3] = x.d;
+    let p = 4 * i.0 as usize;
+    filters[p] = x.a;
+    filters[p + 1] = x.b;
+    filters[p + 2] = x.c;
+    filters[p + 3] = x.d;
 }
 
 pub fn fill(
@@ -54,7 +56,11 @@ pub fn fill(
     let mut i = 0;
     while i < n {
         let a = paths[i] as usize;
-        store(filter_at(s, weights[i], f, a, g, p, k), i, filters);
+        store(
+            filter_at(s, weights[i], f, a, g, p, k),
+            RuleNumber(i as u16),
+            filters,
+        );
         i += 1;
     }
 }
@@ -69,13 +75,13 @@ fn has_within(filters: &[u64], q: usize, p: usize) -> bool
 }
 
 // Whether rule j's filter has no digit that rule i's lacks.
-pub fn is_within(filters: &[u64], j: usize, i: usize) -> bool
-    requires { ⌜ (4 * j + 4 ≤ length (now filters)) × (4 * i + 4 ≤ length (now filters)) ⌝ }
+pub fn is_within(filters: &[u64], j: RuleNumber, i: RuleNumber) -> bool
+    requires { ⌜ (4 * (j .0) + 4 ≤ length (now filters)) × (4 * (i .0) + 4 ≤ length (now filters)) ⌝ }
     ensures { λ r. ⌜ (r ≡ false
-        → unite (filterOf (now (filters .entry)) j) (filterOf (now (filters .entry)) i) ≡ filterOf (now (filters .entry)) i → ⊥) ⌝ }
+        → unite (filterOf (now (filters .entry)) (j .0)) (filterOf (now (filters .entry)) (i .0)) ≡ filterOf (now (filters .entry)) (i .0) → ⊥) ⌝ }
 {
-    let q = 4 * j;
-    let p = 4 * i;
+    let q = 4 * j.0 as usize;
+    let p = 4 * i.0 as usize;
     if !has_within(filters, q, p) {
         return false;
     }

@@ -2,7 +2,6 @@
 ghost use mathlib.Core.Path.{_≡_};
 ghost use Prim.Native.Nat.{_≤_};
 ghost use lib.ListN.{length};
-ghost use Rattle.limits.specs.Limits.{maxRules};
 ghost use Rattle.table_place.specs.Place.{elemsEnd, elemsIn};
 ghost use Rattle.table_rows.specs.Rules.{pathAt, ruleEnd};
 ghost use Rattle.verdict_judge.specs.Rules.{Short};
@@ -36,8 +35,7 @@ pub fn weigh(
     weights: &mut [usize],
     paths: &mut [u16],
 )
-    requires { ⌜ Asked (now f) (now starts) (now on) n (now g) p k
-        × (n ≤ maxRules) × (n ≤ length (now weights)) × (n ≤ length (now paths)) ⌝ }
+    requires { ⌜ Asked (now f) (now starts) (now on) n (now g) p k × (n ≤ length (now weights)) × (n ≤ length (now paths)) ⌝ }
     ensures { λ _. ⌜ Weighing (now (f .entry)) (now (starts .entry)) (now (on .entry))
         (now (weights .exit)) (now (paths .exit)) n (elemsIn k (now (g .entry)) p) ⌝ }
 {

@@ -8,6 +8,7 @@ ghost use Rattle.table_place.specs.Place.{elemsEnd, elemsIn};
 ghost use Rattle.verdict_judge.specs.Rules.{Placed};
 ghost use Rattle.verdict_judge.specs.Best.{Sound};
 ghost use Rattle.verdict_tree.specs.Given.{Weighed, ForSearch, Opposed, Witness};
+use table::RuleNumber;
 use verdict_judge::best::Best;
 
 // More than any weight.
@@ -25,7 +26,7 @@ fn unlike(x: bool, v: bool) -> bool
 // The witness after rule i: that rule where it fits, comes earlier, and its joined path gets another action than v.
 fn oppose(
     b: Best,
-    i: usize,
+    i: RuleNumber,
     f: &[u8],
     starts: &[u16],
     weights: &[usize],
@@ -39,19 +40,21 @@ fn oppose(
     p: usize,
     k: usize,
 ) -> Best
-    requires { ⌜ (i < n) × Sound (now f) b
+    requires { ⌜ (i .0 < n) × Sound (now f) b
         × ForSearch (now f) (now starts) (now weights) (now paths) (now next) (now filters) n first (now g) p k ⌝ }
-    ensures { λ c. ⌜ Opposed (now (f .entry)) (now (starts .entry)) (now (weights .entry)) n (elemsIn k (now (g .entry)) p) v b i c ⌝ }
+    ensures { λ c. ⌜ Opposed (now (f .entry)) (now (starts .entry)) (now (weights .entry)) n (elemsIn k (now (g .entry)) p) v b (i .0) c ⌝ }
 {
-    if weights[i] < limits::MAX_RULES {
+    let own = i.0 as usize;
+    if weights[own] < limits::MAX_RULES {
         return b;
     }
-    let s = starts[i] as usize;
+    let s = starts[own] as usize;
     if !verdict_judge::best::wins_earlier(f, s, b) {
         return b;
     }
     let d = crate::joined::decide_joined(i, f, weights, paths, next, filters, n, first, g, p, k);
-    let t = starts[d] as usize;
+    let decider = d.0 as usize;
+    let t = starts[decider] as usize;
     if !unlike(f[t] == 1, v) {
         return b;
     }
@@ -82,14 +85,14 @@ fn search(
 {
     let mut b = Best {
         weight: 0,
-        number: 0,
+        number: RuleNumber(0),
         at: 0,
     };
     let mut i = 0;
     while i < n {
         b = oppose(
             b,
-            i,
+            RuleNumber(i as u16),
             f,
             starts,
             weights,

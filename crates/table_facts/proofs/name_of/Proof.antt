@@ -20,13 +20,13 @@ slice-aggregate-f : tie.Need-slice-aggregate-f
 slice-aggregate-f c = let at-load = c .before .before .before .before .before in
     front-is (outcome-kept _ _ _ _ _ _ _ _ (at-load .load .ensures) _ _ (c .before .before .l .given .1))
 
-slice-aggregate-copy-number : tie.Need-slice-aggregate-copy-number
-slice-aggregate-copy-number c = let at-l = c .before .before .before .before .before .before in
+slice-aggregate-copy-name : tie.Need-slice-aggregate-copy-name
+slice-aggregate-copy-name c = let at-l = c .before .before .before .before .before .before in
     let at-load = at-l .before .before .before in
     sym ((outcome-kept _ _ _ _ _ _ _ _ (at-load .load .ensures) _ _ (at-l .l .given .1)) .holds .long .of-groups)
 
-copy-number-requires : tie.Need-copy-number-requires
-copy-number-requires c κs = let at-l = c .before .before .before .before .before .before .before .before in
+copy-name-requires : tie.Need-copy-name-requires
+copy-name-requires c κs = let at-l = c .before .before .before .before .before .before .before in
     let at-load = at-l .before .before .before in
     let h = (outcome-kept _ _ _ _ _ _ _ _ (at-load .load .ensures) _ _ (at-l .l .given .1)) .holds in
     record { laid = h .groups-laid; room = omega (arith, h .long .of-groups, h .few .0) }
@@ -37,20 +37,20 @@ slice-aggregate-copy-id c = let at-l = c .before .before .before .before .before
     sym ((outcome-kept _ _ _ _ _ _ _ _ (at-load .load .ensures) _ _ (at-l .l .given .1)) .holds .long .of-starts)
 
 copy-id-requires : tie.Need-copy-id-requires
-copy-id-requires c κs = let at-l = c .before .before .before .before .before .before .before .before in
+copy-id-requires c κs = let at-l = c .before .before .before .before .before .before .before in
     let at-load = at-l .before .before .before in
     identified (outcome-kept _ _ _ _ _ _ _ _ (at-load .load .ensures) _ _ (at-l .l .given .1))
 
 returns-2 : tie.Need-returns-2
-returns-2 c = let at-row = c .before .before .before .before .before .before .before in
+returns-2 c = let at-row = c .before .before .before .before .before .before in
     let at-l = at-row .before .before .before .before in let at-load = at-l .before .before .before in
     rw (
       at-row .row .given .1,
       ← group-name (outcome-kept _ _ _ _ _ _ _ _ (at-load .load .ensures) _ _ (at-l .l .given .1)) _,
-    ) (c .before .before .copy-number .ensures)
+    ) (c .before .before .copy-name .ensures)
 
 returns-3 : tie.Need-returns-3
-returns-3 c = let at-row2 = c .before .before .before .before .before .before .before in
+returns-3 c = let at-row2 = c .before .before .before .before .before .before in
     let at-l = at-row2 .before .before .before .before in let at-load = at-l .before .before .before in
     rw (
       at-row2 .row2 .given .1,
@@ -59,6 +59,6 @@ returns-3 c = let at-row2 = c .before .before .before .before .before .before .b
 
 pub name-of-spec : {M : Type 1} → statement M
 name-of-spec = tie.close (tie.spec (λ c. search needs) (λ c κs. search needs) (λ c. search needs) (λ c. search needs)
-    returns array-share-prefix-buf slice-aggregate-f (λ c. search needs) slice-aggregate-copy-number (λ c. search needs)
-    copy-number-requires (λ c. search needs) slice-aggregate-copy-id (λ c. search needs) copy-id-requires
-    (λ c. search needs) returns-2 (λ c. search needs) returns-3)
+    returns array-share-prefix-buf slice-aggregate-f (λ c. search needs) slice-aggregate-copy-name copy-name-requires
+    (λ c. search needs) slice-aggregate-copy-id copy-id-requires (λ c. search needs) returns-2 (λ c. search needs)
+    returns-3)

@@ -1,19 +1,19 @@
--- `number_at` ends, and reads within its array; what it answers is only tried. The invariant: `high` stays within the groups.
+-- `number_at` ends, and reads within its array; what it answers is only tried.
 use borrow.Author.Needs.{needs}
 use native.Mathlib.Omega.{arith}
 use Prim.Native.Nat.{_+_, _-_, _/_, _≤_}
 use Rattle.table_keep.proofs.number_at.Statement.{statement}
 use Rattle.table_keep.proofs.number_at.Tie as tie
 
--- `high` stays within the groups
+-- `low` is at most `high`, which stays within the groups
 abbrev Inv-loop : tie.InvT-loop
-Inv-loop groups n start low₀ high₀ low high = high ≤ n
+Inv-loop groups count start low₀ high₀ low high = (low ≤ high) × (high ≤ count)
 
 abbrev μ-loop : tie.MeasureT-loop
-μ-loop groups n start low₀ high₀ low high = high - low
+μ-loop groups count start low₀ high₀ low high = high - low
 
 loop-holds : tie.Need-loop-holds Inv-loop μ-loop
-loop-holds c = omega arith
+loop-holds c = (omega arith, omega arith)
 
 sub-mid : tie.Need-sub-mid Inv-loop μ-loop
 sub-mid c = omega arith
@@ -43,14 +43,19 @@ loop-less : tie.Need-loop-less Inv-loop μ-loop
 loop-less c = omega arith
 
 loop-again : tie.Need-loop-again Inv-loop μ-loop
-loop-again c = let at-loop = c .before .before .before in omega (arith, at-loop .loop .inv)
+loop-again c = let at-loop = c .before .before .before in
+    (omega (arith, at-loop .loop .inv), omega (arith, at-loop .loop .inv))
 
 loop-less-2 : tie.Need-loop-less-2 Inv-loop μ-loop
 loop-less-2 c = omega arith
 
 loop-again-2 : tie.Need-loop-again-2 Inv-loop μ-loop
-loop-again-2 c = let at-loop = c .before .before .before in omega (arith, at-loop .loop .inv)
+loop-again-2 c = let at-loop = c .before .before .before in
+    (omega (arith, at-loop .loop .inv), omega (arith, at-loop .loop .inv))
+
+cast-t13 : tie.Need-cast-t13 Inv-loop μ-loop
+cast-t13 c = omega (arith, c .before .loop .inv, c .before .before .pre)
 
 pub number-at-spec : {M : Type 1} → statement M
 number-at-spec = tie.close (tie.spec Inv-loop μ-loop loop-holds sub-mid add-mid mul-if1 shared-slice-read-if1 cast-if1
-    add-if1 add-low loop-less loop-again loop-less-2 loop-again-2 (λ c. search needs))
+    add-if1 add-low loop-less loop-again loop-less-2 loop-again-2 cast-t13 (λ c. search needs))

@@ -3,7 +3,7 @@ use borrow.Author.Needs.{needs}
 use native.Mathlib.Omega.{arith}
 use mathlib.Core.Path.{sym, _∙_}
 use Rattle.text.proofs.Frames.{string-ends}
-use Rattle.table_keep.proofs.Members.{member-short, member-half, member-long, Read, member-four, number-told, Judged, owner-small, member-graded, member-room, set-room, member-kept}
+use Rattle.table_keep.proofs.Members.{member-short, member-half, member-long, Read, member-four, number-told, Judged, member-graded, member-room, set-room, member-kept}
 use Rattle.table_keep.proofs.take_member.Statement.{statement}
 use Rattle.table_keep.proofs.take_member.Tie as tie
 
@@ -31,7 +31,7 @@ read c = let at-z = c .before .before in let at-a = at-z .before .before .before
 
 -- what is known where it is judged
 abbrev known : tie.After-number → Judged
-known c = let at-all-print = c .before .before in let at-is-unsized = at-all-print .before .before in
+known c = let at-all-print = c .before .before .before in let at-is-unsized = at-all-print .before .before in
     let at-find = at-is-unsized .before in let at-hash = at-find .before .before .before in
     let at-if2 = at-hash .before .before .before .before .before .before .before .before in
     let at-if1 = at-if2 .before .before in
@@ -39,16 +39,16 @@ known c = let at-all-print = c .before .before in let at-is-unsized = at-all-pri
       read = read at-if1;
       last = _;
       ordered = sym (at-if2 .before .is-out-of-order .ensures) ∙ at-if2 .if2 .left;
-      owner = at-hash .before .number-of .result;
+      owner = at-hash .before .number-of .result .0;
       owner-is = at-hash .before .number-of .ensures;
       hash = at-hash .hash .result;
       hash-is = at-hash .hash .ensures;
       found = at-find .find .result;
       found-is = at-find .find .ensures;
       number = c .number .result;
-      number-is = number-told (read at-if1) _ _ _ _ _ (at-hash .before .number-of .result) (at-find .find .result)
+      number-is = number-told (read at-if1) _ _ _ _ _ (at-hash .before .number-of .result .0) (at-find .find .result)
           (at-is-unsized .is-unsized .ensures) (at-all-print .before .is-unsized2 .ensures)
-          (at-all-print .all-print .ensures) (c .before .all-print2 .ensures) (c .number .ensures);
+          (at-all-print .all-print .ensures) (c .before .before .all-print2 .ensures) (c .number .ensures);
     }
 
 returns : tie.Need-returns
@@ -133,9 +133,6 @@ mul-users c = omega (arith, member-room (known (c .before)) (c .if3 .left))
 element-write-users : tie.Need-element-write-users
 element-write-users c = member-room (known (c .before)) (c .if3 .left)
 
-cast-owners : tie.Need-cast-owners
-cast-owners c = omega (arith, owner-small (known (c .before)))
-
 element-write-owners : tie.Need-element-write-owners
 element-write-owners c = member-room (known (c .before)) (c .if3 .left)
 
@@ -169,5 +166,6 @@ take-member-spec = tie.close (tie.spec (λ c κs. search needs) (λ c. search ne
     (λ c κs. search needs) (λ c. search needs) (λ c. search needs) returns-2 returns-3 (λ c κs. search needs) returns-4
     add-from sub-group part-group-start part-group-end sub-user part-user-start part-user-end sub-key part-key-start
     part-key-end number-of-requires (λ c κs. search needs) (λ c. search needs) find-requires (λ c κs. search needs)
-    (λ c κs. search needs) (λ c κs. search needs) (λ c κs. search needs) (λ c κs. search needs) returns-5 add-users
-    cast-users mul-users element-write-users cast-owners element-write-owners add-begin add-to add-requires returns-6)
+    (λ c κs. search needs) (λ c κs. search needs) (λ c κs. search needs) (λ c. search needs) (λ c κs. search needs)
+    returns-5 add-users cast-users mul-users element-write-users element-write-owners add-begin add-to add-requires
+    returns-6)

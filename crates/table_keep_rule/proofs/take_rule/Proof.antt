@@ -3,7 +3,7 @@ use borrow.Author.Needs.{needs}
 use native.Mathlib.Omega.{arith}
 use mathlib.Core.Path.{sym, _∙_}
 use Rattle.table.proofs.Rules.{rule-told}
-use Rattle.table_keep_rule.proofs.Rules.{rule-short, Read, rule-four, number-told, Judged, holder-few, rule-graded, rule-ready, rule-kept}
+use Rattle.table_keep_rule.proofs.Rules.{rule-short, Read, rule-four, number-told, Judged, rule-graded, rule-ready, rule-kept}
 use Rattle.table_keep_rule.proofs.take_rule.Statement.{statement}
 use Rattle.table_keep_rule.proofs.take_rule.Tie as tie
 
@@ -22,30 +22,30 @@ read c = let at-r = c .before .before in let at-start = at-r .before .before .be
       subject-end = _;
       id-end = _;
       origin-end = _;
-      fault = _;
+      path-refusal = _;
       at = rule-told _ _ (at-r .before .before .read-rule .ensures) _ _ _ _ (at-r .r .given .1);
     }
 
 -- what is known where it is judged
 abbrev known : tie.After-number → Judged
-known c = let at-all-print2 = c .before .before in let at-is-unsized = at-all-print2 .before .before .before in
+known c = let at-all-print2 = c .before .before .before in let at-is-unsized = at-all-print2 .before .before .before in
     let at-hash = at-is-unsized .before .before .before .before in
     let at-if1 = at-hash .before .before .before .before .before .before .before .before .before in
     record {
       read = read (at-if1 .before);
       last = _;
       ordered = sym (at-if1 .before .is-out-of-order .ensures) ∙ at-if1 .if1 .left;
-      holder = at-hash .before .holder-of .result;
+      holder = at-hash .before .holder-of .result .0;
       holder-told = at-hash .before .holder-of .ensures;
       hash = at-hash .hash .result;
       hash-is = at-hash .hash .ensures;
       found = at-is-unsized .before .find .result;
       found-is = at-is-unsized .before .find .ensures;
       number = c .number .result;
-      number-is = number-told (read (at-if1 .before)) _ _ _ _ _ _ (at-hash .before .holder-of .result)
+      number-is = number-told (read (at-if1 .before)) _ _ _ _ _ _ (at-hash .before .holder-of .result .0)
           (at-is-unsized .before .find .result) (at-is-unsized .is-unsized .ensures)
           (at-all-print2 .before .before .is-unsized2 .ensures) (at-all-print2 .before .all-print .ensures)
-          (at-all-print2 .all-print2 .ensures) (c .before .all-print3 .ensures) (c .number .ensures);
+          (at-all-print2 .all-print2 .ensures) (c .before .before .all-print3 .ensures) (c .number .ensures);
     }
 
 returns : tie.Need-returns
@@ -105,6 +105,9 @@ find-requires c κs =
 returns-3 : tie.Need-returns-3
 returns-3 c = (rule-graded (known (c .before)), λ x. absurd (c .if2 .taken x))
 
+cast-t63 : tie.Need-cast-t63
+cast-t63 c = omega (arith, rule-ready (known (c .before .before .before)) (c .before .before .if2 .left) .3)
+
 add-store : tie.Need-add-store
 add-store c = let r = known (c .before .before .before) .read in omega (arith, r .at .long, r .ready .room)
 
@@ -113,7 +116,6 @@ store-requires c κs =
     let k = known (c .before .before .before) in (
       rule-ready k (c .before .before .if2 .left) .3,
       omega (arith, k .read .at .long, k .read .ready .room),
-      omega (arith, holder-few k),
     )
 
 add-begin : tie.Need-add-begin
@@ -146,5 +148,5 @@ take-rule-spec = tie.close (tie.spec (λ c κs. search needs) (λ c. search need
     (λ c κs. search needs) returns-2 add-from add-then sub-subject part-subject-start part-subject-end sub-id
     part-id-start part-id-end sub-origin part-origin-start part-origin-end shared-slice-read-by-group holder-of-requires
     (λ c κs. search needs) (λ c. search needs) find-requires (λ c κs. search needs) (λ c κs. search needs)
-    (λ c κs. search needs) (λ c κs. search needs) (λ c κs. search needs) (λ c κs. search needs) returns-3 add-store
-    store-requires add-begin add-to add-requires returns-4)
+    (λ c κs. search needs) (λ c κs. search needs) (λ c κs. search needs) (λ c. search needs) (λ c κs. search needs)
+    returns-3 cast-t63 add-store store-requires add-begin add-to add-requires returns-4)

@@ -23,12 +23,10 @@ cast-k c = omega (arith, c .shared-slice-known7 .given 0)
 decide-requires : tie.Need-decide-requires
 decide-requires c κs =
     let at-start = c .before .before .before .before .before .before .before .before .before .before .before in
-    let few = at-start .pre .0 .few in record { rules = at-start .pre .0 .rules; marks = omega arith; path = at-start .pre .1 }
+    let few = at-start .pre .0 .few in record { rules = at-start .pre .0 .rules; few = few; marks = omega arith; path = at-start .pre .1 }
 
 decided-requires : tie.Need-decided-requires
-decided-requires c κs =
-    let at-start = c .before .before .before .before .before .before .before .before .before .before .before .before in
-    let few = at-start .pre .0 .few in ((λ e. c .decide .ensures .ranked e .0), λ e. let l = c .decide .ensures .numbered e in omega arith)
+decided-requires c κs = λ e. c .decide .ensures .ranked e .0
 
 returns : tie.Need-returns
 returns c = let at-mark = c .before .before .before .before .before in

@@ -23,7 +23,7 @@ cast-k c = omega (arith, c .shared-slice-known7 .given 0)
 decide-requires : tie.Need-decide-requires
 decide-requires c κs =
     let at-start = c .before .before .before .before .before .before .before .before .before .before .before in
-    let few = at-start .pre .0 .few in record { rules = at-start .pre .0 .rules; marks = omega arith; path = at-start .pre .1 }
+    let few = at-start .pre .0 .few in record { rules = at-start .pre .0 .rules; few = few; marks = omega arith; path = at-start .pre .1 }
 
 permitted-requires : tie.Need-permitted-requires
 permitted-requires c κs = λ e. c .decide .ensures .ranked e .0
@@ -31,17 +31,13 @@ permitted-requires c κs = λ e. c .decide .ensures .ranked e .0
 weigh-requires : tie.Need-weigh-requires
 weigh-requires c κs =
     let at-start = c .before .before .before .before .before .before .before .before .before .before .before .before .before .before .before .before in
-    let few = at-start .pre .0 .few in (record { rules = at-start .pre .0 .rules; marks = omega arith; path = at-start .pre .1 }, few, omega arith, omega arith)
+    let few = at-start .pre .0 .few in
+    (record { rules = at-start .pre .0 .rules; few = few; marks = omega arith; path = at-start .pre .1 }, omega arith, omega arith)
 
 witness-requires : tie.Need-witness-requires
 witness-requires c κs = let at-weigh = c .before .before .before .before in
     let at-start = at-weigh .before .before .before .before .before .before .before .before .before .before .before .before .before .before .before .before .before in
     (at-start .pre .0 .rules, at-weigh .weigh .ensures .weighed, at-start .pre .0 .few, at-start .pre .1)
-
-spread-of-requires : tie.Need-spread-of-requires
-spread-of-requires c κs =
-    let at-start = c .before .before .before .before .before .before .before .before .before .before .before .before .before .before .before .before .before .before .before .before .before .before in
-    let few = at-start .pre .0 .few in λ e. let l = c .witness .ensures .numbered e in omega arith
 
 returns : tie.Need-returns
 returns c = let at-weigh = c .before .before .before .before .before .before in
@@ -64,4 +60,4 @@ returns c = let at-weigh = c .before .before .before .before .before .before in
 pub tree-answer-spec : {M : Type 1} → statement M
 tree-answer-spec = tie.close (tie.spec (λ c. search needs) mark-requires shared-slice-read-k cast-k (λ c. search needs)
     decide-requires permitted-requires (λ c. search needs) (λ c. search needs) (λ c. search needs) weigh-requires
-    (λ c. search needs) (λ c. search needs) witness-requires spread-of-requires returns)
+    (λ c. search needs) (λ c. search needs) witness-requires (λ c κs. search needs) returns)

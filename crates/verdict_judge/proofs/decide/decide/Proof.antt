@@ -52,6 +52,10 @@ shared-slice-read-s c = omega arith
 cast-s : tie.Need-cast-s Inv-loop μ-loop
 cast-s c = omega (arith, c .shared-slice-known5 .given (c .before .before .loop .i))
 
+cast-t15 : tie.Need-cast-t15 Inv-loop μ-loop
+cast-t15 c = let at-start = c .before .before .before .before .before .before .before in
+    omega (arith, at-start .pre .few)
+
 shared-slice-read-take-match : tie.Need-shared-slice-read-take-match Inv-loop μ-loop
 shared-slice-read-take-match c = omega arith
 
@@ -90,5 +94,5 @@ returns c = let at-start = c .before .before .before .before .before .before in
     }
 
 pub decide-spec : {M : Type 1} → statement M
-decide-spec = tie.close (tie.spec Inv-loop μ-loop loop-holds mul-s shared-slice-read-s cast-s
+decide-spec = tie.close (tie.spec Inv-loop μ-loop loop-holds mul-s shared-slice-read-s cast-s cast-t15
     shared-slice-read-take-match take-match-requires add-i loop-less loop-again returns)

@@ -1,5 +1,3 @@
-use native.Mathlib.Omega.{arith}
-use borrow.Author.Tests.{ne-eqb}
 use Rattle.verdict_request.proofs.Answers.{default-is, permit-is, deny-is}
 use Rattle.verdict_request.proofs.answer.decided.Statement.{statement}
 use Rattle.verdict_request.proofs.answer.decided.Tie as tie
@@ -8,12 +6,8 @@ returns : tie.Need-returns
 returns c = let at-start = c .before .before .before in
     default-is (at-start .args .f .now) (at-start .args .b) (c .if1 .taken)
 
-cast-t5 : tie.Need-cast-t5
-cast-t5 c = let at-start = c .before .before .before .before in
-    omega (arith, at-start .pre .1 (ne-eqb _ 0 (c .before .if1 .left)))
-
 permitted-requires : tie.Need-permitted-requires
-permitted-requires c κs = let at-start = c .before .before .before .before in at-start .pre .0
+permitted-requires c κs = let at-start = c .before .before .before .before in at-start .pre
 
 returns-2 : tie.Need-returns-2
 returns-2 c = let at-if1 = c .before .before .before in let at-start = at-if1 .before .before .before in
@@ -24,4 +18,4 @@ returns-3 c = let at-if1 = c .before .before .before in let at-start = at-if1 .b
     deny-is (at-start .args .f .now) (at-start .args .b) (at-if1 .if1 .left) _ (c .before .permitted .ensures) (c .if2 .left)
 
 pub decided-spec : {M : Type 1} → statement M
-decided-spec = tie.close (tie.spec returns cast-t5 permitted-requires returns-2 returns-3)
+decided-spec = tie.close (tie.spec returns permitted-requires returns-2 returns-3)

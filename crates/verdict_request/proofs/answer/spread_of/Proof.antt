@@ -1,12 +1,6 @@
-use native.Mathlib.Omega.{arith}
-use borrow.Author.Tests.{ne-eqb}
 use Rattle.verdict_request.proofs.Answers.{mixed-is, all-is, none-is}
 use Rattle.verdict_request.proofs.answer.spread_of.Statement.{statement}
 use Rattle.verdict_request.proofs.answer.spread_of.Tie as tie
-
-cast-t5 : tie.Need-cast-t5
-cast-t5 c = let at-start = c .before .before .before in
-    omega (arith, at-start .pre (ne-eqb _ 0 (c .before .if1 .taken)))
 
 returns : tie.Need-returns
 returns c = let at-start = c .before .before .before in
@@ -21,4 +15,4 @@ returns-3 c = let at-start = c .before .before .before in
     none-is (at-start .args .f .now) (at-start .args .b) _ (c .before .if1 .left) (c .if2 .left)
 
 pub spread-of-spec : {M : Type 1} → statement M
-spread-of-spec = tie.close (tie.spec cast-t5 returns returns-2 returns-3)
+spread-of-spec = tie.close (tie.spec returns returns-2 returns-3)

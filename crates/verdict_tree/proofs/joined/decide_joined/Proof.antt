@@ -1,3 +1,4 @@
+use borrow.Author.Needs.{needs}
 use native.Mathlib.Omega.{arith}
 use mathlib.Core.Path.{_≡_, sym, _∙_}
 use mathlib.Core.Bool.{false}
@@ -13,12 +14,12 @@ use Rattle.verdict_tree.proofs.joined.decide_joined.Tie as tie
 
 -- x is 0 or the weight of a rule, and no rule that is heavier covers the joined path
 abbrev Inv-loop : tie.InvT-loop
-Inv-loop i f weights paths next filters n first g p k r own x₀ x =
+Inv-loop i f weights paths next filters n first g p k own r weight x₀ x =
     (0 < x → (x % maxRules < n) × (getD weights (x % maxRules) 0 ≡ x)) ×
-    ((j : ℕ) → j < n → x < getD weights j 0 → coversBoth (pathIn f (getD paths j 0)) (pathIn f (getD paths i 0)) (elemsIn k g p) ≡ false)
+    ((j : ℕ) → j < n → x < getD weights j 0 → coversBoth (pathIn f (getD paths j 0)) (pathIn f (getD paths (i .0) 0)) (elemsIn k g p) ≡ false)
 
 abbrev μ-loop : tie.MeasureT-loop
-μ-loop i f weights paths next filters n first g p k r own x₀ x = x
+μ-loop i f weights paths next filters n first g p k own r weight x₀ x = x
 
 mul-r : tie.Need-mul-r Inv-loop μ-loop
 mul-r c = omega arith
@@ -27,19 +28,19 @@ shared-slice-read-r : tie.Need-shared-slice-read-r Inv-loop μ-loop
 shared-slice-read-r c = omega arith
 
 cast-r : tie.Need-cast-r Inv-loop μ-loop
-cast-r c = let at-start = c .before .before .before .before .before .before .before in
-    omega (arith, c .shared-slice-known7 .given (at-start .args .i))
+cast-r c = let at-start = c .before .before .before .before .before .before .before .before in
+    omega (arith, c .shared-slice-known7 .given (at-start .args .i .0))
 
-mul-own : tie.Need-mul-own Inv-loop μ-loop
-mul-own c = omega arith
+mul-weight : tie.Need-mul-weight Inv-loop μ-loop
+mul-weight c = omega arith
 
-shared-slice-read-own : tie.Need-shared-slice-read-own Inv-loop μ-loop
-shared-slice-read-own c = omega arith
+shared-slice-read-weight : tie.Need-shared-slice-read-weight Inv-loop μ-loop
+shared-slice-read-weight c = omega arith
 
 loop-holds : tie.Need-loop-holds Inv-loop μ-loop
-loop-holds c = let at-start = c .before .before .before .before .before .before .before .before in (
+loop-holds c = let at-start = c .before .before .before .before .before .before .before .before .before in (
   at-below _ _ (at-start .pre .2 .packed) _ _ (at-start .pre .2 .start),
-  past-start _ _ (at-start .pre .2 .packed) (at-start .args .f .now) (at-start .args .paths .now) _ (at-start .args .i) _ (at-start .pre .2 .start),
+  past-start _ _ (at-start .pre .2 .packed) (at-start .args .f .now) (at-start .args .paths .now) _ (at-start .args .i .0) _ (at-start .pre .2 .start),
 )
 
 mul-a : tie.Need-mul-a Inv-loop μ-loop
@@ -51,9 +52,14 @@ shared-slice-read-a c = let e = c .before .before .loop .inv .0 (omega arith) in
 cast-a : tie.Need-cast-a Inv-loop μ-loop
 cast-a c = omega (arith, c .shared-slice-known9 .given (c .before .before .loop .x % maxRules))
 
+cast-t27 : tie.Need-cast-t27 Inv-loop μ-loop
+cast-t27 c =
+    let at-start = c .before .before .before .before .before .before .before .before .before .before .before .before in
+    let e = c .before .before .loop .inv .0 (omega arith) in omega (arith, e .0, at-start .pre .2 .few)
+
 covers-joined-requires : tie.Need-covers-joined-requires Inv-loop μ-loop
 covers-joined-requires c κs =
-    let at-start = c .before .before .before .before .before .before .before .before .before .before .before in
+    let at-start = c .before .before .before .before .before .before .before .before .before .before .before .before in
     let e = c .before .before .loop .inv .0 (omega arith) in let h = at-start .pre .2 .filtered in record {
       path = at-start .pre .2 .laid _ (e .0);
       other = at-start .pre .2 .laid _ (at-start .pre .0);
@@ -65,7 +71,7 @@ covers-joined-requires c κs =
 
 returns : tie.Need-returns Inv-loop μ-loop
 returns c = let at-loop = c .before .before .before .before in
-    let at-start = at-loop .before .before .before .before .before .before .before .before .before in
+    let at-start = at-loop .before .before .before .before .before .before .before .before .before .before in
     let e = at-loop .loop .inv .0 (omega arith) in
     found _ _ (at-start .pre .2 .packed) _ _ _ _ _ (at-loop .loop .x) (e .0) (omega arith)
     (sym (c .before .covers-joined .ensures) ∙ c .if1 .taken) (omega arith) (at-loop .loop .inv .1)
@@ -79,27 +85,28 @@ shared-slice-read-x c = let at-loop = c .before .before .before .before .before 
 
 loop-less : tie.Need-loop-less Inv-loop μ-loop
 loop-less c = let at-loop = c .before .before .before .before .before in
-    let at-start = at-loop .before .before .before .before .before .before .before .before .before in
+    let at-start = at-loop .before .before .before .before .before .before .before .before .before .before in
     let e = at-loop .loop .inv .0 (omega arith) in let b = below-less _ _ _ _ (at-start .pre .2 .nexts _ (e .0) (omega arith)) (omega arith) in omega arith
 
 loop-again : tie.Need-loop-again Inv-loop μ-loop
 loop-again c = let at-loop = c .before .before .before .before .before in
-    let at-start = at-loop .before .before .before .before .before .before .before .before .before in
+    let at-start = at-loop .before .before .before .before .before .before .before .before .before .before in
     let e = at-loop .loop .inv .0 (omega arith) in
     let b = at-start .pre .2 .nexts _ (e .0) (omega arith) in
     let packed = at-start .pre .2 .packed in (
       at-below _ _ packed _ _ b,
-      past-next _ _ packed (at-start .args .f .now) (at-start .args .paths .now) _ (at-start .args .i)
+      past-next _ _ packed (at-start .args .f .now) (at-start .args .paths .now) _ (at-start .args .i .0)
           (at-loop .loop .x) _ (at-loop .loop .inv .0) (omega arith) (at-loop .loop .inv .1)
           (sym (c .before .before .covers-joined .ensures) ∙ c .before .if1 .left) b,
     )
 
 returns-2 : tie.Need-returns-2 Inv-loop μ-loop
-returns-2 c = let at-start = c .before .before .before .before .before .before .before .before .before .before in
+returns-2 c =
+    let at-start = c .before .before .before .before .before .before .before .before .before .before .before in
     found _ _ (at-start .pre .2 .packed) _ _ _ _ _ (c .before .loop .x) (at-start .pre .0) (at-start .pre .1)
     (own-join _ _) (omega arith) (c .before .loop .inv .1)
 
 pub decide-joined-spec : {M : Type 1} → statement M
-decide-joined-spec = tie.close (tie.spec Inv-loop μ-loop mul-r shared-slice-read-r cast-r mul-own shared-slice-read-own
-    loop-holds mul-a shared-slice-read-a cast-a covers-joined-requires returns mul-x shared-slice-read-x loop-less
-    loop-again returns-2)
+decide-joined-spec = tie.close (tie.spec Inv-loop μ-loop (λ c. search needs) mul-r shared-slice-read-r cast-r mul-weight
+    shared-slice-read-weight loop-holds mul-a shared-slice-read-a cast-a cast-t27 covers-joined-requires returns mul-x
+    shared-slice-read-x loop-less loop-again returns-2)

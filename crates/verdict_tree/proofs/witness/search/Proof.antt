@@ -11,7 +11,7 @@ use Rattle.verdict.specs.Order.{earlier, choose, prefer}
 use Rattle.verdict.proofs.Order.{earlier-order}
 use Rattle.table_place.specs.Place.{elemsIn}
 use Rattle.table_rows.specs.Rules.{rulesIn}
-use Rattle.verdict_judge.specs.Best.{held, Sound, NumberBelow}
+use Rattle.verdict_judge.specs.Best.{held, Sound}
 use Rattle.verdict_judge.specs.declared.best.Best.{Best}
 use Rattle.verdict_judge.proofs.Steps.{best-none, best-turn, best-end}
 use Rattle.verdict_tree.specs.Tree.{opposing, Weights}
@@ -22,7 +22,6 @@ use Rattle.verdict_tree.proofs.witness.search.Tie as tie
 record Witness-so-far (f starts weights : List ℕ) (n : ℕ) (p : Path) (v : Bool) (b : Best) (i : ℕ) : Type 0 where
   inside : i ≤ n
   sound : Sound f b
-  numbered : NumberBelow n b
   best : (test : Rule → Bool) → Weights test f starts weights n
       → choose earlier (opposing test (rulesIn f starts n 0) p v) 0 (rulesIn f starts n 0)
       ≡ prefer earlier (held f b) (choose earlier (opposing test (rulesIn f starts n 0) p v) i (rulesIn f starts (n - i) i))
@@ -44,9 +43,12 @@ loop-holds c = let at-start = c .before .before .before .before .before .before 
     record {
       inside = zero-le;
       sound = λ z. clash (eq-eqb 0 0 refl) z;
-      numbered = λ z. clash (eq-eqb 0 0 refl) z;
       best = λ test h. best-none earlier earlier-order (against at-start test) (a .f .now) (a .starts .now) (a .n);
     }
+
+cast-t17 : tie.Need-cast-t17 Inv-loop μ-loop
+cast-t17 c = let at-start = c .before .before .before .before .before .before .before .before .before in
+    omega (arith, at-start .pre .kept .few)
 
 oppose-requires : tie.Need-oppose-requires Inv-loop μ-loop
 oppose-requires c κs = let at-start = c .before .before .before .before .before .before .before .before .before in
@@ -59,15 +61,13 @@ loop-less : tie.Need-loop-less Inv-loop μ-loop
 loop-less c = omega arith
 
 loop-again : tie.Need-loop-again Inv-loop μ-loop
-loop-again c = let at-loop = c .before .before in
-    let at-start = at-loop .before .before .before .before .before .before .before .before in
+loop-again c = let at-start = c .before .before .before .before .before .before .before .before .before .before in
     let a = at-start .args in
     record {
       inside = omega arith;
       sound = c .oppose .ensures .sound;
-      numbered = c .oppose .ensures .numbered (at-loop .loop .inv .numbered);
-      best = λ test h. best-turn earlier earlier-order (against at-start test) (a .f .now) (a .starts .now) (a .n) _ (at-loop .loop .b) _
-          (at-loop .loop .i) (c .before .loop-test .taken) (c .oppose .ensures .best test h) (at-loop .loop .inv .best test h);
+      best = λ test h. best-turn earlier earlier-order (against at-start test) (a .f .now) (a .starts .now) (a .n) _ (c .before .before .loop .b) _
+          (c .before .before .loop .i) (c .before .loop-test .taken) (c .oppose .ensures .best test h) (c .before .before .loop .inv .best test h);
     }
 
 returns : tie.Need-returns Inv-loop μ-loop
@@ -75,10 +75,10 @@ returns c = let at-start = c .before .before .before .before .before .before .be
     let a = at-start .args in
     record {
       sound = c .before .loop .inv .sound;
-      numbered = c .before .loop .inv .numbered;
       best = λ test h. best-end earlier earlier-order (against at-start test) (a .f .now) (a .starts .now) (a .n) _ (c .before .loop .b)
           (c .before .loop .i) (c .loop-test .left) (c .before .loop .inv .best test h);
     }
 
 pub search-spec : {M : Type 1} → statement M
-search-spec = tie.close (tie.spec Inv-loop μ-loop loop-holds oppose-requires add-i loop-less loop-again returns)
+search-spec = tie.close (tie.spec Inv-loop μ-loop loop-holds cast-t17 oppose-requires add-i loop-less loop-again
+    returns)

@@ -10,6 +10,7 @@ fill-requires c κs =
     let few = at-start .pre .2 in
     record {
       seed = c .before .draw .ensures;
+      few = few;
       laid = paths-laid (at-start .args .f .now) (at-start .args .starts .now) (at-start .args .paths .now)
           (at-start .args .n) (at-start .pre .0 .laid) (at-start .pre .1 .paths-are);
       each-weight = at-start .pre .1 .each-weight;
