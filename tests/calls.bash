@@ -16,6 +16,7 @@ fail() {
     echo "burgee ${1:0:300}"
     head -c 3000 "$work/written" "$work/complaint"
     status=1
+    [ -z "${STOP_AT_FIRST-}" ] || exit 1 # tools/wrong_command_lines.sh
 }
 
 # STATUS WORD..: runs burgee on the words; what it writes is in $work/written and $work/complaint.

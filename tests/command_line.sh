@@ -175,6 +175,9 @@ head -c 32769 /dev/zero | tr '\0' '\n' >"$work/text"
 says 1 'the table text is over 32,768 bytes' table "$work/text"
 text '0\n'
 says 2 'not a hex line: an even, nonzero count of digits 0-9a-f, then LF' table "$work/text"
+text "$version_line"
+says 2 'not a hex line: an even, nonzero count of digits 0-9a-f, then LF' table "$work/text"
+[ "$(tail -n 1 "$work/written")" = 'the line has no LF at its end' ] || fail "table: the missing LF is not told"
 text 'ff\n'
 says 3 'unknown kind or code byte, or the frame is too short or too long' table "$work/text"
 text '020167\n'
@@ -234,7 +237,7 @@ step start && says 11 'the store is shorter than 65,536 bytes' "${words[@]}"
 grep -rqF '23 the result does not fit the buffer\n' crates/cli_refusal || fail 'refusal 23: other words'
 seen="$seen 23"
 numbers=$(sed -n 's/^#define BURGEE_REFUSED_[A-Z_]* \([0-9]*\)u.*/\1/p' include/burgee.h)
-[ "$(printf '%s\n' $seen | sort -n)" = "$(printf '%s\n' $numbers | sort -n)" ] || fail "refusals: not those of the header are tried"
+[ "$(printf '%s\n' $seen | sort -nu)" = "$(printf '%s\n' $numbers | sort -n)" ] || fail "refusals: not those of the header are tried"
 
 # ---- an explanation: every rule that matches, and why it lost to the first; one for each step of the ranking, and two that do not match
 burgee pack - >"$work/text" <<'END'
@@ -285,6 +288,23 @@ answer_is explain "$work/text" u read '' / < <(
         printf '%d lost at smaller id: rule %d, permit, elements 0, definite keys 0, group, id %03d\n' $((rule + 1)) "$rule" "$rule"
     done
 )
+
+# ---- a probe of a rotation answers as the command does on the text in force
+probed() { # TEXT COMMAND WORD..
+    step "$2" "${@:3}" && answer_is "${words[@]}" < <(burgee "$2" "$1" "${@:3}")
+}
+begin table
+step start && answer "${words[@]}"
+step upload $table && answer "${words[@]}"
+for name in verdict tree; do
+    probed $table $name stevie read '' /system
+    probed $table $name ann write '' '/interfaces/interface[name=uplink]'
+done
+begin policy
+step start && answer "${words[@]}"
+step upload $policy && answer "${words[@]}"
+probed $policy rpc '' /gnmi.gNMI/Get
+probed $policy rpc '' /gnmi.gNMI/Get "$work/headers"
 
 # ---- the record of a rotation, as `show` tells it
 shown() {

@@ -17,6 +17,7 @@ cat >"$work/tools/rt" <<'RT'
 # Stands in for rt check cli.
 [ "$*" = 'check cli' ] || exit 2
 cat >/dev/null # nothing is left of standard input, were it handed on
+said=$(cat crates/*/src/*.rt toolchain.txt | tr '\n' ' ')
 echo "$$" >>../builds
 sleep "$(cat ../slow 2>/dev/null || echo 0)"
 if [ -e ../broken ]; then
@@ -27,9 +28,7 @@ echo 'rt: below proved (unchanged since it was last proved)'
 echo 'rt: cli proved (7 s)'
 mkdir -p target/bin
 {
-    printf '#!/bin/sh\necho '
-    cat crates/*/src/*.rt toolchain.txt | tr '\n' ' '
-    printf '\ncase ${1:-} in\n'
+    printf '#!/bin/sh\necho %s\ncase ${1:-} in\n' "$said"
     printf 'read) cat ;;\n'
     printf 'refused) printf 10 >&9 ;;\n'
     printf 'complained) printf 20 >&9 ;;\n'
@@ -67,6 +66,14 @@ expect() {
 
 complained_of() {
     grep -q "$1" "$work/complaint" || { echo "line ${BASH_LINENO[0]}: no complaint \"$1\" in:"; cat "$work/complaint"; status=1; }
+}
+# BUILDS: waits until so many have begun.
+begun() {
+    local i
+    for i in {1..100}; do
+        [ "$(wc -l <"$work/builds")" -lt "$1" ] || return
+        sleep 0.1
+    done
 }
 silent() {
     [ ! -s "$work/complaint" ] || { echo "line ${BASH_LINENO[0]}: a complaint:"; cat "$work/complaint"; status=1; }
@@ -145,16 +152,25 @@ expect 0 'seven another' 14
 # A build that is cut off is no build: the next call waits for what is left of it, and builds.
 echo cut >"$here/crates/cli/src/main.rt"
 "$burgee" >"$work/said.1" 2>&1 &
-sleep 0.5
+begun 15
 kill $!
 expect 0 'cut another' 16
+# A source that changes while it is built: the next call builds again.
+echo before >"$here/crates/cli/src/main.rt"
+"$burgee" >"$work/said.1" 2>&1 &
+begun 17
+echo during >"$here/crates/cli/src/main.rt"
+wait
+expect 0 'during another' 18
 rm "$work/slow"
 # A find that does not know -files0-from: by the sum of the sources, each time.
 mkdir "$work/older"
 printf '#!/bin/sh\ncase $* in *files0-from*) exit 1 ;; esac\nexec %s "$@"\n' "$(command -v find)" >"$work/older/find"
 chmod +x "$work/older/find"
-PATH=$work/older:$PATH expect 0 'cut another' 16
+PATH=$work/older:$PATH expect 0 'during another' 18
 silent
+echo older >"$here/crates/cli/src/main.rt"
+PATH=$work/older:$PATH expect 0 'older another' 19
 
 # A build leaves standard input alone.
 echo eight >"$here/crates/cli/src/main.rt"
@@ -167,20 +183,20 @@ ln -s ../here/bin/burgee "$work/links/relative"
 ln -s relative "$work/links/burgee"
 ln -s "$here/bin" "$work/folder"
 for link in links/whole links/relative links/burgee folder/burgee; do
-    burgee=$work/$link expect 0 'eight another' 17
+    burgee=$work/$link expect 0 'eight another' 20
     silent
 done
 [ "$(cd "$work/links" && PATH=$work/links:$PATH burgee)" = 'eight another' ] || { echo 'not by a link in the PATH'; status=1; }
 [ "$(cd "$here/bin" && sh burgee)" = 'eight another' ] || { echo 'not from its own folder'; status=1; }
 
 # The exit status is that of the marks; that of a program that does not end well is 3.
-expect 1 'eight another' 17 refused
-expect 2 'eight another' 17 complained
-expect 2 'eight another' 17 both
-expect 3 'eight another' 17 broken
+expect 1 'eight another' 20 refused
+expect 2 'eight another' 20 complained
+expect 2 'eight another' 20 both
+expect 3 'eight another' 20 broken
 complained_of 'did not end as it should'
-expect 3 'eight another' 17 killed
-expect 3 'eight another' 17 failed
+expect 3 'eight another' 20 killed
+expect 3 'eight another' 20 failed
 
 # A folder that cannot be written, and is built: it works, though chmod changes the status of every file; and once its sources have changed it is told.
 chmod -R a-w "$here"

@@ -113,6 +113,11 @@ for name in "$special"/*; do # bin/burgee looks at them too
     target/burgee/program pack "$work/readable" "$name" 2>"$work/complaint" 9>"$work/written"
     [ "$(cat "$work/written")" = 20 ] || fail "pack $name: no complaint by the program"
 done
+for step in start finalize close "upload $table"; do # a pipe would be waited for
+    read -ra words <<<"$step"
+    timeout 10 bin/burgee rotate "${words[0]}" "$special/pipe" "${words[@]:1}" >"$work/written" 2>"$work/complaint"
+    [ $? -eq 2 ] && grep -q 'not a regular file' "$work/complaint" || fail "rotate ${words[0]} of a pipe: no complaint"
+done
 ls -l "$special" | cmp -s - "$work/specials" || fail "a pipe, a device or a link is replaced"
 ln -s rotation/file "$work/link"
 ln -s nowhere "$work/loose"
@@ -125,6 +130,16 @@ for name in "$work/link" "$work/loose"; do
 done
 [ ! -e "$work/nowhere" ] || fail "a link is followed"
 same "links"
+
+# ---- what a step leaves beside the file where it is killed, here by a limit on the size of files, is in no other's way
+for count in 1 2; do
+    bash -c 'ulimit -c 0 && ulimit -f 1 && target/burgee/program rotate start "$0"; exit' "$file" >"$work/written" 2>"$work/complaint"
+    [ "$(find "$work/rotation" -name 'file.unfinished-????????' | wc -l)" -eq $count ] || fail "rotate start, killed $count times: not as many files are left"
+done
+answer rotate start "$file"
+answer rotate close "$file"
+rm "$work"/rotation/file.unfinished-*
+same "killed steps"
 
 # ---- a table that is packed: written where accepted only, and whole
 answer pack "$work/readable" "$work/packed"

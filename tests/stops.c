@@ -10,6 +10,7 @@
  * failing, as on a full disk; and under limits on the size of a file. After each run
  *   - FILE is as OLD or as NEW, byte for byte: as NEW where it was renamed to, else as OLD;
  *   - where success was told (marks on descriptor 9), it is as NEW, and no call failed that has to do with it; else something was complained of;
+ *   - where anything was answered (written to standard output), likewise;
  *   - nothing else is left in FILE's folder, unless the program was killed.
  * Where nothing stops it, the new file is flushed after its last byte and before it is renamed, and a folder is flushed afterwards.
  * FILE stands in a folder of its own. Exit status 0, and a line with the count of runs; or 1, and a line for each fault. */
@@ -53,6 +54,7 @@ struct seen {
     int status;
     int told_success;
     int told_complaint;
+    int answered;       /* something was written to standard output */
     int matters;        /* a call failed, or moved less, that saving depends on */
     int flushed;        /* the new file, after its last byte and before it was renamed */
     int folder_flushed; /* afterwards */
@@ -289,6 +291,8 @@ static struct seen run(const struct plan *plan, long loaded)
             } else if (r.orig_rax == SYS_write && (int)r.rdi == new_fd) {
                 is_dirty = 1;
                 seen.written = seen.calls;
+            } else if (r.orig_rax == SYS_write && (int)r.rdi == 1 && r.rax > 0) {
+                seen.answered = 1;
             } else if (r.orig_rax == SYS_fsync && (int)r.rdi == new_fd) {
                 is_dirty = 0;
             } else if (r.orig_rax == SYS_fsync && seen.renamed != 0) {
@@ -348,6 +352,9 @@ static struct seen try(const struct plan *plan, long loaded)
     }
     if (seen.told_success && seen.matters) {
         fault(plan, "success is told, though a call failed");
+    }
+    if (seen.answered && (seen.matters || !is_same(now, new_bytes))) {
+        fault(plan, "an answer, though it is not saved");
     }
     if (!seen.killed && seen.matters && !seen.told_complaint && seen.calls > loaded) {
         fault(plan, "no complaint");

@@ -86,6 +86,8 @@ fi
 (trap '' XFSZ && ulimit -f 1 && burgee help rotate >"$work/short" 2>"$work/complaint")
 lost 'File too large' 'help rotate, of which 1,024 bytes can be written'
 burgee help rotate | head -c 1024 | cmp -s - "$work/short" || fail 'help rotate: not the beginning of the page'
+{ sleep 0.2 && burgee help; } 2>"$work/complaint" | : # nobody reads it any more
+grep -q 'did not end' "$work/complaint" && fail "help: told as a fault, where nobody reads it"
 burgee table $table >&- 2>"$work/complaint"
 [ $? -eq 2 ] && [ -s "$work/complaint" ] || fail "table: standard output is closed"
 
