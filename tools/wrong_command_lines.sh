@@ -2,7 +2,7 @@
 # wrong_command_lines.sh [PATTERN]: wrong command lines, each of which a test of tests/ has to see; those alone whose line in the list matches, if one is given.
 # The program is compiled of a wrong source without a proof (as `rt try` does: from the sources of the crates cli*, and the proved libraries below them), so that
 # what the prover refuses is tried on the tests too. Needs these libraries (`rt check cli`). Each fault has a copy of the repository, in which `rt` is a
-# stand-in; where root runs this, wrong programs run as nobody, since they may remove what they are given. Prints what the test said of each.
+# stand-in; where root runs this, wrong programs run as nobody, since they may remove what they are given. Prints what the test said of each. Nine minutes of processor time.
 set -uo pipefail
 cd "$(dirname "$0")/.." || exit
 export STOP_AT_FIRST=1 # tests/calls.bash
@@ -12,7 +12,7 @@ work=$(mktemp -d)
 trap 'rm -rf "$work"' EXIT
 chmod 755 "$work"
 mkdir "$work/sound"
-git ls-files -z --cached --others --exclude-standard | tar -c --null --files-from=- | tar -x -C "$work/sound"
+git ls-files -z --cached --others --exclude-standard -- . ':!target' | tar -c --null --files-from=- | tar -x -C "$work/sound"
 
 # Lines `TEST FILE WHAT: SED SCRIPT`; files stand in crates/, but for bin/burgee. `in NAME SCRIPT` is a script for the body of that function.
 faults() {
