@@ -59,12 +59,6 @@ pub fn decimal(n: u64) {
     expect(io::print_decimal(1, n));
 }
 
-pub fn decimal_to(to: i32, n: u64) {
-    let mut digits = [0u8; 20];
-    let d = io::decimal(n, &mut digits);
-    word_to(to, &digits[..d]);
-}
-
 fn wide(b: u8) -> u64 {
     b as u64
 }
