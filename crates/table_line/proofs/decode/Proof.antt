@@ -20,18 +20,6 @@ loop-holds : tie.Need-loop-holds Inv-loop μ-loop
 loop-holds c = let at-start = c .before .before in
     (omega arith, at-start .pre .0, omega arith, decode-start (at-start .args .text .now) _ (at-start .args .from) _ (at-start .pre .1))
 
-add-loop : tie.Need-add-loop Inv-loop μ-loop
-add-loop c = omega arith
-
-add-hex-value : tie.Need-add-hex-value Inv-loop μ-loop
-add-hex-value c = omega arith
-
-sub-result : tie.Need-sub-result Inv-loop μ-loop
-sub-result c = let at-loop = c .before .before .before .before .before .before in at-loop .loop .inv .2
-
-same-length : tie.Need-same-length Inv-loop μ-loop
-same-length c = let at-loop = c .before .before .before .before .before .before in at-loop .loop .inv .3 .long
-
 returns : tie.Need-returns Inv-loop μ-loop
 returns c = let at-hex-value = c .before .before .before in let at-loop = at-hex-value .before .before .before in
     decode-done _ _ _ _ _ _ (at-loop .loop .inv .2) (at-loop .loop .inv .3)
@@ -58,12 +46,6 @@ add-k c = let at-hex-value = c .before .before .before in let at-loop = at-hex-v
     (digits-turn _ _ _ _ (at-hex-value .before .before .loop-test .taken) (at-hex-value .hex-value .ensures)
     (c .before .hex-value2 .ensures) (c .if1 .left)) in omega arith
 
-add-i : tie.Need-add-i Inv-loop μ-loop
-add-i c = omega arith
-
-loop-less : tie.Need-loop-less Inv-loop μ-loop
-loop-less c = omega arith
-
 loop-again : tie.Need-loop-again Inv-loop μ-loop
 loop-again c = let at-hex-value = c .before .before .before in let at-loop = at-hex-value .before .before .before in (
   omega arith,
@@ -73,17 +55,12 @@ loop-again c = let at-hex-value = c .before .before .before in let at-loop = at-
       (at-hex-value .before .before .loop-test .taken) (at-hex-value .hex-value .ensures) (c .before .hex-value2 .ensures) (c .if1 .left)),
 )
 
-sub-result-2 : tie.Need-sub-result-2 Inv-loop μ-loop
-sub-result-2 c = c .before .loop .inv .2
-
-same-length-2 : tie.Need-same-length-2 Inv-loop μ-loop
-same-length-2 c = c .before .loop .inv .3 .long
-
 returns-2 : tie.Need-returns-2 Inv-loop μ-loop
 returns-2 c =
     decode-done _ _ _ _ _ _ (c .before .loop .inv .2) (c .before .loop .inv .3) (digits-end _ _ (c .loop-test .left))
 
 pub decode-spec : {M : Type 1} → statement M
-decode-spec = tie.close (tie.spec Inv-loop μ-loop loop-holds add-loop (λ c. search needs) (λ c κs. search needs)
-    add-hex-value (λ c. search needs) (λ c κs. search needs) sub-result same-length returns mul-out add-out
-    slice-write-out add-k add-i loop-less loop-again sub-result-2 same-length-2 returns-2)
+decode-spec = tie.close (tie.spec Inv-loop μ-loop loop-holds (λ c. search needs) (λ c. search needs)
+    (λ c κs. search needs) (λ c. search needs) (λ c. search needs) (λ c κs. search needs) (λ c. search needs)
+    (λ c. search needs) returns mul-out add-out slice-write-out add-k (λ c. search needs) (λ c. search needs) loop-again
+    (λ c. search needs) (λ c. search needs) returns-2)

@@ -19,21 +19,12 @@ loop-holds : tie.Need-loop-holds Inv-loop μ-loop
 unfolding mix
 loop-holds c = (omega (arith, c .count .ensures), omega arith, c .before .before .pre .1, rw (c .count .ensures))
 
-at-requires : tie.Need-at-requires Inv-loop μ-loop
-at-requires c κs = omega arith
-
-add-middle : tie.Need-add-middle Inv-loop μ-loop
-add-middle c = omega (arith, c .at .ensures .1)
-
 mul-middle : tie.Need-mul-middle Inv-loop μ-loop
 mul-middle c = let at-loop = c .before .before .before in let at-start = at-loop .before .before .before in
     omega (
       arith,
       product (at-loop .loop .x + c .before .at .result) (at-start .args .s .first) (omega (arith, c .before .at .ensures .1)) (at-start .pre .0 .0),
     )
-
-add-middle-2 : tie.Need-add-middle-2 Inv-loop μ-loop
-add-middle-2 c = omega (arith, c .middle .ensures)
 
 mul-middle-2 : tie.Need-mul-middle-2 Inv-loop μ-loop
 mul-middle-2 c = let at-loop = c .before .before .before .before .before in
@@ -42,15 +33,6 @@ mul-middle-2 c = let at-loop = c .before .before .before .before .before in
       arith,
       product (at-loop .loop .y + c .before .middle .result) (at-start .args .s .second) (omega (arith, c .before .middle .ensures)) (at-start .pre .0 .1),
     )
-
-add-k : tie.Need-add-k Inv-loop μ-loop
-add-k c = omega arith
-
-sub-left : tie.Need-sub-left Inv-loop μ-loop
-sub-left c = omega arith
-
-loop-less : tie.Need-loop-less Inv-loop μ-loop
-loop-less c = omega arith
 
 loop-again : tie.Need-loop-again Inv-loop μ-loop
 loop-again c = let at-at = c .before .before .before .before in (
@@ -65,5 +47,6 @@ returns : tie.Need-returns Inv-loop μ-loop
 returns c = mix-end _ _ _ _ _ _ _ (λ l. omega (arith, l, c .loop-test .left)) (c .before .loop .inv .3)
 
 pub mix-spec : {M : Type 1} → statement M
-mix-spec = tie.close (tie.spec Inv-loop μ-loop (λ c κs. search needs) loop-holds at-requires add-middle mul-middle
-    (λ c κs. search needs) add-middle-2 mul-middle-2 (λ c κs. search needs) add-k sub-left loop-less loop-again returns)
+mix-spec = tie.close (tie.spec Inv-loop μ-loop (λ c κs. search needs) loop-holds (λ c κs. search needs)
+    (λ c. search needs) mul-middle (λ c κs. search needs) (λ c. search needs) mul-middle-2 (λ c κs. search needs)
+    (λ c. search needs) (λ c. search needs) (λ c. search needs) loop-again returns)
