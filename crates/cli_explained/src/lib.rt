@@ -9,6 +9,7 @@ ghost use Rattle.cli_explained.specs.Explained.{stepName, fate, actionTe
 ghost use Rattle.cli_explained.specs.Explained.{ranked as Explained·ranked};
 ghost use Rattle.cli_explained.specs.Steps.{maxRankedLine, Rankable};
 use cli_show::add;
+use table::RuleNumber;
 use verdict_explain::Standing;
 use verdict_explain::Step;
 
@@ -74,13 +75,13 @@ fn standing(s: Standing, out: &mut [u8], at: usize) -> usize
 }
 
 // A rule's place, its fate, its number and its standing.
-fn ranked(place: usize, number: u16, own: Standing, s: Step, out: &mut [u8], at: usize) -> usize
+fn ranked(place: usize, rule: RuleNumber, own: Standing, s: Step, out: &mut [u8], at: usize) -> usize
     requires { ⌜ at + 160 ≤ length (now out) ⌝ }
-    ensures { λ r. ⌜ AddedUpTo 160 (now (out .entry)) at (Explained·ranked place number own s) (now (out .exit)) r ⌝ }
+    ensures { λ r. ⌜ AddedUpTo 160 (now (out .entry)) at (Explained·ranked place (rule .0) own s) (now (out .exit)) r ⌝ }
 {
     let a = add::decimal(place as u64, out, at);
     let b = add_fate(place, s, out, a);
-    let c = add::decimal(number as u64, out, b);
+    let c = add::decimal(rule.0 as u64, out, b);
     standing(own, out, c)
 }
 
@@ -99,7 +100,7 @@ fn id(f: &[u8], s: usize, out: &mut [u8], at: usize) -> usize
 fn line(
     f: &[u8],
     place: usize,
-    number: u16,
+    rule: RuleNumber,
     s: usize,
     best: usize,
     out: &mut [u8],
@@ -107,13 +108,13 @@ fn line(
 ) -> usize
     requires { ⌜ (ruleEnd (now f) s ≤ length (now f)) × (ruleEnd (now f) best ≤ length (now f)) × (at + maxRankedLine ≤ length (now out)) ⌝ }
     ensures { λ r. ⌜ AddedUpTo maxRankedLine (now (out .entry)) at
-        (rankedLine place number (ruleIn (now (f .entry)) s) (ruleIn (now (f .entry)) best))
+        (rankedLine place (rule .0) (ruleIn (now (f .entry)) s) (ruleIn (now (f .entry)) best))
         (now (out .exit)) r ⌝ }
 {
     let own = verdict_explain::standing_at(f, s);
     let first = verdict_explain::standing_at(f, best);
     let step = verdict_explain::lost_at(own, first);
-    let a = ranked(place, number, own, step, out, at);
+    let a = ranked(place, rule, own, step, out, at);
     let b = id(f, s, out, a);
     add::string(b"\n", out, b)
 }
@@ -134,7 +135,7 @@ pub fn ranking(f: &[u8], starts: &[u16], n: usize, order: &[u16], m: usize, out:
         let s = starts[k] as usize;
         let best = starts[first] as usize;
         i += 1;
-        at = line(f, i, number, s, best, out, at);
+        at = line(f, i, RuleNumber(number), s, best, out, at);
     }
     at
 }

@@ -9,7 +9,7 @@ use Rattle.cli_explained.proofs.ranked.Tie as tie
 returns : tie.Need-returns
 unfolding ranked
 returns c = let at-decimal2 = c .before .before .before .before .before .before in
-    let at-add-fate = at-decimal2 .before .before .before .before in
+    let at-add-fate = at-decimal2 .before .before .before .before .before in
     let at-decimal = at-add-fate .before .before .before .before in
     record {
       added =
@@ -26,5 +26,5 @@ returns c = let at-decimal2 = c .before .before .before .before .before .before 
     }
 
 pub ranked-spec : {M : Type 1} → statement M
-ranked-spec = tie.close (tie.spec (λ c κs. search needs) (λ c κs. search needs) (λ c κs. search needs)
-    (λ c κs. search needs) (λ c. search needs) returns)
+ranked-spec = tie.close (tie.spec (λ c κs. search needs) (λ c κs. search needs) (λ c. search needs)
+    (λ c κs. search needs) (λ c κs. search needs) (λ c. search needs) returns)
