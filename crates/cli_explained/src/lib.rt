@@ -75,7 +75,14 @@ fn standing(s: Standing, out: &mut [u8], at: usize) -> usize
 }
 
 // A rule's place, its fate, its number and its standing.
-fn ranked(place: usize, rule: RuleNumber, own: Standing, s: Step, out: &mut [u8], at: usize) -> usize
+fn ranked(
+    place: usize,
+    rule: RuleNumber,
+    own: Standing,
+    s: Step,
+    out: &mut [u8],
+    at: usize,
+) -> usize
     requires { ⌜ at + 160 ≤ length (now out) ⌝ }
     ensures { λ r. ⌜ AddedUpTo 160 (now (out .entry)) at (Explained·ranked place (rule .0) own s) (now (out .exit)) r ⌝ }
 {
