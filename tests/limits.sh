@@ -224,10 +224,12 @@ return 32               the same
 STARTS: usize = 16384   a place's number has the start of its string in 14 bits: the layout of a word
 starts = 16384          the same
 word_at(b, 16)          where the record's fifth number stands
+numberAt b 16           the same
 slot, 256)              a number's second byte, in the record's file; and so for each of its numbers
 kind, 256)
 len, 256)
 rotating, 256)
+byteOf n 256            the same
 HASHES: usize = 8192    how many hints the groups' names have: a size of its own
 hashes = 8192           the same
 Small s × (n < 256)     a count of elements, in a byte

@@ -3,23 +3,28 @@ pub mod lines;
 
 ghost use mathlib.Core.Path.{_≡_};
 ghost use Prim.Native.Nat.{_<_};
-ghost use lib.ListN.{length};
+ghost use Rattle.cli_record.specs.Bytes.{byteOf, recordBytes, ofFourBytes, numberAt, recordIn};
 use rotation::Record;
 
 // How many bytes of a file are its record.
 pub const LENGTH: usize = 20;
 
-fn word(a: u8, b: u8, c: u8, d: u8) -> u32 {
+fn word(a: u8, b: u8, c: u8, d: u8) -> u32
+    ensures { λ r. ⌜ r ≡ ofFourBytes a b c d ⌝ }
+{
     a as u32 + b as u32 * 256 + c as u32 * 65536 + d as u32 * 16777216
 }
 
 fn word_at(b: &[u8; LENGTH], at: usize) -> u32
     requires { ⌜ at < 17 ⌝ }
+    ensures { λ r. ⌜ r ≡ numberAt (now (b .entry)) at ⌝ }
 {
     word(b[at], b[at + 1], b[at + 2], b[at + 3])
 }
 
-pub fn of_bytes(b: &[u8; LENGTH]) -> Record {
+pub fn of_bytes(b: &[u8; LENGTH]) -> Record
+    ensures { λ r. ⌜ r ≡ recordIn (now (b .entry)) ⌝ }
+{
     Record {
         kind: word_at(b, 0),
         live_slot: word_at(b, 4),
@@ -31,12 +36,13 @@ pub fn of_bytes(b: &[u8; LENGTH]) -> Record {
 
 fn byte_of(n: u32, unit: u32) -> u8
     requires { ⌜ 0 < unit ⌝ }
+    ensures { λ r. ⌜ r ≡ byteOf n unit ⌝ }
 {
     (n / unit % 256) as u8
 }
 
 pub fn to_bytes(r: Record) -> [u8; LENGTH]
-    ensures { λ b. ⌜ 20 ≡ length b ⌝ }
+    ensures { λ b. ⌜ b ≡ recordBytes r ⌝ }
 {
     [
         byte_of(r.kind, 1),
