@@ -38,6 +38,7 @@ CITED = [
     "held rec store = record { rec = some rec; bytes = store }",
     "recordOf kind slot len rotating candidate = record { kind = kind; «live_slot» = slot; «live_len» = len; rotating = rotating; «candidate_len» = candidate }",
     "word c = outcome c .word",
+    "before c = outcome c .before",
     "after c = outcome c .after",
 ]
 

@@ -3,8 +3,10 @@
 
     tools/believed.py            a line for each file: lines of code of the definitions reached, of the others, and the names of the others
     tools/believed.py --total    the total alone
-    tools/believed.py --check    docs/READING.md has exactly these files and types, with these numbers of lines
-    tools/believed.py --write    puts the numbers into docs/READING.md, and says which rows it lacks
+    tools/believed.py --check    docs/READING.md has exactly these files and types, with these numbers of lines, and tests/believed.txt the sums of them
+    tools/believed.py --write    puts the numbers into docs/READING.md and the sums into tests/believed.txt, and says which rows are lacking
+
+The sums are there so that no definition and no promise changes unseen: whoever changes one changes its line of tests/believed.txt too.
 
 It goes by names: from the names in the `ensures` of each exported function of `burgee`, and from every definition of `promises/specs`, through
 `use` lines to definitions, and on from the names in these. Lines of code are those that are neither blank nor comments; `use` lines
@@ -14,6 +16,7 @@ Two functions are not followed, since a law says what they are: a parser is prov
 relation of the law is read (PROVED below).
 """
 import glob
+import hashlib
 import os
 import re
 import sys
@@ -178,18 +181,20 @@ def reached(files):
 def main():
     files = load()
     seen, types = reached(files)
-    rows = []
+    rows, sums = [], []
     for path, file in files.items():
         read = sum(len(b["lines"]) for b in file.blocks if id(b) in seen)
         rest = [b for b in file.blocks if id(b) not in seen and b["name"]]
         if read:
             rows.append((path, read, sum(len(b["lines"]) for b in rest), [b["name"] for b in rest]))
+            sums.append(f"{short(path)} {sum_of(b for b in file.blocks if id(b) in seen)}\n")
     total = sum(r[1] for r in rows)
     stated = sum(r[1] for r in rows if r[0].startswith("crates/promises/"))
     totals = f"{total:,} lines in {len(rows)} files, {total - stated:,} of definitions and {stated} of promises"
     if "--total" in sys.argv:
         print(totals)
     elif "--check" in sys.argv or "--write" in sys.argv:
+        kept(sums, "--write" in sys.argv)
         page(rows, types, totals, "--write" in sys.argv)
     else:
         for path, read, rest, names in rows:
@@ -198,10 +203,35 @@ def main():
         print("types of the programs that answers are given in:", " ".join(sorted(types)))
 
 
+def short(path):
+    """The file as docs/READING.md names it."""
+    return path[len("crates/"):-len(".antt")].replace("/specs/", "/")
+
+
+def sum_of(blocks):
+    """A sum of definitions, whatever their comments and their layout."""
+    words = " ".join(word for block in blocks for line in block["lines"] for word in line.split())
+    return hashlib.sha256(words.encode()).hexdigest()[:16]
+
+
+def kept(sums, write):
+    """Compares tests/believed.txt with the sums, or writes it."""
+    name = "tests/believed.txt"
+    if write:
+        open(name, "w", encoding="utf-8").writelines(sums)
+    old = open(name, encoding="utf-8").readlines() if os.path.exists(name) else []
+    for line in sorted(set(sums) ^ set(old)):
+        if line in sums:
+            print(f"{name} has no such line, so this file changed: {line.strip()}")
+    if sums != old:
+        print(f"what has to be believed is not what {name} says; `tools/believed.py --write` renews it")
+        sys.exit(1)
+
+
 def page(rows, types, totals, write):
     name = "docs/READING.md"
     text = open(name, encoding="utf-8").read()
-    now = {path[len("crates/"):-len(".antt")].replace("/specs/", "/"): read for path, read, _, _ in rows}
+    now = {short(path): read for path, read, _, _ in rows}
     wrong, row = [], re.compile(r"^\| `([a-z0-9_]+/[A-Za-z/]+)` \| (\d+) \|", re.M)
     said = [file for file, _ in row.findall(text)]
     for file in sorted(set(now) - set(said)):

@@ -1,4 +1,4 @@
--- "One JSON value (RFC 8259) in our bytes and depth".
+-- "one JSON value (RFC 8259) in our bytes and depth".
 use mathlib.Core.Path.{_≡_}
 use mathlib.Core.Bool.{Bool, true, _||_}
 use mathlib.Core.List.{List}

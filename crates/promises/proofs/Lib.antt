@@ -1,6 +1,7 @@
 pub mod AnyBytes
 pub mod Fits
 pub mod Words
+pub mod Leaves
 pub mod PathReturn
 pub mod Groups
 pub mod Verdicts

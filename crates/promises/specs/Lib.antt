@@ -1,5 +1,6 @@
 pub mod AnyBytes
 pub mod Words
+pub mod Leaves
 pub mod PathReturn
 pub mod First
 pub mod Groups

@@ -1,6 +1,6 @@
 -- The answer word read back: the header's readers, as definitions, give each call's answer from its word, and of a refusal they give the safe value.
 -- So nothing of an answer is left out of its word, and no two answers of a call share one.
-use Prim.Native.Nat.{ℕ, zero, suc, _/_, _%_, _^_}
+use Prim.Native.Nat.{ℕ, zero, suc, _/_, _%_, _<_, _^_}
 use mathlib.Core.Path.{_≡_}
 use mathlib.Core.Bool.{Bool, false}
 use mathlib.Core.Option.{Option, none, some}
@@ -36,7 +36,7 @@ use Rattle.rotation_probe.specs.Probe.{probePath, probeTree}
 use Rattle.rotation_probe.specs.Rpc.{probeRpc}
 use Rattle.rotation_probe.specs.declared.rpcs.RpcAnswer.{RpcAnswer}
 use Rattle.rotation_probe.specs.declared.rpcs.RpcAnswer.the-variants as probe
-use Rattle.burgee.specs.Calls.{PathRead, PathWrite, TableCheck, GroupCount, PathVerdict, TreeVerdict, PolicyCheck, RpcVerdict, word}
+use Rattle.burgee.specs.Calls.{PublicCall, PathRead, PathWrite, TableCheck, GroupCount, PathVerdict, TreeVerdict, PolicyCheck, RpcVerdict, word}
 use Rattle.burgee.specs.Calls.{Start, Upload, Finalize, Close, ProbePath, ProbeTree, ProbeRpc}
 
 -- ---- the header's readers
@@ -78,86 +78,92 @@ lessOne (suc n) = some n
 unfoldable pub number : ℕ → Option ℕ
 number w = lessOne (accepted w / 2 ^ 8 % 2 ^ 16)
 
--- ---- an answer as the readers tell it
+-- ---- an answer as the readers tell it; none where their parts are no answer's
 
 -- by whether the call was refused
-abbrev told : {A : Type 0} → A → A → ℕ → A
-told refused given w = if eqb (refusal w) 0 then given else refused
+abbrev told : {A : Type 0} → A → Option A → ℕ → Option A
+told refused given w = if eqb (refusal w) 0 then given else some refused
 
-abbrev pub toldFilled : ℕ → Filled
-toldFilled w = told (filled.Refused (refusal w)) (filled.Length (filledLength w)) w
+abbrev pub toldFilled : ℕ → Option Filled
+toldFilled w = told (filled.Refused (refusal w)) (some (filled.Length (filledLength w))) w
 
-abbrev pub toldChecked : ℕ → Checked
-toldChecked w = told (checked.Refused (refusal w) (line w)) checked.Accepted w
+-- an answer without parts
+unfoldable pub plain : {A : Type 0} → A → ℕ → Option A
+plain a n = if eqb n 0 then some a else none
 
-unfoldable pub countedBy : ℕ → Option ℕ → Counted
-countedBy n none = counted.NoGroup
-countedBy n (some g) = counted.Count n (record { 0 = g })
+abbrev pub toldChecked : ℕ → Option Checked
+toldChecked w = told (checked.Refused (refusal w) (line w)) (plain checked.Accepted (accepted w)) w
 
-abbrev pub toldCounted : ℕ → Counted
+unfoldable pub countedBy : ℕ → Option ℕ → Option Counted
+countedBy n none = plain counted.NoGroup n
+countedBy n (some g) = some (counted.Count n (record { 0 = g }))
+
+abbrev pub toldCounted : ℕ → Option Counted
 toldCounted w = told (counted.Declined (refusal w) (line w)) (countedBy (count w) (number w)) w
 
-unfoldable pub pathBy : Bool → Option ℕ → PathAnswer
-pathBy permits none = path.Default
-pathBy permits (some r) = if permits then path.Permit (record { 0 = r }) else path.Deny (record { 0 = r })
+unfoldable pub pathBy : Bool → Option ℕ → Option PathAnswer
+pathBy permits none = if permits then none else some path.Default
+pathBy permits (some r) = some (if permits then path.Permit (record { 0 = r }) else path.Deny (record { 0 = r }))
 
-abbrev pub toldPath : ℕ → PathAnswer
+abbrev pub toldPath : ℕ → Option PathAnswer
 toldPath w = told (path.Refused (refusal w) (line w)) (pathBy (permitted w) (number w)) w
 
-unfoldable pub mixedBy : Option ℕ → TreeAnswer
-mixedBy none = trees.None
-mixedBy (some r) = trees.Mixed (record { 0 = r })
+unfoldable pub treeBy : ℕ → Option ℕ → Option TreeAnswer
+treeBy n none = if eqb n 0 then some trees.None else if eqb n 1 then some trees.All else none
+treeBy n (some r) = if eqb n 2 then some (trees.Mixed (record { 0 = r })) else none
 
-unfoldable pub treeBy : ℕ → Option ℕ → TreeAnswer
-treeBy n rule = if eqb n 1 then trees.All else if eqb n 2 then mixedBy rule else trees.None
-
-abbrev pub toldTree : ℕ → TreeAnswer
+abbrev pub toldTree : ℕ → Option TreeAnswer
 toldTree w = told (trees.Refused (refusal w) (line w)) (treeBy (tree w) (number w)) w
 
-abbrev pub toldPolicy : ℕ → Check
-toldPolicy w = told (policy.Refused (refusal w)) policy.Accepted w
+abbrev pub toldPolicy : ℕ → Option Check
+toldPolicy w = told (policy.Refused (refusal w)) (plain policy.Accepted (accepted w)) w
 
-unfoldable pub rpcBy : Bool → Option ℕ → Verdict
-rpcBy permits none = rpc.Default
-rpcBy permits (some r) = if permits then rpc.Permitted r else rpc.Denied r
+abbrev byRule : Bool → ℕ → Verdict
+byRule permits r = if permits then rpc.Permitted r else rpc.Denied r
 
-abbrev pub toldRpc : ℕ → Verdict
+unfoldable pub rpcBy : Bool → Option ℕ → Option Verdict
+rpcBy permits none = if permits then none else some rpc.Default
+rpcBy permits (some r) = some (byRule permits r)
+
+abbrev pub toldRpc : ℕ → Option Verdict
 toldRpc w = told (rpc.Refused (refusal w)) (rpcBy (permitted w) (number w)) w
 
 -- a permit that names no rule is factory's
-unfoldable pub probeBy : Bool → Option ℕ → RpcAnswer
-probeBy permits none = if permits then probe.PermitAll else probe.Judged rpc.Default
-probeBy permits (some r) = probe.Judged (rpcBy permits (some r))
+unfoldable pub probeBy : Bool → Option ℕ → Option RpcAnswer
+probeBy permits none = some (if permits then probe.PermitAll else probe.Judged rpc.Default)
+probeBy permits (some r) = some (probe.Judged (byRule permits r))
 
-abbrev pub toldProbe : ℕ → RpcAnswer
+abbrev pub toldProbe : ℕ → Option RpcAnswer
 toldProbe w = told (probe.Judged (rpc.Refused (refusal w))) (probeBy (permitted w) (number w)) w
 
 -- ---- the promise
 
 -- each call's answer, from its word
 pub record Words : Type 0 where
-  pub path-read : (text out : Str) → toldFilled (word (PathRead text out)) ≡ answer out (bytesFor text)
-  pub path-write : (bytes out : Str) → toldFilled (word (PathWrite bytes out)) ≡ answer out (textFor bytes)
-  pub table-check : (table : Str) → toldChecked (word (TableCheck table)) ≡ check table
-  pub group-count : (table user : Str) → toldCounted (word (GroupCount table user)) ≡ groupCount table user
+  pub path-read : (text out : Str) → toldFilled (word (PathRead text out)) ≡ some (answer out (bytesFor text))
+  pub path-write : (bytes out : Str) → toldFilled (word (PathWrite bytes out)) ≡ some (answer out (textFor bytes))
+  pub table-check : (table : Str) → toldChecked (word (TableCheck table)) ≡ some (check table)
+  pub group-count : (table user : Str) → toldCounted (word (GroupCount table user)) ≡ some (groupCount table user)
   pub path-verdict : (table user : Str) (mode : ℕ) (origin path : Str)
-      → toldPath (word (PathVerdict table user mode origin path)) ≡ pathVerdict table user mode origin path
+      → toldPath (word (PathVerdict table user mode origin path)) ≡ some (pathVerdict table user mode origin path)
   pub tree-verdict : (table user : Str) (mode : ℕ) (origin path : Str)
-      → toldTree (word (TreeVerdict table user mode origin path)) ≡ treeVerdict table user mode origin path
-  pub policy-check : (policy : Str) → toldPolicy (word (PolicyCheck policy)) ≡ checkOf (policyRefusal policy)
+      → toldTree (word (TreeVerdict table user mode origin path)) ≡ some (treeVerdict table user mode origin path)
+  pub policy-check : (policy : Str) → toldPolicy (word (PolicyCheck policy)) ≡ some (checkOf (policyRefusal policy))
   pub rpc-verdict : (policy identity path headers : Str)
-      → toldRpc (word (RpcVerdict policy identity path headers)) ≡ rpcVerdict policy identity path headers
-  pub started : (rec : Record) (store : Str) → toldChecked (word (Start rec store)) ≡ start rec (length store) .answer
+      → toldRpc (word (RpcVerdict policy identity path headers)) ≡ some (rpcVerdict policy identity path headers)
+  pub started : (rec : Record) (store : Str) → toldChecked (word (Start rec store)) ≡ some (start rec (length store) .answer)
   pub uploaded : (rec : Record) (store text : Str)
-      → toldChecked (word (Upload rec store text)) ≡ upload offeredCheck rec (length store) text .answer
-  pub finalized : (rec : Record) (store : Str) → toldChecked (word (Finalize rec store)) ≡ finalize rec (length store) .answer
-  pub closed : (rec : Record) (store : Str) → toldChecked (word (Close rec store)) ≡ close rec (length store) .answer
+      → toldChecked (word (Upload rec store text)) ≡ some (upload offeredCheck rec (length store) text .answer)
+  pub finalized : (rec : Record) (store : Str) → toldChecked (word (Finalize rec store)) ≡ some (finalize rec (length store) .answer)
+  pub closed : (rec : Record) (store : Str) → toldChecked (word (Close rec store)) ≡ some (close rec (length store) .answer)
   pub probe-path : (rec : Record) (store user : Str) (mode : ℕ) (origin path : Str)
-      → toldPath (word (ProbePath rec store user mode origin path)) ≡ probePath rec store user mode origin path
+      → toldPath (word (ProbePath rec store user mode origin path)) ≡ some (probePath rec store user mode origin path)
   pub probe-tree : (rec : Record) (store user : Str) (mode : ℕ) (origin path : Str)
-      → toldTree (word (ProbeTree rec store user mode origin path)) ≡ probeTree rec store user mode origin path
+      → toldTree (word (ProbeTree rec store user mode origin path)) ≡ some (probeTree rec store user mode origin path)
   pub probe-rpc : (rec : Record) (store identity path headers : Str)
-      → toldProbe (word (ProbeRpc rec store identity path headers)) ≡ probeRpc rec store identity path headers
+      → toldProbe (word (ProbeRpc rec store identity path headers)) ≡ some (probeRpc rec store identity path headers)
+  -- bits 40 to 63 are 0
+  pub nothing-above : (c : PublicCall) → word c < 2 ^ 40
 
 -- of a refusal every reader gives the safe value: deny, NONE, no rule, no group, 0
 pub record Safe (w : ℕ) (refused : refusal w ≡ 0 → ⊥) : Type 0 where
