@@ -3,7 +3,7 @@ use native.Mathlib.Omega.{arith}
 use native.Mathlib.Nat.{div-div-eq-div-mul, div-one, mod-eq-of-lt}
 use Prim.Native.Nat.{ℕ, _/_}
 use mathlib.Core.Path.{_≡_}
-use Rattle.cli_record.specs.Bytes.{byteOf, fourBytes, recordBytes, ofFourBytes, numberAt, recordIn, Of32Bits, NumbersOf32Bits, ReadsBack}
+use Rattle.cli_record.specs.Bytes.{byteOf, fourBytes, recordBytes, ofFourBytes, numberAt, recordIn, Of32Bits, ReadsBack}
 
 -- each unit is the one below it, 256 times, and of the highest no more than 255 are left
 number-back : (n : ℕ) → Of32Bits n → ofFourBytes (byteOf n 1) (byteOf n 256) (byteOf n 65536) (byteOf n 16777216) ≡ n
