@@ -51,15 +51,15 @@ command_line cli_probe/src/lib.rt the origin of a probe left out: in table s/inp
 command_line cli_probe/src/lib.rt a probe of the tree is one of the path: in table s/            is_tree,/            false,/
 lines cli_policy/src/refusal.rt no line with refusal 38: in line s/38 < number/37 < number/
 lines cli_console/src/lines.rt the line before the fault: in number_at s/if p < at/if p <= at/
-command_line cli_console/src/refusal.rt a line without LF is not told: in tell_end s/crate::lines::is_open(text, line)/false/
+command_line cli_console/src/refusal.rt a line without LF is not told: in quote_line s/crate::lines::is_open(text, line)/false/
 lines cli_console/src/say.rt bytes that do not print are printed: in quote_from s/text_search::print_end(s, at)/s.len()/
 readable cli/src/main.rt a long readable text is cut: s/TEXT_ROOM: usize = 131073/TEXT_ROOM: usize = 40000/
 command_line cli/src/main.rt a long table is cut: s/TEXT_ROOM: usize = 131073/TEXT_ROOM: usize = 32768/
 rotation cli_readable/src/lib.rt pack saves nothing: in pack_table s/words == 4/false/
 command_line cli_table/src/tables.rt group 63 not listed: in list s/g < limits/g + 1 < limits/
-command_line cli_table/src/explanation.rt two rules explained at most: in ranked s/while i < m/while (i < m) \& (i < 2)/
-command_line cli_table/src/explanation.rt 255 rules explained at most: in ranked s/while i < m/while (i < m) \& (i < 255)/
-command_line cli_table/src/explanation.rt each rule compared with itself: in ranked s/order\[0\]/order[i]/
+command_line cli_explained/src/lib.rt two rules explained at most: in ranking s/while i < m/while (i < m) \& (i < 2)/
+command_line cli_explained/src/lib.rt 255 rules explained at most: in ranking s/while i < m/while (i < m) \& (i < 255)/
+command_line cli_explained/src/lib.rt each rule compared with itself: in ranking s/order\[0\]/order[i]/
 command_line cli_explained/src/lib.rt reasons exchanged, elements and keys: in step_name {s/Step::Elements/Step::Swap/; s/Step::Keys/Step::Elements/; s/Step::Swap/Step::Keys/}
 command_line cli_explained/src/lib.rt reasons exchanged, subject and action: in step_name {s/Step::Subject/Step::Swap/; s/Step::Action/Step::Subject/; s/Step::Swap/Step::Action/}
 command_line cli_explained/src/lib.rt reasons exchanged, action and id: in step_name {s/Step::Action/Step::Swap/; s/Step::Id/Step::Action/; s/Step::Swap/Step::Id/}
@@ -68,9 +68,9 @@ usage cli_help/src/lib.rt exit statuses 2 and 3 exchanged in help: in all {s/, 2
 usage cli_show/src/marks.rt a refusal is marked as a complaint: s/b"1"/b"2"/
 usage cli_show/src/marks.rt a complaint is marked as a refusal: s/b"2"/b"1"/
 usage cli_show/src/marks.rt the end is not marked: s/b"0"/b""/
-usage cli_console/src/refusal.rt a refusal is not marked: in tell s/cli_show::marks::refusal();//
+usage cli_console/src/refusal.rt a refusal is not marked: in at s/cli_show::marks::refusal();//
 usage cli_console/src/say.rt a file that cannot be read is not marked: in failure s/cli_show::marks::complaint();//
-usage cli_readable/src/lib.rt show and pack tell refusals on standard output: in refuse s/of_text_to(2/of_text_to(1/
+usage cli_readable/src/lib.rt show and pack tell refusals on standard output: in refuse s/first_to(2/first_to(1/
 rotation cli_rotation/src/steps.rt a rotation in standard input: in run s/cli_console::input::is_standard(3)/false/
 rotation cli_readable/src/lib.rt a table saved as a file named -: in save s/cli_console::input::is_standard(i)/false/
 command_line cli_rotation/src/steps.rt start, finalize, close and show take more words: in takes s/words == 4/3 < words/
