@@ -163,6 +163,8 @@ exports | an answer that is not read back | ProbeTree: a call, but not among the
     sed -i '/word (ProbeTree/d' crates/promises/specs/Words.antt
 exports | a row twice | two rows
     sed -i '/^| `burgee_tree_verdict`/p' docs/PROMISES.md
+promises | a crate named that is not there | policy_faults: a crate that docs/PROMISES.md names, but not there
+    sed -i 's/`policy_fault`/`policy_faults`/' docs/PROMISES.md
 promises | a promise's row dropped | Rotation: in crates/promises/specs, but not
     sed -i '/^| `Rotation` |/d' docs/PROMISES.md
 promises | a promise dropped | Rotation: in the first table of docs/PROMISES.md, but not

@@ -5,7 +5,7 @@
   other promise cites, is proved: the file of its name in proofs/ has a theorem of that very type, with the same parameters.
 - Each must-fail edit is named, and each that is named is there. Those that change a definition are marked with a dagger, and no others. Each exported call
   has two at least, and one of them changes a program.
-- Each file and folder that the page names is there. Each folder of crates/ is a crate that is proved, `promises` among them.
+- Each file, folder and crate that the page names is there. Each folder of crates/ is a crate that is proved, `promises` among them.
 """
 import glob
 import re
@@ -166,12 +166,22 @@ def try_crates():
     same(listed, "in crates.txt", {path.name for path in Path("crates").iterdir() if path.is_dir()}, "a folder of crates/")
 
 
+def try_named_crates(page):
+    """A word of the page that begins as crates do, and is no exported call, is a crate."""
+    crates = {path.name for path in Path("crates").iterdir()}
+    rooms = {crate.split("_")[0] for crate in crates}
+    for name in sorted(set(re.findall(r"`([a-z]+(?:_[a-z]+)+)`", page)) - crates):
+        if name.split("_")[0] in rooms and not name.startswith("burgee_"):
+            fail(f"{name}: a crate that {PAGE} names, but not there")
+
+
 def main():
     page = Path(PAGE).read_text(encoding="utf-8")
     promises = try_promises({re.match(r"\| `(\w+)`", row)[1] for row in table(page, "file")})
     edits = try_edits(page)
     try_files(page)
     try_crates()
+    try_named_crates(page)
     if not failures:
         print(f"promises: {promises} with their theorems, {edits} edits, ok")
 
