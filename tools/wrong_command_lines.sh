@@ -50,13 +50,13 @@ command_line cli/src/main.rt the origin left out: in verdict s/input::word(5/inp
 command_line cli_probe/src/lib.rt the origin of a probe left out: in table s/input::word(6/input::word(9/
 command_line cli_probe/src/lib.rt a probe of the tree is one of the path: in table s/            is_tree,/            false,/
 lines cli_policy/src/refusal.rt no line with refusal 38: in line s/38 < number/37 < number/
-lines cli_console/src/lines.rt the line before the fault: in number_at s/if p < at/if p <= at/
+lines cli_console/src/lines.rt the line before the fault: in number_at s/while i < p/while i + 1 < p/
 command_line cli_console/src/refusal.rt a line without LF is not told: in quote_line s/crate::lines::is_open(text, line)/false/
-lines cli_console/src/say.rt bytes that do not print are printed: in quote_from s/text_search::print_end(s, at)/s.len()/
+lines cli_console/src/quote.rt bytes that do not print are printed: in add_byte s/text::byte::is_print(b)/true/
 readable cli/src/main.rt a long readable text is cut: s/TEXT_ROOM: usize = 131073/TEXT_ROOM: usize = 40000/
 command_line cli/src/main.rt a long table is cut: s/TEXT_ROOM: usize = 131073/TEXT_ROOM: usize = 32768/
 rotation cli_readable/src/lib.rt pack saves nothing: in pack_table s/words == 4/false/
-command_line cli_table/src/tables.rt group 63 not listed: in list s/g < limits/g + 1 < limits/
+command_line cli_answers/src/rows.rt group 63 not listed: in group_lines s/g < n/g + 1 < n/
 command_line cli_explained/src/lib.rt two rules explained at most: in ranking s/while i < m/while (i < m) \& (i < 2)/
 command_line cli_explained/src/lib.rt 255 rules explained at most: in ranking s/while i < m/while (i < m) \& (i < 255)/
 command_line cli_explained/src/lib.rt each rule compared with itself: in ranking s/order\[0\]/order[i]/

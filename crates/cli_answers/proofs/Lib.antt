@@ -1,3 +1,4 @@
 pub mod Naming
 pub mod PathLines
 pub mod Whole
+pub mod Grouping

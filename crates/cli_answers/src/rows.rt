@@ -1,13 +1,19 @@
 // The lines on the rows of a table and on a user's groups, made in a buffer.
-ghost use Prim.Native.Nat.{_+_, _≤_};
+ghost use Prim.Native.Nat.{_+_, _*_, _≤_, _<_};
+ghost use mathlib.Core.List.{[]};
 ghost use lib.ListN.{length};
-ghost use Rattle.limits.specs.Limits.{maxString};
-ghost use Rattle.cli_show.specs.Added.{Added};
-ghost use Rattle.cli_answers.specs.Rows.{rowLines, groupsLine, groupLine};
+ghost use Rattle.limits.specs.Limits.{maxGroups};
+ghost use Rattle.table.specs.Group.{numbered};
+ghost use Rattle.table_membership.specs.Set.{hasOf, numbersIn};
+ghost use Rattle.cli_show.specs.Added.{Added, AddedUpTo};
+ghost use Rattle.cli_answers.specs.Rows.{rowLines, groupsLine, groupLine, groupLines, maxGroupLine};
 use cli_show::add;
 use table::Counted;
 use table::GroupNumber;
 use table_facts::Row;
+
+// Room for a line on a group.
+pub const MAX_GROUP_LINE: usize = 28 + limits::MAX_STRING;
 
 // How many rows of each kind an accepted table has.
 pub fn counts(groups: usize, members: usize, rules: usize, out: &mut [u8]) -> usize
@@ -22,7 +28,7 @@ pub fn counts(groups: usize, members: usize, rules: usize, out: &mut [u8]) -> us
 // How many groups list a user; nothing for a refusal.
 pub fn groups(c: Counted, out: &mut [u8]) -> usize
     requires { ⌜ 28 ≤ length (now out) ⌝ }
-    ensures { λ n. ⌜ Added (now (out .entry)) 0 (groupsLine c) (now (out .exit)) n ⌝ }
+    ensures { λ n. ⌜ AddedUpTo 28 (now (out .entry)) 0 (groupsLine c) (now (out .exit)) n ⌝ }
 {
     match c {
         Counted::Count { count, first } => add::fact(b"groups ", count as u64, out, 0),
@@ -31,14 +37,40 @@ pub fn groups(c: Counted, out: &mut [u8]) -> usize
     }
 }
 
-// The number and the name of a group.
-pub fn group(text: &[u8], number: GroupNumber, out: &mut [u8]) -> usize
-    requires { ⌜ 28 + maxString ≤ length (now out) ⌝ }
-    ensures { λ n. ⌜ Added (now (out .entry)) 0 (groupLine (now (text .entry)) number) (now (out .exit)) n ⌝ }
+// The number and the name of a group, from `at` on.
+fn group(text: &[u8], number: GroupNumber, out: &mut [u8], at: usize) -> usize
+    requires { ⌜ at + maxGroupLine ≤ length (now out) ⌝ }
+    ensures { λ n. ⌜ AddedUpTo maxGroupLine (now (out .entry)) at (groupLine (now (text .entry)) number) (now (out .exit)) n ⌝ }
 {
-    let a = add::string(b"group ", out, 0);
+    let a = add::string(b"group ", out, at);
     let b = add::decimal(number.0 as u64, out, a);
     let c = add::string(b" ", out, b);
     let d = crate::lines::name(text, Row::Group(number), out, c);
     add::string(b"\n", out, d)
+}
+
+// The same of a group that the set has; nothing of another.
+fn group_in(text: &[u8], set: u64, number: GroupNumber, out: &mut [u8], at: usize) -> usize
+    requires { ⌜ (number .0 < maxGroups) × (at + maxGroupLine ≤ length (now out)) ⌝ }
+    ensures { λ n. ⌜ AddedUpTo maxGroupLine (now (out .entry)) at
+        (groupLines (now (text .entry)) (numbered (hasOf set (number .0)) (number .0) [])) (now (out .exit)) n ⌝ }
+{
+    if table_membership::has(set, number) {
+        return group(text, number, out, at);
+    }
+    at
+}
+
+// A line for each group of the set, of n groups, from `at` on.
+pub fn group_lines(text: &[u8], set: u64, n: usize, out: &mut [u8], at: usize) -> usize
+    requires { ⌜ (n ≤ maxGroups) × (at + n * maxGroupLine ≤ length (now out)) ⌝ }
+    ensures { λ r. ⌜ Added (now (out .entry)) at (groupLines (now (text .entry)) (numbersIn set n 0)) (now (out .exit)) r ⌝ }
+{
+    let mut end = at;
+    let mut g = 0;
+    while g < n {
+        end = group_in(text, set, GroupNumber(g as u8), out, end);
+        g += 1;
+    }
+    end
 }

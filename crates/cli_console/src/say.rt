@@ -1,30 +1,4 @@
-// Complaints on standard error, and lines of files as they stand.
-ghost use Prim.Native.Nat.{_≤_, _<_};
-ghost use lib.ListN.{length};
-
-// Prints the bytes from `at` on that print, and the byte behind them in hex after \x; answers where to go on.
-fn quote_from(to: i32, s: &[u8], at: usize) -> usize
-    requires { ⌜ at < length (now s) ⌝ }
-    ensures { λ r. ⌜ (at < r) × (r ≤ length (now (s .entry))) ⌝ }
-{
-    let end = text_search::print_end(s, at);
-    cli_show::word_to(to, &s[at..end]);
-    if end < s.len() {
-        cli_show::word_to(to, b"\\x");
-        cli_show::hex_to(to, s[end]);
-        return end + 1;
-    }
-    end
-}
-
-// A line of a file as it stands, but for bytes that do not print: those in hex after \x.
-pub fn quote(to: i32, s: &[u8]) {
-    let mut at = 0;
-    while at < s.len() {
-        at = quote_from(to, s, at);
-    }
-    cli_show::word_to(to, b"\n");
-}
+// Complaints on standard error.
 
 // How a command is called, which may hang on the word after it; and the page of help to look at.
 fn hint(page: &[u8]) {

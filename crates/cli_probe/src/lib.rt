@@ -1,4 +1,6 @@
 // The probes of a rotation: a request judged on what is in force.
+pub mod lines;
+
 use cli_answers::lines::Fallback;
 use rotation::Record;
 use rotation_probe::force::Source;
@@ -87,19 +89,24 @@ pub fn table(r: Record, store: &[u8], is_tree: bool) {
     }
 }
 
-// A probe's answer, with the text that names the rules.
-fn answer_rpc(r: Record, store: &[u8], a: RpcAnswer) {
-    match a {
-        RpcAnswer::PermitAll => cli_show::line(b"permit\nfactory"),
-        RpcAnswer::Judged(v) => answer_judged(r, store, v),
+// A probe's answer; `policy` names the rules.
+fn tell_rpc(policy: &[u8], a: RpcAnswer) {
+    let mut out = [0u8; cli_show::add::MAX_LINES];
+    let n = lines::rpc(policy, a, &mut out);
+    cli_show::first(&out, n);
+    if let RpcAnswer::Judged(v) = a {
+        if let Verdict::Refused(number) = v {
+            cli_policy::refusal::tell(policy, number);
+        }
     }
 }
 
-fn answer_judged(r: Record, store: &[u8], v: Verdict) {
+// The same, with the text in force.
+fn answer_rpc(r: Record, store: &[u8], a: RpcAnswer) {
     let s = rotation_probe::force::find_source(r, store.len(), 1);
     match s {
-        Source::Part { start, end } => cli_policy::rpcs::answer(&store[start..end], v),
-        _ => cli_policy::rpcs::answer(b"", v),
+        Source::Part { start, end } => tell_rpc(&store[start..end], a),
+        _ => tell_rpc(b"", a),
     }
 }
 

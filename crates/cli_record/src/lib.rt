@@ -4,6 +4,7 @@ pub mod lines;
 ghost use mathlib.Core.Path.{_≡_};
 ghost use Prim.Native.Nat.{_<_};
 ghost use Rattle.cli_record.specs.Bytes.{byteOf, recordBytes, ofFourBytes, numberAt, recordIn};
+ghost use Rattle.cli_record.specs.Factory.{factoryRecord};
 use rotation::Record;
 
 // How many bytes of a file are its record.
@@ -69,7 +70,9 @@ pub fn to_bytes(r: Record) -> [u8; LENGTH]
 }
 
 // No live text, no rotation, no candidate.
-pub fn factory(kind: u32) -> Record {
+pub fn factory(kind: u32) -> Record
+    ensures { λ r. ⌜ r ≡ factoryRecord kind ⌝ }
+{
     Record {
         kind: kind,
         live_slot: 0,

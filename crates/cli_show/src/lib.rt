@@ -63,23 +63,10 @@ fn wide(b: u8) -> u64 {
     b as u64
 }
 
-// A line with a number.
-pub fn number(n: u8) {
-    decimal(wide(n));
-    word(b"\n");
-}
-
 pub fn hex(s: &[u8]) {
     let mut i = 0;
     while i < s.len() {
         expect(io::print_hex(1, wide(s[i]), 2));
         i += 1;
     }
-}
-
-// One byte.
-pub fn hex_to(to: i32, b: u8) {
-    let mut digits = [0u8; 16];
-    let d = io::hex(wide(b), 2, &mut digits);
-    word_to(to, &digits[..d]);
 }

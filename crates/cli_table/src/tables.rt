@@ -1,8 +1,18 @@
 // A rule table's check, a user's groups, the verdicts.
+ghost use mathlib.Core.Path.{_≡_};
+ghost use Prim.Native.Nat.{_+_, _*_, _≤_};
+ghost use lib.ListN.{length};
+ghost use Rattle.limits.specs.Limits.{maxGroups};
+ghost use Rattle.table.specs.Group.{groupCount};
+ghost use Rattle.cli_show.specs.Added.{Added};
+ghost use Rattle.cli_answers.specs.Rows.{maxGroupLine, groupsText};
+ghost use Rattle.cli_answers.specs.Steps.{ListsGroups};
 use cli_answers::lines::Fallback;
 use table::Counted;
-use table::GroupNumber;
 use table_check::Seen;
+
+// Room for how many groups there are, and a line for each.
+const MAX_GROUPS_TEXT: usize = 28 + limits::MAX_GROUPS * cli_answers::rows::MAX_GROUP_LINE;
 
 // How many rows of each kind an accepted table has, or why it is refused.
 pub fn check(text: &[u8]) {
@@ -22,39 +32,40 @@ pub fn check(text: &[u8]) {
     }
 }
 
-// The number and the name of a group.
-fn group(text: &[u8], number: GroupNumber) {
-    let mut out = [0u8; cli_show::add::MAX_LINES];
-    let n = cli_answers::rows::group(text, number, &mut out);
-    cli_show::first(&out, n);
+// A line for each group that lists the user, from `at` on; nothing where the table is refused.
+fn list(text: &[u8], user: &[u8], out: &mut [u8], at: usize) -> usize
+    requires { ⌜ at + maxGroups * maxGroupLine ≤ length (now out) ⌝ }
+    ensures { λ r. ⌜ ListsGroups (now (text .entry)) (now (user .entry)) (now (out .entry)) at (now (out .exit)) r ⌝ }
+{
+    let s = table_check::look(text, user);
+    let Seen::Table { counts, set } = s else {
+        return at;
+    };
+    cli_answers::rows::group_lines(text, set, counts.groups, out, at)
 }
 
-// Each group that lists the user.
-fn list(text: &[u8], user: &[u8]) {
-    let Seen::Table { counts, set } = table_check::look(text, user) else {
-        return;
-    };
-    let mut g = 0;
-    while g < limits::MAX_GROUPS {
-        let number = GroupNumber(g as u8);
-        if table_membership::has(set, number) {
-            group(text, number);
-        }
-        g += 1;
+// How many groups list the user, as c says, and each of them; nothing for a refusal.
+fn tell_groups(text: &[u8], user: &[u8], c: Counted, out: &mut [u8]) -> usize
+    requires { ⌜ (c ≡ groupCount (now text) (now user)) × (28 + maxGroups * maxGroupLine ≤ length (now out)) ⌝ }
+    ensures { λ r. ⌜ Added (now (out .entry)) 0 (groupsText (now (text .entry)) (now (user .entry))) (now (out .exit)) r ⌝ }
+{
+    let at = cli_answers::rows::groups(c, out);
+    match c {
+        Counted::Count { count, first } => list(text, user, out, at),
+        Counted::NoGroup => at,
+        Counted::Declined { number, line } => at,
     }
 }
 
-// How many groups list the user, and each of them.
+// How many groups list the user, and each of them; or the refusal.
 pub fn groups(text: &[u8], user: &[u8]) {
     cli_names::tell(text, user);
     let c = table_check::count_groups(text, user);
-    let mut out = [0u8; cli_show::add::MAX_LINES];
-    let n = cli_answers::rows::groups(c, &mut out);
+    let mut out = [0u8; MAX_GROUPS_TEXT];
+    let n = tell_groups(text, user, c, &mut out);
     cli_show::first(&out, n);
-    match c {
-        Counted::Count { count, first } => list(text, user),
-        Counted::NoGroup => {}
-        Counted::Declined { number, line } => cli_console::refusal::of_text(text, number, line),
+    if let Counted::Declined { number, line } = c {
+        cli_console::refusal::of_text(text, number, line);
     }
 }
 

@@ -101,6 +101,7 @@ module _ {text buf : List ℕ} {u : ℕ} {c : Counts} {groups users owners start
   told user = record {
     accepts = K .accepts;
     groups = sym named-long;
+    few = K .holds .few .0;
     members = sym members-long;
     rules = sym (K .holds .rules-count);
     has = grouped user;

@@ -1,7 +1,8 @@
 -- What a look at a table text tells.
-use Prim.Native.Nat.{ℕ}
+use Prim.Native.Nat.{ℕ, _≤_}
 use mathlib.Core.Path.{_≡_}
 use lib.ListN.{length}
+use Rattle.limits.specs.Limits.{maxGroups}
 use Rattle.text.specs.String.{Str}
 use Rattle.table.specs.Text.{check, tableOf}
 use Rattle.table.specs.Group.{groupCount}
@@ -15,6 +16,7 @@ use Rattle.table_check.specs.declared.Seen.the-variants.{Table, Refused}
 pub record TableTold (text user : Str) (c : Counts) (set : ℕ) : Type 0 where
   pub accepts : check text ≡ checked.Accepted
   pub groups : c .groups ≡ length (tableOf text .groups)
+  pub few : c .groups ≤ maxGroups
   pub members : c .members ≡ length (tableOf text .members)
   pub rules : c .rules ≡ length (tableOf text .rules)
   pub has : UserGroups (tableOf text) user set

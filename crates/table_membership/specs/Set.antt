@@ -14,7 +14,7 @@ use Rattle.table_place.specs.Place.{strIn}
 use Rattle.table_rows.specs.Strings.{Listed}
 use Rattle.table_keep.specs.Held.{Owned}
 use Rattle.table.specs.Table.{Table}
-use Rattle.table.specs.Group.{lists, badUser}
+use Rattle.table.specs.Group.{lists, numbered, badUser}
 use Rattle.table.specs.declared.Counted.{Counted}
 use Rattle.table.specs.declared.Counted.the-variants.{Count, NoGroup, Declined}
 use Rattle.table.specs.declared.GroupNumber.{GroupNumber}
@@ -27,6 +27,11 @@ insertOf set g = bitOr set (2 ^ g)
 -- group g is in the set
 abbrev pub hasOf : ℕ → ℕ → Bool
 hasOf set g = eqb (set / 2 ^ g % 2) 1
+
+-- the numbers in the set among n from i on, rising
+unfoldable pub numbersIn : ℕ → ℕ → ℕ → List ℕ
+numbersIn set zero i = []
+numbersIn set (suc n) i = numbered (hasOf set i) i (numbersIn set n (suc i))
 
 -- the set has the numbers of the groups that list the user
 abbrev pub UserGroups : Table → Str → ℕ → Type 0

@@ -9,16 +9,17 @@ use Rattle.cli_answers.proofs.rows.groups.Tie as tie
 returns : tie.Need-returns
 unfolding groupsLine
 returns c = let at-c = c .before .before .before .before .before .before in
-    rw (at-c .c .given .1) (c .before .before .fact .ensures .added)
+    rw (at-c .c .given .1) (c .before .before .fact .ensures)
 
 returns-2 : tie.Need-returns-2
 unfolding groupsLine
 returns-2 c = let at-enum-told = c .before .before .before .before .before in
-    rw (at-enum-told .enum-told .given .1) (c .before .before .string .ensures)
+    let a = c .before .before .string .ensures in
+    rw (at-enum-told .enum-told .given .1) (record { added = a; short = omega (arith, a .wrote .ends) })
 
 returns-3 : tie.Need-returns-3
 unfolding groupsLine
-returns-3 c = rw (c .before .c2 .given .1) (nothing-added _ _ (omega arith))
+returns-3 c = rw (c .before .c2 .given .1) (record { added = nothing-added _ _ (omega arith); short = omega arith })
 
 pub groups-spec : {M : Type 1} → statement M
 groups-spec = tie.close (tie.spec (λ c. search needs) (λ c. search needs) (λ c. search needs) (λ c κs. search needs)

@@ -5,9 +5,9 @@ use Rattle.text_search.proofs.Searching.{found-high}
 use Rattle.cli_console.proofs.lines.quote_at.Statement.{statement}
 use Rattle.cli_console.proofs.lines.quote_at.Tie as tie
 
-part-quote-end : tie.Need-part-quote-end
-part-quote-end c = found-high _ _ _ _ (omega arith) (c .find .ensures)
+part-print-end : tie.Need-part-print-end
+part-print-end c = found-high _ _ _ _ (omega arith) (c .find .ensures)
 
 pub quote-at-spec : {M : Type 1} → statement M
-quote-at-spec = tie.close (tie.spec (λ c κs. search needs) (λ c. search needs) (λ c. search needs) part-quote-end
+quote-at-spec = tie.close (tie.spec (λ c κs. search needs) (λ c. search needs) (λ c. search needs) part-print-end
     (λ c κs. search needs) (λ c. search needs))
