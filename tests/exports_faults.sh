@@ -161,6 +161,10 @@ exports | a row that leaves a call out | burgee_probe_tree: a call, but not amon
     sed -i 's/^| `burgee_probe_path`, `burgee_probe_tree` |/| `burgee_probe_path` |/' docs/PROMISES.md
 exports | an answer that is not read back | ProbeTree: a call, but not among the calls of crates/promises/specs/Words.antt
     sed -i '/word (ProbeTree/d' crates/promises/specs/Words.antt
+exports | a step whose answer is not read back | Close: a call, but not among the calls of crates/promises/specs/Words.antt
+    sed -i '/^publicly Close/d' crates/promises/specs/Leaves.antt
+exports | no step's answer is read back | Upload: a call, but not among the calls of crates/promises/specs/Words.antt
+    sed -i '/word (publicly/d' crates/promises/specs/Words.antt
 exports | a row twice | two rows
     sed -i '/^| `burgee_tree_verdict`/p' docs/PROMISES.md
 promises | a crate named that is not there | policy_faults: a crate that docs/PROMISES.md names, but not there

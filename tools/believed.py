@@ -12,8 +12,7 @@ It goes by names: from the names in the `ensures` of each exported function of `
 `use` lines to definitions, and on from the names in these. Lines of code are those that are neither blank nor comments; `use` lines
 are not counted. A name that is also that of a variable may reach too much, never too little.
 
-Two functions are not followed, since a law says what they are: a parser is proved to be a reader of what is believed. Instead of them the
-relation of the law is read (PROVED below).
+A function that a promise determines is not followed: whatever its definition says, the promise says what it answers (DETERMINED below).
 """
 import glob
 import hashlib
@@ -21,11 +20,26 @@ import os
 import re
 import sys
 
-# a function's file and name, and what the law about it names instead
-PROVED = {
-    ("TextReader", "readText"): [],  # promises/specs/PathReturn: Reads pathText readText
-    ("Parser", "parse"): [],  # promises/specs/Json: it reads exactly the texts of JsonText
+# a function's file and name, and the pages of promises that say what it answers, whatever it is given
+DETERMINED = {
+    ("path_read/TextReader", "readText"): ["PathReturn"],
+    ("json_grammar/Parser", "parse"): ["Json"],
+    ("path_read/Calls", "answer"): ["PathReturn"],
+    ("path_read/Calls", "lent"): ["PathReturn", "Leaves"],
+    ("table/Group", "groupCount"): ["Groups"],
+    ("verdict/Verdict", "tree"): ["Verdicts"],
+    ("verdict_request/Calls", "pathVerdict"): ["Verdicts"],
+    ("verdict_request/Calls", "treeVerdict"): ["Verdicts"],
+    ("rpc/Call", "rpcVerdict"): ["Rpc"],
+    ("rotation/Machine", "answers"): ["Rotation"],
+    ("rotation/Machine", "leaves"): ["Rotation"],
+    ("rotation_probe/Probe", "probePath"): ["Probes"],
+    ("rotation_probe/Probe", "probeTree"): ["Probes"],
+    ("rotation_probe/Rpc", "probeRpc"): ["Probes"],
+    ("burgee/Calls", "outcome"): ["Words", "Leaves"],
 }
+# of these not even those who compare definitions read the bodies: they are parsers
+PARSERS = {("path_read/TextReader", "readText"), ("json_grammar/Parser", "parse")}
 DECLARED = re.compile(r"^ *(unfoldable |abbrev |pub (record|data) |(record|data) \S.* where$)")
 PLAIN = re.compile(r"^ *pub \S+ :")
 NAME = re.compile(r"^ *(?:unfoldable |abbrev )?(?:pub )?(?:(record|data) )?([^\s:(){}]+)")
@@ -124,7 +138,8 @@ def contracts():
                     yield module, name
 
 
-def reached(files):
+def reached(files, unread):
+    """The blocks that are reached, and the types; the functions of `unread` are not followed."""
     seen, types, todo = set(), set(), []
 
     def want(module, name):
@@ -134,10 +149,7 @@ def reached(files):
         if ":" in path:
             types.add(path)
         elif path in files:
-            stem = os.path.basename(path)[:-5]
-            if (stem, name) in PROVED:
-                for other in PROVED[stem, name]:
-                    follow(files.get(os.path.join(os.path.dirname(path), other + ".antt")))
+            if (short(path), name) in unread:
                 return
             block = files[path].of.get(name)
             if block is None:
@@ -162,9 +174,8 @@ def reached(files):
         block = todo.pop()
         file = block["file"]
         tokens = words("\n".join(block["lines"]))
-        stem = os.path.basename(file.path)[:-5]
         for name, other in file.of.items():
-            if other is not block and mentions(name, tokens) and (stem, name) not in PROVED:
+            if other is not block and mentions(name, tokens) and (short(file.path), name) not in unread:
                 push(other)
         for name, (module, old) in file.imports.items():
             if mentions(name, tokens):
@@ -178,28 +189,48 @@ def reached(files):
     return seen, types
 
 
+def undetermined(files):
+    """The functions of DETERMINED that are gone, or that a page does not speak of."""
+    for (file, name), pages in DETERMINED.items():
+        crate, stem = file.split("/")
+        if name not in files[f"crates/{crate}/specs/{stem}.antt"].of:
+            yield f"{file} has no {name}"
+        for page in pages:
+            told = files[f"crates/promises/specs/{page}.antt"]
+            tokens = words("\n".join(line for block in told.blocks for line in block["lines"]))
+            if not any(mentions(said, tokens) for said in ([name] if name != "outcome" else ["word", "after"])):
+                yield f"promises/{page} does not speak of {name}"
+
+
 def main():
     files = load()
-    seen, types = reached(files)
-    rows, sums = [], []
+    seen, _ = reached(files, DETERMINED)
+    everything, types = reached(files, PARSERS)
+    rows, sums, strangers = [], [], list(undetermined(files))
     for path, file in files.items():
         read = sum(len(b["lines"]) for b in file.blocks if id(b) in seen)
         rest = [b for b in file.blocks if id(b) not in seen and b["name"]]
         if read:
             rows.append((path, read, sum(len(b["lines"]) for b in rest), [b["name"] for b in rest]))
-            sums.append(f"{short(path)} {sum_of(b for b in file.blocks if id(b) in seen)}\n")
+            strangers += [f"{short(path)} has {b['name']}, which nothing reaches" for b in rest if id(b) not in everything and (short(path), b["name"]) not in PARSERS]
+        if any(id(b) in everything for b in file.blocks):
+            sums.append(f"{short(path)} {sum_of(b for b in file.blocks if id(b) in everything)}\n")
     total = sum(r[1] for r in rows)
     stated = sum(r[1] for r in rows if r[0].startswith("crates/promises/"))
+    determined = sum(len(b["lines"]) for file in files.values() for b in file.blocks if id(b) in everything and id(b) not in seen)
     totals = f"{total:,} lines in {len(rows)} files, {total - stated:,} of definitions and {stated} of promises"
+    spared = f"{determined} lines of definitions"
     if "--total" in sys.argv:
         print(totals)
     elif "--check" in sys.argv or "--write" in sys.argv:
+        if strangers:
+            sys.exit("\n".join(strangers))
         kept(sums, "--write" in sys.argv)
-        page(rows, types, totals, "--write" in sys.argv)
+        page(rows, types, totals, spared, "--write" in sys.argv)
     else:
         for path, read, rest, names in rows:
             print(f"{read:5} {rest:4}  {path[len('crates/'):]}  {' '.join(names)}")
-        print(totals)
+        print(totals + f"; {spared} that promises determine")
         print("types of the programs that answers are given in:", " ".join(sorted(types)))
 
 
@@ -228,7 +259,7 @@ def kept(sums, write):
         sys.exit(1)
 
 
-def page(rows, types, totals, write):
+def page(rows, types, totals, spared, write):
     name = "docs/READING.md"
     text = open(name, encoding="utf-8").read()
     now = {short(path): read for path, read, _, _ in rows}
@@ -250,6 +281,9 @@ def page(rows, types, totals, write):
         lines = sum(int(n) for _, n in row.findall(part))
         parts[k] = re.sub(r"^(## .*): \d+ lines?, \d+ minutes?$", lambda m: f"{m.group(1)}: {lines} lines, {(lines + 5) // 10} minutes", part, flags=re.M)
     fresh = re.sub(r"[\d,]+ lines in \d+ files, [\d,]+ of definitions and \d+ of promises", totals, "".join(parts))
+    fresh = re.sub(r"[\d,]+ lines of definitions(?= that promises determine)", spared, fresh)
+    listed = set(re.findall(r"`(\w+)`", "".join(part for part in parts if part.startswith("## Functions that promises determine"))))
+    wrong += [f"{name} does not list `{function}` among those that promises determine" for _, function in DETERMINED if function not in listed]
     for old, new in zip(text.split("\n"), fresh.split("\n")):
         if old != new and not write:
             wrong.append(f"{name} says: {old[:90]}\n  and it is: {new[:90]}")

@@ -1,9 +1,8 @@
 -- What a call that stores is lent and leaves, as the other pages say it.
 use mathlib.Core.Path.{_≡_, refl}
-use Rattle.rotation.specs.Machine.{Call, Start, Upload, Finalize, Close, Lent, answers, leaves}
+use Rattle.rotation.specs.Machine.{Call, Start, Upload, Finalize, Close, Lent, leaves}
 use Rattle.rotation_upload.specs.Offered.{offeredCheck}
-use Rattle.burgee.specs.Word.{checkedWord}
-use Rattle.burgee.specs.Calls.{held, outcome, word, before, after}
+use Rattle.burgee.specs.Calls.{held, outcome, before, after}
 use Rattle.promises.specs.Leaves.{publicly, Leaves}
 
 was-lent : (c : Call) (l : Lent) → before (publicly c l) ≡ held (l .state) (l .store)
@@ -20,13 +19,6 @@ is-left (Upload text) l = refl
 is-left Finalize l = refl
 is-left Close l = refl
 
-is-answered : (c : Call) (l : Lent) → word (publicly c l) ≡ checkedWord (answers offeredCheck c l)
-unfolding outcome answers
-is-answered Start l = refl
-is-answered (Upload text) l = refl
-is-answered Finalize l = refl
-is-answered Close l = refl
-
 pub left : Leaves
 unfolding outcome
 left = record {
@@ -36,5 +28,4 @@ left = record {
   write-after = λ bytes out. refl;
   step-before = was-lent;
   step-after = is-left;
-  step-word = is-answered;
 }

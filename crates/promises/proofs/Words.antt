@@ -24,11 +24,14 @@ use Rattle.rpc.specs.declared.verdict.Verdict.{Verdict}
 use Rattle.rpc.specs.declared.verdict.Verdict.the-variants as rpc
 use Rattle.rotation_probe.specs.declared.rpcs.RpcAnswer.{RpcAnswer}
 use Rattle.rotation_probe.specs.declared.rpcs.RpcAnswer.the-variants as probe
+use Rattle.rotation.specs.Machine as step
+use Rattle.rotation_upload.specs.Offered.{offeredCheck}
 use Rattle.burgee.specs.Word.{upper, refusalWord, filledWord, checkedWord, countedWord, pathWord, treeWord, policyWord, rpcWord, rpcProbeWord}
 use Rattle.burgee.specs.Calls.{PublicCall, PathRead, PathWrite, TableCheck, GroupCount, PathVerdict, TreeVerdict, PolicyCheck, RpcVerdict, outcome, word}
 use Rattle.burgee.specs.Calls.{Start, Upload, Finalize, Close, ProbePath, ProbeTree, ProbeRpc}
 use Rattle.promises.specs.Words.{refusal, line, accepted, tree, lessOne, number, filledLength, Words, Safe}
 use Rattle.promises.specs.Words.{toldFilled, toldChecked, plain, countedBy, toldCounted, pathBy, toldPath, treeBy, toldTree, toldPolicy, rpcBy, toldRpc, probeBy, toldProbe}
+use Rattle.promises.specs.Leaves.{publicly}
 use Rattle.promises.proofs.Fits.{Refusal, FilledFits, CheckedFits, CountedFits, PathFits, TreeFits, PolicyFits, RpcFits, ProbeFits}
 use Rattle.promises.proofs.Fits.{read-fits, write-fits, check-fits, count-fits, path-fits, tree-fits, policy-fits, rpc-fits}
 use Rattle.promises.proofs.Fits.{start-fits, upload-fits, finalize-fits, close-fits, probe-path-fits, probe-tree-fits, probe-rpc-fits}
@@ -216,6 +219,13 @@ small (ProbePath rec store user mode origin path) = path-small _ (probe-path-fit
 small (ProbeTree rec store user mode origin path) = tree-small _ (probe-tree-fits rec store user mode origin path)
 small (ProbeRpc rec store identity path headers) = probe-small _ (probe-rpc-fits rec store identity path headers)
 
+step-told : (c : step.Call) (l : step.Lent) → toldChecked (word (publicly c l)) ≡ some (step.answers offeredCheck c l)
+unfolding outcome step.answers
+step-told step.Start l = checked-told _ (start-fits (l .state) (length (l .store)))
+step-told (step.Upload text) l = checked-told _ (upload-fits (l .state) (length (l .store)) text)
+step-told step.Finalize l = checked-told _ (finalize-fits (l .state) (length (l .store)))
+step-told step.Close l = checked-told _ (close-fits (l .state) (length (l .store)))
+
 -- ---- the promise
 
 pub words : Words
@@ -229,10 +239,7 @@ words = record {
   tree-verdict = λ table user mode origin path. tree-told _ (tree-fits table user mode origin path);
   policy-check = λ policy. policy-told _ (policy-fits policy);
   rpc-verdict = λ policy identity path headers. rpc-told _ (rpc-fits policy identity path headers);
-  started = λ rec store. checked-told _ (start-fits rec (length store));
-  uploaded = λ rec store text. checked-told _ (upload-fits rec (length store) text);
-  finalized = λ rec store. checked-told _ (finalize-fits rec (length store));
-  closed = λ rec store. checked-told _ (close-fits rec (length store));
+  stepped = step-told;
   probe-path = λ rec store user mode origin path. path-told _ (probe-path-fits rec store user mode origin path);
   probe-tree = λ rec store user mode origin path. tree-told _ (probe-tree-fits rec store user mode origin path);
   probe-rpc = λ rec store identity path headers. probe-told _ (probe-rpc-fits rec store identity path headers);

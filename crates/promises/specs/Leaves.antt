@@ -1,13 +1,12 @@
--- What a call that stores is lent and leaves, in the terms of the pages PathReturn and Rotation: what these say of `lent`, `answers` and `leaves` is said of
--- what the exported functions answer and leave.
+-- What a call that stores is lent and leaves, in the terms of the pages PathReturn and Rotation: what these say of `lent` and `leaves` is said of what the
+-- exported functions leave.
 use mathlib.Core.Path.{_≡_}
 use Rattle.text.specs.String.{Str}
 use Rattle.path_read.specs.Calls.{bytesFor, textFor, lent}
-use Rattle.rotation.specs.Machine.{Call, Start, Upload, Finalize, Close, Lent, answers, leaves}
+use Rattle.rotation.specs.Machine.{Call, Start, Upload, Finalize, Close, Lent, leaves}
 use Rattle.rotation_upload.specs.Offered.{offeredCheck}
-use Rattle.burgee.specs.Word.{checkedWord}
 use Rattle.burgee.specs.Calls.{Start as start, Upload as upload, Finalize as finalize, Close as close}
-use Rattle.burgee.specs.Calls.{PublicCall, PathRead, PathWrite, buffer, held, word, before, after}
+use Rattle.burgee.specs.Calls.{PublicCall, PathRead, PathWrite, buffer, held, before, after}
 
 -- a call of the rotation on what is lent
 abbrev pub publicly : Call → Lent → PublicCall
@@ -23,4 +22,3 @@ pub record Leaves : Type 0 where
   pub write-after : (bytes out : Str) → after (PathWrite bytes out) ≡ buffer (lent out (textFor bytes))
   pub step-before : (c : Call) (l : Lent) → before (publicly c l) ≡ held (l .state) (l .store)
   pub step-after : (c : Call) (l : Lent) → after (publicly c l) ≡ held (leaves offeredCheck c l .state) (leaves offeredCheck c l .store)
-  pub step-word : (c : Call) (l : Lent) → word (publicly c l) ≡ checkedWord (answers offeredCheck c l)

@@ -5,7 +5,6 @@ use mathlib.Core.Path.{_≡_}
 use mathlib.Core.Bool.{Bool, false}
 use mathlib.Core.Option.{Option, none, some}
 use lib.Dec.{eqb, leb}
-use lib.ListN.{length}
 use Rattle.text.specs.Test.{_and_, if_then_else_}
 use Rattle.text.specs.String.{Str}
 use Rattle.path_read.specs.Calls.{bytesFor, textFor, answer}
@@ -29,7 +28,7 @@ use Rattle.policy_check.specs.declared.check.Check.the-variants as policy
 use Rattle.rpc.specs.Call.{rpcVerdict}
 use Rattle.rpc.specs.declared.verdict.Verdict.{Verdict}
 use Rattle.rpc.specs.declared.verdict.Verdict.the-variants as rpc
-use Rattle.rotation.specs.Calls.{start, upload, finalize, close}
+use Rattle.rotation.specs.Machine.{Call, Lent, answers}
 use Rattle.rotation.specs.declared.Record.{Record}
 use Rattle.rotation_upload.specs.Offered.{offeredCheck}
 use Rattle.rotation_probe.specs.Probe.{probePath, probeTree}
@@ -37,7 +36,8 @@ use Rattle.rotation_probe.specs.Rpc.{probeRpc}
 use Rattle.rotation_probe.specs.declared.rpcs.RpcAnswer.{RpcAnswer}
 use Rattle.rotation_probe.specs.declared.rpcs.RpcAnswer.the-variants as probe
 use Rattle.burgee.specs.Calls.{PublicCall, PathRead, PathWrite, TableCheck, GroupCount, PathVerdict, TreeVerdict, PolicyCheck, RpcVerdict, word}
-use Rattle.burgee.specs.Calls.{Start, Upload, Finalize, Close, ProbePath, ProbeTree, ProbeRpc}
+use Rattle.burgee.specs.Calls.{ProbePath, ProbeTree, ProbeRpc}
+use Rattle.promises.specs.Leaves.{publicly}
 
 -- ---- the header's readers
 
@@ -151,11 +151,7 @@ pub record Words : Type 0 where
   pub policy-check : (policy : Str) → toldPolicy (word (PolicyCheck policy)) ≡ some (checkOf (policyRefusal policy))
   pub rpc-verdict : (policy identity path headers : Str)
       → toldRpc (word (RpcVerdict policy identity path headers)) ≡ some (rpcVerdict policy identity path headers)
-  pub started : (rec : Record) (store : Str) → toldChecked (word (Start rec store)) ≡ some (start rec (length store) .answer)
-  pub uploaded : (rec : Record) (store text : Str)
-      → toldChecked (word (Upload rec store text)) ≡ some (upload offeredCheck rec (length store) text .answer)
-  pub finalized : (rec : Record) (store : Str) → toldChecked (word (Finalize rec store)) ≡ some (finalize rec (length store) .answer)
-  pub closed : (rec : Record) (store : Str) → toldChecked (word (Close rec store)) ≡ some (close rec (length store) .answer)
+  pub stepped : (c : Call) (l : Lent) → toldChecked (word (publicly c l)) ≡ some (answers offeredCheck c l)
   pub probe-path : (rec : Record) (store user : Str) (mode : ℕ) (origin path : Str)
       → toldPath (word (ProbePath rec store user mode origin path)) ≡ some (probePath rec store user mode origin path)
   pub probe-tree : (rec : Record) (store user : Str) (mode : ℕ) (origin path : Str)
