@@ -294,5 +294,5 @@ def page(rows, types, totals, spared, write):
 
 
 if __name__ == "__main__":
-    os.chdir(os.path.join(os.path.dirname(os.path.abspath(__file__)), ".."))
+    os.chdir(os.path.dirname(os.path.dirname(os.path.abspath(__file__))))
     main()
