@@ -56,7 +56,7 @@ def believed(root):
     os.chdir(root)
     try:
         read = b.load()
-        seen, _ = b.reached(read)
+        seen, _ = b.reached(read, b.DETERMINED)
     finally:
         os.chdir(here)
     counts = [sum(len(x["lines"]) for x in f.blocks if id(x) in seen) for f in read.values()]

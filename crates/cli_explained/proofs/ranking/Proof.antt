@@ -1,4 +1,5 @@
 -- `ranking` makes a line for each rule, in the order of the ranking.
+use borrow.Author.Needs.{needs}
 use native.Mathlib.Omega.{arith}
 use Prim.Native.Nat.{_-_, _≤_}
 use lib.ListN.{getD}
@@ -17,9 +18,6 @@ abbrev μ-loop : tie.MeasureT-loop
 
 loop-holds : tie.Need-loop-holds Inv-loop μ-loop
 loop-holds c = (omega arith, listed-none _ _ _)
-
-mul-number : tie.Need-mul-number Inv-loop μ-loop
-mul-number c = omega arith
 
 shared-slice-read-number : tie.Need-shared-slice-read-number Inv-loop μ-loop
 shared-slice-read-number c = let at-start = c .before .before .before .before .before .before .before in
@@ -62,9 +60,6 @@ cast-best : tie.Need-cast-best Inv-loop μ-loop
 cast-best c = let at-start = c .before .before .before .before .before .before .before .before .before .before in
     omega (arith, c .shared-slice-known7 .given (getD (at-start .args .order .now) 0 0))
 
-add-i : tie.Need-add-i Inv-loop μ-loop
-add-i c = omega arith
-
 line-requires : tie.Need-line-requires Inv-loop μ-loop
 line-requires c κs = let at-loop-test = c .before .before .before .before .before in
     let at-start = at-loop-test .before .before .before .before .before .before in (
@@ -72,9 +67,6 @@ line-requires c κs = let at-loop-test = c .before .before .before .before .befo
       at-start .pre .placed .laid _ (at-start .pre .listed .numbers 0 (omega arith)),
       listed-room _ _ _ _ _ _ _ _ (at-loop-test .before .loop .inv .1) _ (at-loop-test .loop-test .taken) (at-start .pre .room),
     )
-
-loop-less : tie.Need-loop-less Inv-loop μ-loop
-loop-less c = omega arith
 
 loop-again : tie.Need-loop-again Inv-loop μ-loop
 loop-again c = let at-loop-test = c .before .before .before .before .before .before .before .before in
@@ -93,6 +85,6 @@ returns : tie.Need-returns Inv-loop μ-loop
 returns c = listed-all _ _ _ _ _ _ _ _ (c .before .loop .inv .1) _ (c .before .loop .inv .0) (c .loop-test .left)
 
 pub ranking-spec : {M : Type 1} → statement M
-ranking-spec = tie.close (tie.spec Inv-loop μ-loop loop-holds mul-number shared-slice-read-number
+ranking-spec = tie.close (tie.spec Inv-loop μ-loop loop-holds (λ c. search needs) shared-slice-read-number
     shared-slice-read-first cast-first cast-k mul-s shared-slice-read-s cast-s mul-best shared-slice-read-best cast-best
-    add-i line-requires loop-less loop-again same-length returns)
+    (λ c. search needs) line-requires (λ c. search needs) loop-again same-length returns)

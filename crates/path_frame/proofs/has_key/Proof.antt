@@ -1,7 +1,7 @@
 -- `has_key` equals its definition: the flag gathers which names were met.
 use borrow.Author.Needs.{needs}
 use native.Mathlib.Omega.{arith}
-use mathlib.Core.Path.{_≡_, refl, sym, _∙_}
+use mathlib.Core.Path.{_≡_, sym, _∙_}
 use mathlib.Core.Bool.{false}
 use Rattle.text.specs.Frame.{times}
 use Rattle.text.proofs.Frames.{string-ends}
@@ -17,9 +17,6 @@ Inv-loop f at count name found₀ p₀ left₀ found p left = hasName false name
 
 abbrev μ-loop : tie.MeasureT-loop
 μ-loop f at count name found₀ p₀ left₀ found p left = left
-
-loop-holds : tie.Need-loop-holds Inv-loop μ-loop
-loop-holds c = refl
 
 returns : tie.Need-returns Inv-loop μ-loop
 returns c = let at-loop-test = c .before .before .before in let at-loop = at-loop-test .before in
@@ -66,7 +63,7 @@ returns-3 c = let at-start = c .before .before .before .before in
     (at-start .args .name .now) (c .before .loop .left) (c .loop-test .left))
 
 pub has-key-spec : {M : Type 1} → statement M
-has-key-spec = tie.close (tie.spec Inv-loop μ-loop loop-holds (λ c κs. search needs) (λ c. search needs)
+has-key-spec = tie.close (tie.spec Inv-loop μ-loop (λ c. search needs) (λ c κs. search needs) (λ c. search needs)
     (λ c. search needs) returns (λ c κs. search needs) (λ c. search needs) (λ c. search needs) returns-2 add-start
     sub-is-same part-is-same-start part-is-same-end (λ c κs. search needs) (λ c. search needs) (λ c. search needs)
     loop-again returns-3)

@@ -1,7 +1,7 @@
 -- `has_twice` equals its definition: no key passed has a name that comes again.
 use borrow.Author.Needs.{needs}
 use native.Mathlib.Omega.{arith}
-use mathlib.Core.Path.{_≡_, refl, sym, _∙_}
+use mathlib.Core.Path.{_≡_, sym, _∙_}
 use Rattle.text.specs.Frame.{times}
 use Rattle.text.proofs.Frames.{string-ends}
 use Rattle.path.specs.Bytes.{key}
@@ -16,9 +16,6 @@ Inv-loop f at count p₀ left₀ p left = twiceIn (times count key f at) ≡ twi
 
 abbrev μ-loop : tie.MeasureT-loop
 μ-loop f at count p₀ left₀ p left = left
-
-loop-holds : tie.Need-loop-holds Inv-loop μ-loop
-loop-holds c = refl
 
 returns : tie.Need-returns Inv-loop μ-loop
 returns c = let at-loop-test = c .before .before .before in let at-loop = at-loop-test .before in
@@ -67,7 +64,7 @@ returns-4 c = let at-start = c .before .before .before in
     sym (c .before .loop .inv ∙ twice-done (at-start .args .f .now) (c .before .loop .p) (c .before .loop .left) (c .loop-test .left))
 
 pub has-twice-spec : {M : Type 1} → statement M
-has-twice-spec = tie.close (tie.spec Inv-loop μ-loop loop-holds (λ c κs. search needs) (λ c. search needs)
+has-twice-spec = tie.close (tie.spec Inv-loop μ-loop (λ c. search needs) (λ c κs. search needs) (λ c. search needs)
     (λ c. search needs) returns (λ c κs. search needs) (λ c. search needs) (λ c. search needs) returns-2 add-start
     (λ c. search needs) sub-has-key part-has-key-start part-has-key-end (λ c κs. search needs) returns-3
     (λ c. search needs) loop-again returns-4)

@@ -8,13 +8,6 @@ use Rattle.table_keep.proofs.is_named.Tie as tie
 returns : tie.Need-returns
 returns c = number-past _ _ _ (c .if1 .taken)
 
-mul-at : tie.Need-mul-at
-mul-at c = let at-start = c .before .before .before .before .before in omega (arith, at-start .pre .room)
-
-shared-slice-read-at : tie.Need-shared-slice-read-at
-shared-slice-read-at c = let at-start = c .before .before .before .before .before .before in
-    omega (arith, at-start .pre .room)
-
 cast-at : tie.Need-cast-at
 cast-at c = let at-start = c .before .before .before .before .before .before in
     omega (arith, c .shared-slice-known4 .given (at-start .args .g .0))
@@ -27,5 +20,5 @@ returns-2 : tie.Need-returns-2
 returns-2 c = number-under _ _ _ _ (c .before .before .if1 .left) (c .is-at .ensures)
 
 pub is-named-spec : {M : Type 1} → statement M
-is-named-spec = tie.close (tie.spec (λ c. search needs) returns mul-at shared-slice-read-at cast-at is-at-requires
-    returns-2)
+is-named-spec = tie.close (tie.spec (λ c. search needs) returns (λ c. search needs) (λ c. search needs) cast-at
+    is-at-requires returns-2)

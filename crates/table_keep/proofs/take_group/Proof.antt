@@ -50,11 +50,6 @@ part-name-end : tie.Need-part-name-end
 part-name-end c = let at-e = c .before .before .before .before in
     string-ends _ _ _ (at-e .before .before .string-end .ensures) _ (at-e .e .given .1) .2
 
-find-requires : tie.Need-find-requires
-find-requires c κs =
-    let at-start = c .before .before .before .before .before .before .before .before .before .before .before .before .before .before in
-    at-start .pre .named .sorted
-
 returns-4 : tie.Need-returns-4
 returns-4 c = let at-all-print = c .before .before .before .before .before in
     let at-if2 = at-all-print .before .before .before in let at-e = at-if2 .before .before .before .before in
@@ -119,5 +114,6 @@ returns-5 c = let at-if3 = c .before .before .before in
 pub take-group-spec : {M : Type 1} → statement M
 take-group-spec = tie.close (tie.spec (λ c κs. search needs) (λ c. search needs) (λ c. search needs) returns returns-2
     (λ c κs. search needs) returns-3 sub-name part-name-start part-name-end (λ c κs. search needs)
-    (λ c κs. search needs) find-requires (λ c κs. search needs) returns-4 add-from add-to insert-requires add-starts
-    cast-starts mul-starts element-write-starts (λ c κs. search needs) cast-hints (λ c. search needs) returns-5)
+    (λ c κs. search needs) (λ c κs. search needs) (λ c κs. search needs) returns-4 add-from add-to insert-requires
+    add-starts cast-starts mul-starts element-write-starts (λ c κs. search needs) cast-hints (λ c. search needs)
+    returns-5)

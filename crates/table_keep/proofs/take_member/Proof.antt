@@ -108,11 +108,6 @@ part-key-start c = omega (arith, read (c .before .before .before .before) .user 
 part-key-end : tie.Need-part-key-end
 part-key-end c = read (c .before .before .before .before) .user .2
 
-number-of-requires : tie.Need-number-of-requires
-number-of-requires c κs =
-    let at-start = c .before .before .before .before .before .before .before .before .before .before .before .before .before .before .before .before .before .before .before in
-    (at-start .pre .groups, omega arith)
-
 find-requires : tie.Need-find-requires
 find-requires c κs =
     let at-start = c .before .before .before .before .before .before .before .before .before .before .before .before .before .before .before .before .before .before .before .before .before .before .before in
@@ -165,7 +160,7 @@ pub take-member-spec : {M : Type 1} → statement M
 take-member-spec = tie.close (tie.spec (λ c κs. search needs) (λ c. search needs) (λ c. search needs) returns
     (λ c κs. search needs) (λ c. search needs) (λ c. search needs) returns-2 returns-3 (λ c κs. search needs) returns-4
     add-from sub-group part-group-start part-group-end sub-user part-user-start part-user-end sub-key part-key-start
-    part-key-end number-of-requires (λ c κs. search needs) (λ c. search needs) find-requires (λ c κs. search needs)
+    part-key-end (λ c κs. search needs) (λ c κs. search needs) (λ c. search needs) find-requires (λ c κs. search needs)
     (λ c κs. search needs) (λ c κs. search needs) (λ c κs. search needs) (λ c. search needs) (λ c κs. search needs)
     returns-5 add-users cast-users mul-users element-write-users element-write-owners add-begin add-to add-requires
     returns-6)

@@ -92,11 +92,6 @@ part-origin-end c = read (c .before .before .before) .at .long .3
 shared-slice-read-by-group : tie.Need-shared-slice-read-by-group
 shared-slice-read-by-group c = omega (arith, read (c .before .before .before .before .before) .at .long)
 
-holder-of-requires : tie.Need-holder-of-requires
-holder-of-requires c κs =
-    let at-start = c .before .before .before .before .before .before .before .before .before .before .before .before .before .before .before in
-    (at-start .pre .lookup, omega arith)
-
 find-requires : tie.Need-find-requires
 find-requires c κs =
     let at-start = c .before .before .before .before .before .before .before .before .before .before .before .before .before .before .before .before .before .before .before in
@@ -146,7 +141,7 @@ returns-4 c = let at-if2 = c .before .before .before .before .before in (
 pub take-rule-spec : {M : Type 1} → statement M
 take-rule-spec = tie.close (tie.spec (λ c κs. search needs) (λ c. search needs) (λ c. search needs) returns
     (λ c κs. search needs) returns-2 add-from add-then sub-subject part-subject-start part-subject-end sub-id
-    part-id-start part-id-end sub-origin part-origin-start part-origin-end shared-slice-read-by-group holder-of-requires
-    (λ c κs. search needs) (λ c. search needs) find-requires (λ c κs. search needs) (λ c κs. search needs)
-    (λ c κs. search needs) (λ c κs. search needs) (λ c κs. search needs) (λ c. search needs) (λ c κs. search needs)
-    returns-3 cast-t63 add-store store-requires add-begin add-to add-requires returns-4)
+    part-id-start part-id-end sub-origin part-origin-start part-origin-end shared-slice-read-by-group
+    (λ c κs. search needs) (λ c κs. search needs) (λ c. search needs) find-requires (λ c κs. search needs)
+    (λ c κs. search needs) (λ c κs. search needs) (λ c κs. search needs) (λ c κs. search needs) (λ c. search needs)
+    (λ c κs. search needs) returns-3 cast-t63 add-store store-requires add-begin add-to add-requires returns-4)

@@ -1,5 +1,5 @@
 use borrow.Author.Needs.{needs}
-use mathlib.Core.Path.{_≡_, refl, sym, _∙_}
+use mathlib.Core.Path.{_≡_, sym, _∙_}
 use Prim.Native.Nat.{_≤_}
 use lib.ListN.{length}
 use Rattle.table_place.specs.Place.{keysEnd}
@@ -14,9 +14,6 @@ Inv-loop f at k q₀ left₀ q left = (keysEnd left f q ≤ length f) × (keysEn
 abbrev μ-loop : tie.MeasureT-loop
 μ-loop f at k q₀ left₀ q left = left
 
-loop-holds : tie.Need-loop-holds Inv-loop μ-loop
-loop-holds c = (c .before .pre, refl)
-
 key-end-requires : tie.Need-key-end-requires Inv-loop μ-loop
 key-end-requires c κs = keys-room _ _ _ (c .loop-test .taken) (c .before .loop .inv .0) .1
 
@@ -30,5 +27,5 @@ returns : tie.Need-returns Inv-loop μ-loop
 returns c = sym (c .before .loop .inv .1 ∙ keys-stop _ _ _ (c .loop-test .left))
 
 pub keys-end-spec : {M : Type 1} → statement M
-keys-end-spec = tie.close (tie.spec Inv-loop μ-loop loop-holds key-end-requires (λ c. search needs) (λ c. search needs)
-    loop-again returns)
+keys-end-spec = tie.close (tie.spec Inv-loop μ-loop (λ c. search needs) key-end-requires (λ c. search needs)
+    (λ c. search needs) loop-again returns)

@@ -18,13 +18,6 @@ abbrev μ-loop : tie.MeasureT-loop
 loop-holds : tie.Need-loop-holds Inv-loop μ-loop
 loop-holds c = (search needs, find-start _ _ _ _)
 
-mul-at : tie.Need-mul-at Inv-loop μ-loop
-mul-at c = let at-start = c .before .before .before .before .before in omega (arith, at-start .pre .room)
-
-shared-slice-read-at : tie.Need-shared-slice-read-at Inv-loop μ-loop
-shared-slice-read-at c = let at-start = c .before .before .before .before .before .before in
-    omega (arith, at-start .pre .room)
-
 cast-at : tie.Need-cast-at Inv-loop μ-loop
 cast-at c = omega (arith, c .shared-slice-known4 .given (c .before .before .loop .i))
 
@@ -44,5 +37,5 @@ returns-2 : tie.Need-returns-2 Inv-loop μ-loop
 returns-2 c = find-end _ _ _ _ _ _ (c .before .loop .inv .0) (c .loop-test .left) (c .before .loop .inv .1)
 
 pub find-spec : {M : Type 1} → statement M
-find-spec = tie.close (tie.spec Inv-loop μ-loop loop-holds mul-at shared-slice-read-at cast-at is-at-requires returns
-    (λ c. search needs) (λ c. search needs) loop-again returns-2)
+find-spec = tie.close (tie.spec Inv-loop μ-loop loop-holds (λ c. search needs) (λ c. search needs) cast-at
+    is-at-requires returns (λ c. search needs) (λ c. search needs) loop-again returns-2)

@@ -24,10 +24,6 @@ loop-holds : tie.Need-loop-holds Inv-loop μ-loop
 loop-holds c = let at-start = c .before .before .before in
     (at-start .pre .2, at-start .pre .3, omega arith, fresh _ _ (c .empty .ensures))
 
-path-digits-requires : tie.Need-path-digits-requires Inv-loop μ-loop
-path-digits-requires c κs = let at-start = c .before .before .before .before .before .before in
-    (at-start .pre .0, omega arith, c .before .before .loop .inv .0)
-
 returns : tie.Need-returns Inv-loop μ-loop
 returns c = let at-loop-test = c .before .before .before in
     let at-start = at-loop-test .before .before .before .before .before in
@@ -41,9 +37,6 @@ new-digits-requires c κs = let at-start = c .before .before .before .before .be
   elems-room _ _ _ (c .before .loop-test .taken) (c .before .before .loop .inv .0) .0,
   elems-room _ _ _ (omega arith) (c .before .before .loop .inv .1) .0,
 )
-
-add-d : tie.Need-add-d Inv-loop μ-loop
-add-d c = omega arith
 
 elem-end-requires : tie.Need-elem-end-requires Inv-loop μ-loop
 elem-end-requires c κs = let at-loop-test = c .before .before .before in
@@ -71,6 +64,6 @@ returns-2 c = let at-start = c .before .before .before .before .before in
     beside-end _ _ (at-start .args .f .now) (at-start .args .g .now) _ (c .before .loop .q) _ _ _ (c .loop-test .left) (c .before .loop .inv .3)
 
 pub beyond-spec : {M : Type 1} → statement M
-beyond-spec = tie.close (tie.spec Inv-loop μ-loop (λ c κs. search needs) loop-holds path-digits-requires
-    (λ c κs. search needs) returns new-digits-requires (λ c κs. search needs) add-d elem-end-requires
+beyond-spec = tie.close (tie.spec Inv-loop μ-loop (λ c κs. search needs) loop-holds (λ c κs. search needs)
+    (λ c κs. search needs) returns new-digits-requires (λ c κs. search needs) (λ c. search needs) elem-end-requires
     elem-end-requires-2 (λ c. search needs) (λ c. search needs) (λ c. search needs) loop-again returns-2)

@@ -22,9 +22,6 @@ returns c = let at-str-end = c .before .before .before in
     c .empty .ensures ∙ key-left _ _ _ _ _ (or-l _ _ (wild-in _ _ _ _ (at-str-end .str-end .ensures)
     (c .before .before .is-star .ensures) ∙ c .before .if1 .taken))
 
-gives-requires : tie.Need-gives-requires
-gives-requires c κs = let at-start = c .before .before .before .before .before in (at-start .pre .3, at-start .pre .2)
-
 returns-2 : tie.Need-returns-2
 returns-2 c =
     c .empty2 .ensures ∙ key-left _ _ _ _ _ (or-r _ _ (sym (c .before .before .gives .ensures) ∙ c .before .if2 .taken))
@@ -52,5 +49,6 @@ returns-3 c = let at-if2 = c .before .before .before in let at-is-star = at-if2 
     (at-is-star .is-star .ensures) ∙ at-if2 .before .before .if1 .left) (sym (at-if2 .before .gives .ensures) ∙ at-if2 .if2 .left))
 
 pub key-digits-spec : {M : Type 1} → statement M
-key-digits-spec = tie.close (tie.spec str-end-requires is-star-requires (λ c κs. search needs) returns gives-requires
-    (λ c κs. search needs) returns-2 hash-at-requires hash-at-requires-2 (λ c κs. search needs) returns-3)
+key-digits-spec = tie.close (tie.spec str-end-requires is-star-requires (λ c κs. search needs) returns
+    (λ c κs. search needs) (λ c κs. search needs) returns-2 hash-at-requires hash-at-requires-2 (λ c κs. search needs)
+    returns-3)

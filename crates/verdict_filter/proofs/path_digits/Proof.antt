@@ -27,9 +27,6 @@ elem-digits-requires : tie.Need-elem-digits-requires Inv-loop μ-loop
 elem-digits-requires c κs = let at-start = c .before .before .before .before in
     (at-start .pre .0, omega arith, elems-room _ _ _ (c .loop-test .taken) (c .before .loop .inv .0) .0)
 
-add-e : tie.Need-add-e Inv-loop μ-loop
-add-e c = omega arith
-
 elem-end-requires : tie.Need-elem-end-requires Inv-loop μ-loop
 elem-end-requires c κs = let at-loop = c .before .before .before in
     elems-room _ _ _ (c .before .before .loop-test .taken) (at-loop .loop .inv .0) .0
@@ -50,4 +47,5 @@ returns c = let at-start = c .before .before .before .before in
 
 pub path-digits-spec : {M : Type 1} → statement M
 path-digits-spec = tie.close (tie.spec Inv-loop μ-loop (λ c κs. search needs) loop-holds elem-digits-requires
-    (λ c κs. search needs) add-e elem-end-requires (λ c. search needs) (λ c. search needs) loop-again returns)
+    (λ c κs. search needs) (λ c. search needs) elem-end-requires (λ c. search needs) (λ c. search needs) loop-again
+    returns)

@@ -14,9 +14,6 @@ part-string-start c = let e = entry-end _ _ _ _ (c .before .find-entry .ensures)
 part-string-end : tie.Need-part-string-end
 part-string-end c = let e = entry-end _ _ _ _ (c .before .find-entry .ensures) (c .find .ensures) in omega arith
 
-find-requires : tie.Need-find-requires
-find-requires c κs = c .find-entry .ensures .within
-
 string-requires : tie.Need-string-requires
 string-requires c κs = let at-find-entry = c .before .before .before in
     let at-start = at-find-entry .before .before .before .before in
@@ -27,5 +24,5 @@ returns c = let at-find = c .before .before .before .before .before in
     entry-added _ _ _ _ _ _ _ _ (at-find .before .find-entry .ensures) (at-find .find .ensures) (c .before .before .string .ensures)
 
 pub add-entry-spec : {M : Type 1} → statement M
-add-entry-spec = tie.close (tie.spec (λ c κs. search needs) find-requires sub-string part-string-start part-string-end
-    string-requires (λ c. search needs) returns)
+add-entry-spec = tie.close (tie.spec (λ c κs. search needs) (λ c κs. search needs) sub-string part-string-start
+    part-string-end string-requires (λ c. search needs) returns)

@@ -1,7 +1,7 @@
 -- `find_entry` finds the entry.
 use borrow.Author.Needs.{needs}
 use native.Mathlib.Omega.{arith}
-use mathlib.Core.Path.{_≡_, refl, sym, _∙_}
+use mathlib.Core.Path.{_≡_, sym, _∙_}
 use mathlib.Core.Bool.{true}
 use Prim.Native.Nat.{_-_, _≤_}
 use lib.ListN.{length, drop}
@@ -16,9 +16,6 @@ Inv-loop text key at₀ at = (at ≤ length text) × (entry true key text ≡ en
 
 abbrev μ-loop : tie.MeasureT-loop
 μ-loop text key at₀ at = length text - at
-
-loop-holds : tie.Need-loop-holds Inv-loop μ-loop
-loop-holds c = (omega arith, refl)
 
 add-result : tie.Need-add-result Inv-loop μ-loop
 add-result c = let at-loop-test = c .before .before .before in
@@ -37,6 +34,6 @@ returns-2 : tie.Need-returns-2 Inv-loop μ-loop
 returns-2 c = entry-none _ _ _ (c .before .loop .inv .1) (c .before .loop .inv .0) (c .loop-test .left)
 
 pub find-entry-spec : {M : Type 1} → statement M
-find-entry-spec = tie.close (tie.spec Inv-loop μ-loop loop-holds (λ c. search needs) (λ c. search needs)
+find-entry-spec = tie.close (tie.spec Inv-loop μ-loop (λ c. search needs) (λ c. search needs) (λ c. search needs)
     (λ c. search needs) (λ c κs. search needs) add-result returns (λ c κs. search needs) (λ c. search needs) loop-again
     returns-2)

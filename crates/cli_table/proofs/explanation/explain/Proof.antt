@@ -4,14 +4,6 @@ use Rattle.cli_table.proofs.Matches.{explained-permit, explained-deny, 
 use Rattle.cli_table.proofs.explanation.explain.Statement.{statement}
 use Rattle.cli_table.proofs.explanation.explain.Tie as tie
 
-list-requires : tie.Need-list-requires
-list-requires c κs = let at-start = c .before .before .before .before .before .before .before .before .before in
-    at-start .pre .1
-
-list-requires-2 : tie.Need-list-requires-2
-list-requires-2 c κs = let at-start = c .before .before .before .before .before .before .before .before .before in
-    at-start .pre .1
-
 returns : tie.Need-returns
 returns c = let at-a = c .before .before .before .before .before in
     let at-start = at-a .before .before .before .before .before .before .before in
@@ -31,6 +23,6 @@ returns-4 c = let at-start = c .before .before .before .before .before .before .
     refused-bare _ _ _ _ _ _ (at-start .pre .0) _ _ _ (c .before .a3 .given .1)
 
 pub explain-spec : {M : Type 1} → statement M
-explain-spec = tie.close (tie.spec (λ c. search needs) list-requires (λ c. search needs) list-requires-2
+explain-spec = tie.close (tie.spec (λ c. search needs) (λ c κs. search needs) (λ c. search needs) (λ c κs. search needs)
     (λ c. search needs) (λ c. search needs) (λ c. search needs) returns (λ c. search needs) returns-2 returns-3
     returns-4)

@@ -27,9 +27,6 @@ slice-write-out : tie.Need-slice-write-out Inv-loop μ-loop
 slice-write-out c = let at-loop = c .before .before .before in
     pair-room _ _ _ _ _ _ _ (at-loop .loop .inv .1) (c .before .before .loop-test .taken) _ 0 (c .hex-digit .ensures)
 
-hex-digit-requires-2 : tie.Need-hex-digit-requires-2 Inv-loop μ-loop
-hex-digit-requires-2 c κs = omega arith
-
 slice-write-out-2 : tie.Need-slice-write-out-2 Inv-loop μ-loop
 slice-write-out-2 c = let at-loop-test = c .before .before .before in
     second-room _ _ _ _ _ _ _ (at-loop-test .before .loop .inv .1) (at-loop-test .loop-test .taken) _ _ (c .before .hex-digit .ensures) (c .hex-digit2 .ensures)
@@ -41,13 +38,10 @@ loop-again c = let at-loop-test = c .before .before .before in (
       (c .before .hex-digit .ensures) (c .hex-digit2 .ensures),
 )
 
-same-length : tie.Need-same-length Inv-loop μ-loop
-same-length c = c .before .loop .inv .1 .long
-
 returns : tie.Need-returns Inv-loop μ-loop
 returns c = hex-done _ _ _ _ _ _ _ (c .before .loop .inv .1) (c .loop-test .left)
 
 pub write-hex-spec : {M : Type 1} → statement M
 write-hex-spec = tie.close (tie.spec Inv-loop μ-loop loop-holds (λ c. search needs) hex-digit-requires slice-write-out
-    hex-digit-requires-2 (λ c. search needs) slice-write-out-2 (λ c. search needs) (λ c. search needs)
-    (λ c. search needs) loop-again same-length returns)
+    (λ c κs. search needs) (λ c. search needs) slice-write-out-2 (λ c. search needs) (λ c. search needs)
+    (λ c. search needs) loop-again (λ c. search needs) returns)

@@ -26,12 +26,9 @@ slice-write-out c = copy-room _ _ _ _ _ (c .before .before .loop .inv .1) (c .be
 loop-again : tie.Need-loop-again Inv-loop μ-loop
 loop-again c = (omega arith, copy-turn _ _ _ _ _ (c .before .before .loop .inv .1) (c .before .loop-test .taken))
 
-same-length : tie.Need-same-length Inv-loop μ-loop
-same-length c = c .before .loop .inv .1 .long
-
 returns : tie.Need-returns Inv-loop μ-loop
 returns c = copy-done _ _ _ _ _ (c .before .loop .inv .1) (c .loop-test .left)
 
 pub copy-spec : {M : Type 1} → statement M
 copy-spec = tie.close (tie.spec Inv-loop μ-loop loop-holds (λ c. search needs) add-out slice-write-out
-    (λ c. search needs) (λ c. search needs) loop-again same-length returns)
+    (λ c. search needs) (λ c. search needs) loop-again (λ c. search needs) returns)

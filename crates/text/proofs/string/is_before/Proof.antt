@@ -1,7 +1,7 @@
 -- `is_before` equals its definition. The invariant: the rests are in the order of the strings.
 use borrow.Author.Needs.{needs}
 use native.Mathlib.Omega.{arith}
-use mathlib.Core.Path.{_≡_, refl, sym, _∙_}
+use mathlib.Core.Path.{_≡_, sym, _∙_}
 use Prim.Native.Nat.{_-_, _≤_}
 use lib.ListN.{length, drop}
 use Rattle.text.specs.String.{before}
@@ -15,9 +15,6 @@ Inv-loop a b i₀ i = (i ≤ length a) × (before a b ≡ before (drop i a) (dro
 
 abbrev μ-loop : tie.MeasureT-loop
 μ-loop a b i₀ i = length a - i
-
-loop-holds : tie.Need-loop-holds Inv-loop μ-loop
-loop-holds c = (search needs, refl)
 
 returns : tie.Need-returns Inv-loop μ-loop
 returns c = sym (c .before .before .loop .inv .1 ∙ before-short _ _ _ (c .before .loop-test .taken) (c .if1 .taken))
@@ -34,5 +31,5 @@ returns-3 : tie.Need-returns-3 Inv-loop μ-loop
 returns-3 c = sym (c .before .loop .inv .1 ∙ before-end _ _ _ (c .loop-test .left))
 
 pub is-before-spec : {M : Type 1} → statement M
-is-before-spec = tie.close (tie.spec Inv-loop μ-loop loop-holds returns (λ c. search needs) (λ c. search needs)
+is-before-spec = tie.close (tie.spec Inv-loop μ-loop (λ c. search needs) returns (λ c. search needs) (λ c. search needs)
     returns-2 (λ c. search needs) (λ c. search needs) loop-again returns-3)

@@ -5,12 +5,6 @@ use Rattle.verdict_judge.proofs.Parts.{rule-room, id-room, id-in, earli
 use Rattle.verdict_judge.proofs.best.earlier_at.Statement.{statement}
 use Rattle.verdict_judge.proofs.best.earlier_at.Tie as tie
 
-id-at-requires : tie.Need-id-at-requires
-id-at-requires c κs = c .before .pre .0
-
-id-at-requires-2 : tie.Need-id-at-requires-2
-id-at-requires-2 c κs = c .before .before .pre .1
-
 add-a : tie.Need-add-a
 add-a c = let at-start = c .before .before .before in
     let d = id-room _ _ _ (at-start .pre .0) (c .before .id-at .ensures) in let e = id-room _ _ _ (at-start .pre .1) (c .id-at2 .ensures) in omega arith
@@ -65,6 +59,6 @@ returns c = let at-str-end2 = c .before .before .before in let at-id-at = at-str
     (at-str-end2 .before .str-end .ensures)) (id-in _ _ _ _ (at-str-end2 .before .before .id-at2 .ensures) (at-str-end2 .str-end2 .ensures))
 
 pub earlier-at-spec : {M : Type 1} → statement M
-earlier-at-spec = tie.close (tie.spec id-at-requires id-at-requires-2 add-a add-b str-end-requires str-end-requires-2
-    sub-is-before part-is-before-start part-is-before-end sub-is-before-2 part-is-before-start-2 part-is-before-end-2
-    (λ c κs. search needs) returns)
+earlier-at-spec = tie.close (tie.spec (λ c κs. search needs) (λ c κs. search needs) add-a add-b str-end-requires
+    str-end-requires-2 sub-is-before part-is-before-start part-is-before-end sub-is-before-2 part-is-before-start-2
+    part-is-before-end-2 (λ c κs. search needs) returns)

@@ -1,3 +1,4 @@
+use borrow.Author.Needs.{needs}
 use native.Mathlib.Omega.{arith}
 use mathlib.Core.Path.{_≡_, refl}
 use mathlib.Core.Bool.{Bool}
@@ -43,32 +44,13 @@ loop-holds c = let at-start = c .before .before .before .before in
       best = λ app h. best-none better better-order (matching app p) (at-start .args .f .now) (at-start .args .starts .now) (at-start .args .n);
     }
 
-mul-s : tie.Need-mul-s Inv-loop μ-loop
-mul-s c = omega arith
-
-shared-slice-read-s : tie.Need-shared-slice-read-s Inv-loop μ-loop
-shared-slice-read-s c = omega arith
-
 cast-s : tie.Need-cast-s Inv-loop μ-loop
 cast-s c = omega (arith, c .shared-slice-known5 .given (c .before .before .loop .i))
-
-cast-t15 : tie.Need-cast-t15 Inv-loop μ-loop
-cast-t15 c = let at-start = c .before .before .before .before .before .before .before in
-    omega (arith, at-start .pre .few)
-
-shared-slice-read-take-match : tie.Need-shared-slice-read-take-match Inv-loop μ-loop
-shared-slice-read-take-match c = omega arith
 
 take-match-requires : tie.Need-take-match-requires Inv-loop μ-loop
 take-match-requires c κs = let at-loop = c .before .before .before in
     let at-start = at-loop .before .before .before .before .before in
     (at-start .pre .rules .laid _ (c .before .before .loop-test .taken), at-loop .loop .inv .ranked, at-start .pre .path, at-start .pre .rules .short)
-
-add-i : tie.Need-add-i Inv-loop μ-loop
-add-i c = omega arith
-
-loop-less : tie.Need-loop-less Inv-loop μ-loop
-loop-less c = omega arith
 
 loop-again : tie.Need-loop-again Inv-loop μ-loop
 loop-again c = let at-loop-test = c .before .before .before in let at-loop = at-loop-test .before in
@@ -94,5 +76,6 @@ returns c = let at-start = c .before .before .before .before .before .before in
     }
 
 pub decide-spec : {M : Type 1} → statement M
-decide-spec = tie.close (tie.spec Inv-loop μ-loop loop-holds mul-s shared-slice-read-s cast-s cast-t15
-    shared-slice-read-take-match take-match-requires add-i loop-less loop-again returns)
+decide-spec = tie.close (tie.spec Inv-loop μ-loop loop-holds (λ c. search needs) (λ c. search needs) cast-s
+    (λ c. search needs) (λ c. search needs) take-match-requires (λ c. search needs) (λ c. search needs) loop-again
+    returns)

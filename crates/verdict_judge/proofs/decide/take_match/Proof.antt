@@ -1,3 +1,4 @@
+use borrow.Author.Needs.{needs}
 use native.Mathlib.Omega.{arith}
 use mathlib.Core.Path.{sym, _∙_}
 use mathlib.Core.Bool.{Bool}
@@ -20,9 +21,6 @@ returns c = let at-start = c .before .before .before in
       numbered = λ n l h. h;
       best = λ app h. step-off better (at-start .args .f .now) (at-start .args .b) _ _ app also (sym h ∙ ne-eqb _ 1 (c .if1 .taken));
     }
-
-path-at-requires : tie.Need-path-at-requires
-path-at-requires c κs = let at-start = c .before .before .before in at-start .pre .0
 
 shared-slice-read-n : tie.Need-shared-slice-read-n
 shared-slice-read-n c = let at-start = c .before .before .before .before .before in
@@ -48,11 +46,6 @@ returns-2 c = let at-path-at = c .before .before .before in let at-start = at-pa
       best = λ app h. step-miss better (at-start .args .f .now) (at-start .args .b) _ _ app also
           (covers-in _ _ _ _ _ (at-path-at .path-at .ensures) (c .before .covers-at .ensures) ∙ not-true _ (c .if2 .taken));
     }
-
-rank-at-requires : tie.Need-rank-at-requires
-rank-at-requires c κs = let at-path-at = c .before .before .before in
-    let at-start = at-path-at .before .before .before .before in
-    (at-start .pre .0, at-path-at .path-at .ensures, at-start .pre .3)
 
 add-x : tie.Need-add-x
 add-x c = let at-shared-slice-known3 = c .before .before .before in
@@ -91,5 +84,5 @@ returns-4 c = let at-if2 = c .before .before .before in let at-path-at = at-if2 
     }
 
 pub take-match-spec : {M : Type 1} → statement M
-take-match-spec = tie.close (tie.spec returns path-at-requires shared-slice-read-n cast-n add-covers-at
-    covers-at-requires returns-2 rank-at-requires add-x wins-better-requires returns-3 returns-4)
+take-match-spec = tie.close (tie.spec returns (λ c κs. search needs) shared-slice-read-n cast-n add-covers-at
+    covers-at-requires returns-2 (λ c κs. search needs) add-x wins-better-requires returns-3 returns-4)

@@ -1,3 +1,4 @@
+use borrow.Author.Needs.{needs}
 use native.Mathlib.Omega.{arith}
 use Rattle.verdict.proofs.Order.{unless-small}
 use mathlib.Core.Path.{_≡_, sym}
@@ -32,12 +33,6 @@ add-n c = let at-start = c .before .before .before .before in
 key-end-requires : tie.Need-key-end-requires Inv-loop μ-loop
 key-end-requires c κs = keys-room _ _ _ (c .before .loop-test .taken) (c .before .before .loop .inv .0) .1
 
-sub-left : tie.Need-sub-left Inv-loop μ-loop
-sub-left c = omega arith
-
-loop-less : tie.Need-loop-less Inv-loop μ-loop
-loop-less c = omega arith
-
 loop-again : tie.Need-loop-again Inv-loop μ-loop
 loop-again c = let at-loop = c .before .before .before in let at-start = at-loop .before .before in
     let w = unless-small (wild (keyIn (at-start .args .f .now) (at-loop .loop .q))) in
@@ -53,5 +48,5 @@ returns c = let at-start = c .before .before .before in
     sym (count-end (at-start .args .f .now) _ (c .before .loop .q) _ _ (c .loop-test .left) (c .before .loop .inv .2))
 
 pub count-given-spec : {M : Type 1} → statement M
-count-given-spec = tie.close (tie.spec Inv-loop μ-loop loop-holds count-key-requires add-n key-end-requires sub-left
-    loop-less loop-again returns)
+count-given-spec = tie.close (tie.spec Inv-loop μ-loop loop-holds count-key-requires add-n key-end-requires
+    (λ c. search needs) (λ c. search needs) loop-again returns)

@@ -1,3 +1,4 @@
+use borrow.Author.Needs.{needs}
 use native.Mathlib.Omega.{arith}
 use mathlib.Core.Path.{_≡_, sym}
 use Prim.Native.Nat.{_+_, _≤_, zero-le}
@@ -47,12 +48,6 @@ elem-end-requires : tie.Need-elem-end-requires Inv-loop μ-loop
 elem-end-requires c κs = let at-loop-test = c .before .before .before in
     elems-room _ _ _ (at-loop-test .loop-test .taken) (at-loop-test .before .loop .inv .0) .0
 
-sub-left : tie.Need-sub-left Inv-loop μ-loop
-sub-left c = omega arith
-
-loop-less : tie.Need-loop-less Inv-loop μ-loop
-loop-less c = omega arith
-
 loop-again : tie.Need-loop-again Inv-loop μ-loop
 loop-again c = let at-str-end = c .before .before .before in
     let x = few-in _ _ _ (at-str-end .str-end .ensures) in (
@@ -69,4 +64,5 @@ returns c = let at-start = c .before .before .before in
 
 pub count-keys-spec : {M : Type 1} → statement M
 count-keys-spec = tie.close (tie.spec Inv-loop μ-loop loop-holds str-end-requires shared-slice-read-c cast-c
-    add-count-given count-given-requires add-n elem-end-requires sub-left loop-less loop-again returns)
+    add-count-given count-given-requires add-n elem-end-requires (λ c. search needs) (λ c. search needs) loop-again
+    returns)

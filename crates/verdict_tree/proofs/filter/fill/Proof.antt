@@ -29,13 +29,6 @@ filter-at-requires : tie.Need-filter-at-requires Inv-loop μ-loop
 filter-at-requires c κs = let at-start = c .before .before .before .before .before .before .before .before .before in
     (at-start .pre .seed, at-start .pre .laid _ (c .before .before .loop-test .taken), at-start .pre .asked)
 
-cast-t15 : tie.Need-cast-t15 Inv-loop μ-loop
-cast-t15 c = let at-start = c .before .before .before .before .before .before .before .before .before .before in
-    omega (arith, at-start .pre .few)
-
-store-requires : tie.Need-store-requires Inv-loop μ-loop
-store-requires c κs = omega arith
-
 loop-again : tie.Need-loop-again Inv-loop μ-loop
 loop-again c = let at-filter-at = c .before .before .before .before in
     let at-loop = at-filter-at .before .before .before .before in
@@ -54,5 +47,5 @@ returns c = (c .before .loop .inv .1, λ i l. c .before .loop .inv .2 i (omega a
 
 pub fill-spec : {M : Type 1} → statement M
 fill-spec = tie.close (tie.spec Inv-loop μ-loop loop-holds (λ c. search needs) (λ c. search needs) cast-a
-    (λ c. search needs) (λ c. search needs) filter-at-requires cast-t15 store-requires (λ c. search needs)
-    (λ c. search needs) loop-again (λ c. search needs) returns)
+    (λ c. search needs) (λ c. search needs) filter-at-requires (λ c. search needs) (λ c κs. search needs)
+    (λ c. search needs) (λ c. search needs) loop-again (λ c. search needs) returns)

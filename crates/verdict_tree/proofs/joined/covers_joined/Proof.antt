@@ -1,3 +1,4 @@
+use borrow.Author.Needs.{needs}
 use native.Mathlib.Omega.{arith}
 use mathlib.Core.Path.{sym, ap₂, _∙_}
 use borrow.Author.Tests.{not-true}
@@ -6,10 +7,6 @@ use Rattle.verdict_filter.specs.Bloom.{unite}
 use Rattle.verdict_filter.proofs.Laws.{not-both}
 use Rattle.verdict_tree.proofs.joined.covers_joined.Statement.{statement}
 use Rattle.verdict_tree.proofs.joined.covers_joined.Tie as tie
-
-is-within-requires : tie.Need-is-within-requires
-is-within-requires c κs = let at-start = c .before .before .before in
-    (at-start .pre .filter, at-start .pre .other-filter)
 
 returns : tie.Need-returns
 returns c = let at-start = c .before .before .before .before .before in
@@ -40,13 +37,6 @@ add-covers-both-2 : tie.Need-add-covers-both-2
 add-covers-both-2 c = let at-start = c .before .before .before .before .before .before .before in
     let e = path-room (at-start .args .f .now) (at-start .args .r) (at-start .pre .other) in omega arith
 
-covers-both-requires : tie.Need-covers-both-requires
-covers-both-requires c κs = let at-start = c .before .before .before .before .before .before .before in
-    (at-start .pre .path, at-start .pre .other, at-start .pre .asked)
-
-returns-2 : tie.Need-returns-2
-returns-2 c = c .covers-both .ensures
-
 pub covers-joined-spec : {M : Type 1} → statement M
-covers-joined-spec = tie.close (tie.spec is-within-requires returns shared-slice-read-n cast-n shared-slice-read-m
-    cast-m add-covers-both add-covers-both-2 covers-both-requires returns-2)
+covers-joined-spec = tie.close (tie.spec (λ c κs. search needs) returns shared-slice-read-n cast-n shared-slice-read-m
+    cast-m add-covers-both add-covers-both-2 (λ c κs. search needs) (λ c. search needs))

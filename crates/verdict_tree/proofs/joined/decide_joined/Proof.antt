@@ -21,30 +21,15 @@ Inv-loop i f weights paths next filters n first g p k own r weight x₀ x =
 abbrev μ-loop : tie.MeasureT-loop
 μ-loop i f weights paths next filters n first g p k own r weight x₀ x = x
 
-mul-r : tie.Need-mul-r Inv-loop μ-loop
-mul-r c = omega arith
-
-shared-slice-read-r : tie.Need-shared-slice-read-r Inv-loop μ-loop
-shared-slice-read-r c = omega arith
-
 cast-r : tie.Need-cast-r Inv-loop μ-loop
 cast-r c = let at-start = c .before .before .before .before .before .before .before .before in
     omega (arith, c .shared-slice-known7 .given (at-start .args .i .0))
-
-mul-weight : tie.Need-mul-weight Inv-loop μ-loop
-mul-weight c = omega arith
-
-shared-slice-read-weight : tie.Need-shared-slice-read-weight Inv-loop μ-loop
-shared-slice-read-weight c = omega arith
 
 loop-holds : tie.Need-loop-holds Inv-loop μ-loop
 loop-holds c = let at-start = c .before .before .before .before .before .before .before .before .before in (
   at-below _ _ (at-start .pre .2 .packed) _ _ (at-start .pre .2 .start),
   past-start _ _ (at-start .pre .2 .packed) (at-start .args .f .now) (at-start .args .paths .now) _ (at-start .args .i .0) _ (at-start .pre .2 .start),
 )
-
-mul-a : tie.Need-mul-a Inv-loop μ-loop
-mul-a c = omega arith
 
 shared-slice-read-a : tie.Need-shared-slice-read-a Inv-loop μ-loop
 shared-slice-read-a c = let e = c .before .before .loop .inv .0 (omega arith) in omega arith
@@ -76,9 +61,6 @@ returns c = let at-loop = c .before .before .before .before in
     found _ _ (at-start .pre .2 .packed) _ _ _ _ _ (at-loop .loop .x) (e .0) (omega arith)
     (sym (c .before .covers-joined .ensures) ∙ c .if1 .taken) (omega arith) (at-loop .loop .inv .1)
 
-mul-x : tie.Need-mul-x Inv-loop μ-loop
-mul-x c = omega arith
-
 shared-slice-read-x : tie.Need-shared-slice-read-x Inv-loop μ-loop
 shared-slice-read-x c = let at-loop = c .before .before .before .before .before in
     let e = at-loop .loop .inv .0 (omega arith) in omega arith
@@ -107,6 +89,6 @@ returns-2 c =
     (own-join _ _) (omega arith) (c .before .loop .inv .1)
 
 pub decide-joined-spec : {M : Type 1} → statement M
-decide-joined-spec = tie.close (tie.spec Inv-loop μ-loop (λ c. search needs) mul-r shared-slice-read-r cast-r mul-weight
-    shared-slice-read-weight loop-holds mul-a shared-slice-read-a cast-a cast-t27 covers-joined-requires returns mul-x
-    shared-slice-read-x loop-less loop-again returns-2)
+decide-joined-spec = tie.close (tie.spec Inv-loop μ-loop (λ c. search needs) (λ c. search needs) (λ c. search needs)
+    cast-r (λ c. search needs) (λ c. search needs) loop-holds (λ c. search needs) shared-slice-read-a cast-a cast-t27
+    covers-joined-requires returns (λ c. search needs) shared-slice-read-x loop-less loop-again returns-2)

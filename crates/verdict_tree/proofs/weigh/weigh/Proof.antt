@@ -45,12 +45,6 @@ loop-holds c =
       weights-are = λ app h i z. absurd (omega arith);
     }
 
-mul-s : tie.Need-mul-s Inv-loop μ-loop
-mul-s c = omega arith
-
-shared-slice-read-s : tie.Need-shared-slice-read-s Inv-loop μ-loop
-shared-slice-read-s c = omega arith
-
 cast-s : tie.Need-cast-s Inv-loop μ-loop
 cast-s c = omega (arith, c .shared-slice-known5 .given (c .before .before .loop .i))
 
@@ -62,15 +56,6 @@ cast-paths : tie.Need-cast-paths Inv-loop μ-loop
 cast-paths c = let at-start = c .before .before .before .before .before .before .before .before .before .before in
     let e = rule-room _ _ (at-start .pre .0 .rules .laid _ (c .before .before .loop-test .taken)) in rw (c .path-at .ensures) (omega arith)
 
-mul-paths : tie.Need-mul-paths Inv-loop μ-loop
-mul-paths c = omega arith
-
-slice-write-paths : tie.Need-slice-write-paths Inv-loop μ-loop
-slice-write-paths c = omega arith
-
-shared-slice-read-weight-at : tie.Need-shared-slice-read-weight-at Inv-loop μ-loop
-shared-slice-read-weight-at c = omega arith
-
 weight-at-requires : tie.Need-weight-at-requires Inv-loop μ-loop
 weight-at-requires c κs = let at-loop-test = c .before .before .before in
     let at-start = at-loop-test .before .before .before .before .before .before .before .before in
@@ -81,18 +66,6 @@ mul-weights c = let e = c .weight-at .ensures .light in omega arith
 
 add-weights : tie.Need-add-weights Inv-loop μ-loop
 add-weights c = let e = c .weight-at .ensures .light in omega arith
-
-mul-weights-2 : tie.Need-mul-weights-2 Inv-loop μ-loop
-mul-weights-2 c = omega arith
-
-slice-write-weights : tie.Need-slice-write-weights Inv-loop μ-loop
-slice-write-weights c = omega arith
-
-add-i : tie.Need-add-i Inv-loop μ-loop
-add-i c = omega arith
-
-loop-less : tie.Need-loop-less Inv-loop μ-loop
-loop-less c = omega arith
 
 loop-again : tie.Need-loop-again Inv-loop μ-loop
 loop-again c = let at-loop-test = c .before .before .before .before in let at-loop = at-loop-test .before in
@@ -130,6 +103,7 @@ returns c =
     }
 
 pub weigh-spec : {M : Type 1} → statement M
-weigh-spec = tie.close (tie.spec Inv-loop μ-loop loop-holds mul-s shared-slice-read-s cast-s path-at-requires cast-paths
-    mul-paths slice-write-paths shared-slice-read-weight-at weight-at-requires mul-weights add-weights mul-weights-2
-    slice-write-weights add-i loop-less loop-again (λ c. search needs) (λ c. search needs) returns)
+weigh-spec = tie.close (tie.spec Inv-loop μ-loop loop-holds (λ c. search needs) (λ c. search needs) cast-s
+    path-at-requires cast-paths (λ c. search needs) (λ c. search needs) (λ c. search needs) weight-at-requires
+    mul-weights add-weights (λ c. search needs) (λ c. search needs) (λ c. search needs) (λ c. search needs) loop-again
+    (λ c. search needs) (λ c. search needs) returns)

@@ -1,3 +1,4 @@
+use borrow.Author.Needs.{needs}
 use native.Mathlib.Omega.{arith}
 use mathlib.Core.Path.{sym, _∙_}
 use Prim.Native.Nat.{zero-le}
@@ -33,10 +34,6 @@ returns-2 c = let at-start = c .before .before .before .before .before .before i
       weighs = λ app h. weight-apart app _ _ (agree-in _ _ _ _ _ (at-start .pre .1) (c .before .agree-at .ensures) ∙ not-true _ (c .if2 .taken));
     }
 
-rank-at-requires : tie.Need-rank-at-requires
-rank-at-requires c κs = let at-start = c .before .before .before .before .before .before in
-    (at-start .pre .0, at-start .pre .1, at-start .pre .3)
-
 add-result : tie.Need-add-result
 add-result c = let at-shared-slice-known3 = c .before .before .before in
     let at-start = at-shared-slice-known3 .before .before .before .before in
@@ -61,4 +58,4 @@ returns-3 c = let at-shared-slice-known3 = c .before .before .before in
 
 pub weight-at-spec : {M : Type 1} → statement M
 weight-at-spec = tie.close (tie.spec returns shared-slice-read-n cast-n add-agree-at agree-at-requires returns-2
-    rank-at-requires add-result returns-3)
+    (λ c κs. search needs) add-result returns-3)

@@ -20,12 +20,6 @@ abbrev also : tie.Start → (Rule → Bool) → Rule → Bool
 also s test r = let a = s .args in
     xor (permitsBoth test (rulesIn (a .f .now) (a .starts .now) (a .n) 0) (r .path) (elemsIn (a .k) (a .g .now) (a .p))) (a .v)
 
-mul-if1 : tie.Need-mul-if1
-mul-if1 c = omega arith
-
-shared-slice-read-if1 : tie.Need-shared-slice-read-if1
-shared-slice-read-if1 c = omega arith
-
 returns : tie.Need-returns
 returns c = let at-start = c .before .before .before .before .before .before .before .before .before .before in
     let w = at-start .pre .2 .kept .few in
@@ -35,12 +29,6 @@ returns c = let at-start = c .before .before .before .before .before .before .be
       best = λ test h. step-off earlier f (at-start .args .b) _ _ test (also at-start test)
           (unfit test _ _ _ (omega arith) (h _ (at-start .pre .0)) (c .if1 .taken));
     }
-
-mul-s : tie.Need-mul-s
-mul-s c = omega arith
-
-shared-slice-read-s : tie.Need-shared-slice-read-s
-shared-slice-read-s c = omega arith
 
 cast-s : tie.Need-cast-s
 cast-s c = let at-start = c .before .before .before .before .before .before .before .before .before .before .before in
@@ -60,11 +48,6 @@ returns-2 c =
       best = λ test h. step-keep earlier f (at-start .args .b) _ _ test (also at-start test)
           (sym (c .before .wins-earlier .ensures) ∙ not-true _ (c .if2 .taken));
     }
-
-decide-joined-requires : tie.Need-decide-joined-requires
-decide-joined-requires c κs =
-    let at-start = c .before .before .before .before .before .before .before .before .before .before .before .before .before in
-    (at-start .pre .0, omega arith, at-start .pre .2 .kept)
 
 mul-t : tie.Need-mul-t
 mul-t c =
@@ -116,6 +99,7 @@ returns-4 c = let at-decide-joined = c .before .before .before .before .before i
     }
 
 pub oppose-spec : {M : Type 1} → statement M
-oppose-spec = tie.close (tie.spec (λ c. search needs) mul-if1 shared-slice-read-if1 returns mul-s shared-slice-read-s
-    cast-s wins-earlier-requires returns-2 decide-joined-requires (λ c. search needs) mul-t shared-slice-read-t cast-t
-    shared-slice-read-unlike (λ c κs. search needs) returns-3 returns-4)
+oppose-spec = tie.close (tie.spec (λ c. search needs) (λ c. search needs) (λ c. search needs) returns
+    (λ c. search needs) (λ c. search needs) cast-s wins-earlier-requires returns-2 (λ c κs. search needs)
+    (λ c. search needs) mul-t shared-slice-read-t cast-t shared-slice-read-unlike (λ c κs. search needs) returns-3
+    returns-4)

@@ -1,3 +1,4 @@
+use borrow.Author.Needs.{needs}
 use native.Mathlib.Omega.{arith}
 use mathlib.Core.Path.{_≡_, refl}
 use mathlib.Core.Bool.{Bool}
@@ -46,20 +47,6 @@ loop-holds c = let at-start = c .before .before .before .before .before .before 
       best = λ test h. best-none earlier earlier-order (against at-start test) (a .f .now) (a .starts .now) (a .n);
     }
 
-cast-t17 : tie.Need-cast-t17 Inv-loop μ-loop
-cast-t17 c = let at-start = c .before .before .before .before .before .before .before .before .before in
-    omega (arith, at-start .pre .kept .few)
-
-oppose-requires : tie.Need-oppose-requires Inv-loop μ-loop
-oppose-requires c κs = let at-start = c .before .before .before .before .before .before .before .before .before in
-    (c .loop-test .taken, c .before .loop .inv .sound, at-start .pre)
-
-add-i : tie.Need-add-i Inv-loop μ-loop
-add-i c = omega arith
-
-loop-less : tie.Need-loop-less Inv-loop μ-loop
-loop-less c = omega arith
-
 loop-again : tie.Need-loop-again Inv-loop μ-loop
 loop-again c = let at-start = c .before .before .before .before .before .before .before .before .before .before in
     let a = at-start .args in
@@ -80,5 +67,5 @@ returns c = let at-start = c .before .before .before .before .before .before .be
     }
 
 pub search-spec : {M : Type 1} → statement M
-search-spec = tie.close (tie.spec Inv-loop μ-loop loop-holds cast-t17 oppose-requires add-i loop-less loop-again
-    returns)
+search-spec = tie.close (tie.spec Inv-loop μ-loop loop-holds (λ c. search needs) (λ c κs. search needs)
+    (λ c. search needs) (λ c. search needs) loop-again returns)
