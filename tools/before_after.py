@@ -6,6 +6,7 @@ unless told otherwise); of each row the proved library's best time counts. Print
 where a row is more than 3 % slower than before. Rows below 100 ns are noisy: look twice before you believe them.
 """
 import json
+import os
 import re
 import subprocess
 import sys
@@ -14,9 +15,10 @@ ALLOWED = 1.03
 
 
 def programs(checkout):
-    """The benchmark programs of a checkout, by name."""
-    command = ["cargo", "bench", "--quiet", "--offline", "--no-run", "--message-format=json", "--manifest-path", f"{checkout}/rust/Cargo.toml"]
-    built = subprocess.run(command, capture_output=True, text=True, check=True).stdout
+    """The benchmark programs of a checkout, by name. Built at its top, where its .cargo/config.toml counts: elsewhere both would be built in one place."""
+    command = ["cargo", "bench", "--quiet", "--offline", "--no-run", "--message-format=json", "--manifest-path", "rust/Cargo.toml"]
+    environment = {name: value for name, value in os.environ.items() if name not in ("CARGO_TARGET_DIR", "CARGO_BUILD_TARGET_DIR")}
+    built = subprocess.run(command, capture_output=True, text=True, check=True, cwd=checkout, env=environment).stdout
     found = {}
     for line in built.split("\n"):
         message = json.loads(line) if line.startswith("{") else {}
@@ -43,6 +45,8 @@ def rows(program):
 
 def main(old, new, rounds=5):
     sides = [programs(old), programs(new)]
+    if set(sides[0].values()) & set(sides[1].values()):
+        sys.exit("both sides are one program")
     best = [{}, {}]
     for _ in range(int(rounds)):
         for name in sorted(sides[0]):
