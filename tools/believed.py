@@ -20,23 +20,23 @@ import os
 import re
 import sys
 
-# a function's file and name, and the pages of promises that say what it answers, whatever it is given
+# a function's file and name, the page of promises that speaks of it, and the promises that say what it answers, for each input that occurs
 DETERMINED = {
-    ("path_read/TextReader", "readText"): ["PathReturn"],
-    ("json_grammar/Parser", "parse"): ["Json"],
-    ("path_read/Calls", "answer"): ["PathReturn"],
-    ("path_read/Calls", "lent"): ["PathReturn", "Leaves"],
-    ("table/Group", "groupCount"): ["Groups"],
-    ("verdict/Verdict", "tree"): ["Verdicts"],
-    ("verdict_request/Calls", "pathVerdict"): ["Verdicts"],
-    ("verdict_request/Calls", "treeVerdict"): ["Verdicts"],
-    ("rpc/Call", "rpcVerdict"): ["Rpc"],
-    ("rotation/Machine", "answers"): ["Rotation"],
-    ("rotation/Machine", "leaves"): ["Rotation"],
-    ("rotation_probe/Probe", "probePath"): ["Probes"],
-    ("rotation_probe/Probe", "probeTree"): ["Probes"],
-    ("rotation_probe/Rpc", "probeRpc"): ["Probes"],
-    ("burgee/Calls", "outcome"): ["Words", "Leaves"],
+    ("path_read/TextReader", "readText"): ("PathReturn", ["PathReturn"]),
+    ("json_grammar/Parser", "parse"): ("Json", ["JsonPromise"]),
+    ("path_read/Calls", "answer"): ("PathReturn", ["FillPromise"]),
+    ("path_read/Calls", "lent"): ("PathReturn", ["FillPromise", "AnyBytes", "Leaves", "Words"]),
+    ("table/Group", "groupCount"): ("Groups", ["GroupPromise", "CountRefusals"]),
+    ("verdict/Verdict", "tree"): ("Verdicts", ["TreePromise"]),
+    ("verdict_request/Calls", "pathVerdict"): ("Verdicts", ["PathPromise", "VerdictRefusals"]),
+    ("verdict_request/Calls", "treeVerdict"): ("Verdicts", ["TreePromise", "VerdictRefusals"]),
+    ("rpc/Call", "rpcVerdict"): ("Rpc", ["RpcPromise", "RpcRefusals"]),
+    ("rotation/Machine", "answers"): ("Rotation", ["StepPromise", "RotationPromise"]),
+    ("rotation/Machine", "leaves"): ("Rotation", ["StepPromise"]),
+    ("rotation_probe/Probe", "probePath"): ("Probes", ["Answers", "TableProbePromise"]),
+    ("rotation_probe/Probe", "probeTree"): ("Probes", ["Answers", "TableProbePromise"]),
+    ("rotation_probe/Rpc", "probeRpc"): ("Probes", ["Answers", "PolicyProbePromise"]),
+    ("burgee/Calls", "outcome"): ("Words", ["Words", "Leaves"]),
 }
 # of these not even those who compare definitions read the bodies: they are parsers
 PARSERS = {("path_read/TextReader", "readText"), ("json_grammar/Parser", "parse")}
@@ -79,7 +79,7 @@ class File:
     """A file of definitions: what its names stand for, and its blocks, each a definition with its clauses."""
 
     def __init__(self, path):
-        self.path, self.imports, self.aliases, self.blocks, self.of = path, {}, {}, [], {}
+        self.path, self.imports, self.aliases, self.blocks, self.of, self.fields = path, {}, {}, [], {}, []
         block = None
         for raw in open(path, encoding="utf-8"):
             line = uncommented(raw.rstrip("\n"))
@@ -99,6 +99,7 @@ class File:
                 inner = re.match(r"^ +(?:pub )?([^:{}()]+?) +:", line)
                 for name in inner.group(1).split() if inner else []:
                     self.of.setdefault(name, block)
+                    self.fields.append((name, block))
             block["lines"].append(line)
 
     def begin(self, name, kind, indent):
@@ -174,8 +175,12 @@ def reached(files, unread):
         block = todo.pop()
         file = block["file"]
         tokens = words("\n".join(block["lines"]))
+        taken = set(re.findall(r"\.\w+", " ".join(block["lines"])))
         for name, other in file.of.items():
             if other is not block and mentions(name, tokens) and (short(file.path), name) not in unread:
+                push(other)
+        for name, other in file.fields:  # also where a definition has the name of a field
+            if other is not block and f".{name}" in taken:
                 push(other)
         for name, (module, old) in file.imports.items():
             if mentions(name, tokens):
@@ -190,22 +195,23 @@ def reached(files, unread):
 
 
 def undetermined(files):
-    """The functions of DETERMINED that are gone, or that a page does not speak of."""
-    for (file, name), pages in DETERMINED.items():
+    """The functions of DETERMINED that are gone, those of which their page does not speak, and promises that are not there."""
+    promised = {name for path, file in files.items() if path.startswith("crates/promises/") for name in file.of}
+    for (file, name), (page, promises) in DETERMINED.items():
         crate, stem = file.split("/")
         if name not in files[f"crates/{crate}/specs/{stem}.antt"].of:
             yield f"{file} has no {name}"
-        for page in pages:
-            told = files[f"crates/promises/specs/{page}.antt"]
-            tokens = words("\n".join(line for block in told.blocks for line in block["lines"]))
-            if not any(mentions(said, tokens) for said in ([name] if name != "outcome" else ["word", "after"])):
-                yield f"promises/{page} does not speak of {name}"
+        told = files[f"crates/promises/specs/{page}.antt"]
+        tokens = words("\n".join(line for block in told.blocks for line in block["lines"]))
+        if not mentions("word" if name == "outcome" else name, tokens):
+            yield f"promises/{page} does not speak of {name}"
+        yield from (f"no page has the promise {promise}, by which {name} is determined" for promise in promises if promise not in promised)
 
 
 def main():
     files = load()
-    seen, _ = reached(files, DETERMINED)
-    everything, types = reached(files, PARSERS)
+    seen, types = reached(files, DETERMINED)
+    everything, _ = reached(files, PARSERS)
     rows, sums, strangers = [], [], list(undetermined(files))
     for path, file in files.items():
         read = sum(len(b["lines"]) for b in file.blocks if id(b) in seen)

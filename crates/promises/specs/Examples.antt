@@ -30,12 +30,6 @@ permitBy n = verdict (Permit (record { 0 = n }))
 abbrev denyBy : ℕ → Answer
 denyBy n = verdict (Deny (record { 0 = n }))
 
-abbrev byDefault : Answer
-byDefault = verdict Default
-
-abbrev mixedBy : ℕ → Answer
-mixedBy n = tree (Mixed (record { 0 = n }))
-
 -- ---- A to D: "Stevie is in admin and engineers. All rules read, as are the requests; origin is empty."
 
 key : String → String → Key
@@ -109,14 +103,14 @@ examples =
     -- E
     ∷ (pathOf "u" 1 "/a/b", permitBy 0)
     -- F
-    ∷ (pathOf "u" 1 "/ab", byDefault)
+    ∷ (pathOf "u" 1 "/ab", verdict Default)
     -- G
-    ∷ (pathOf "v" 1 "/a", byDefault)
+    ∷ (pathOf "v" 1 "/a", verdict Default)
     -- H
     ∷ (pathOf "u" 1 "/a[k=9]", permitBy 0)
     -- I
-    ∷ (pathOf "u" 1 "/", byDefault)
-    ∷ (treeOf "u" 1 "/", mixedBy 0)
+    ∷ (pathOf "u" 1 "/", verdict Default)
+    ∷ (treeOf "u" 1 "/", tree (Mixed (record { 0 = 0 })))
     -- J
     ∷ (treeOf "u" 1 "/a", tree All)
     -- K

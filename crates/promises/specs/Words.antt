@@ -1,6 +1,6 @@
 -- The answer word read back: the header's readers, as definitions, give each call's answer from its word, and of a refusal they give the safe value.
--- So nothing of an answer is left out of its word, and no two answers of a call share one.
-use Prim.Native.Nat.{ℕ, zero, suc, _/_, _%_, _<_, _^_}
+-- So nothing of an answer is left out of its word, no two answers of a call share one, and nothing else stands in it: the answer determines the word.
+use Prim.Native.Nat.{ℕ, zero, suc, _+_, _*_, _/_, _%_, _^_}
 use mathlib.Core.Path.{_≡_}
 use mathlib.Core.Bool.{Bool, false}
 use mathlib.Core.Option.{Option, none, some}
@@ -35,7 +35,7 @@ use Rattle.rotation_probe.specs.Probe.{probePath, probeTree}
 use Rattle.rotation_probe.specs.Rpc.{probeRpc}
 use Rattle.rotation_probe.specs.declared.rpcs.RpcAnswer.{RpcAnswer}
 use Rattle.rotation_probe.specs.declared.rpcs.RpcAnswer.the-variants as probe
-use Rattle.burgee.specs.Calls.{PublicCall, PathRead, PathWrite, TableCheck, GroupCount, PathVerdict, TreeVerdict, PolicyCheck, RpcVerdict, word}
+use Rattle.burgee.specs.Calls.{PathRead, PathWrite, TableCheck, GroupCount, PathVerdict, TreeVerdict, PolicyCheck, RpcVerdict, word}
 use Rattle.burgee.specs.Calls.{ProbePath, ProbeTree, ProbeRpc}
 use Rattle.promises.specs.Leaves.{publicly}
 
@@ -61,9 +61,13 @@ filledLength w = accepted w % 2 ^ 32
 abbrev pub count : ℕ → ℕ
 count w = accepted w % 2 ^ 8
 
--- burgee_is_permitted, burgee_answer_action
+-- burgee_is_permitted
 abbrev pub permitted : ℕ → Bool
 permitted w = eqb (accepted w % 2 ^ 8) 1
+
+-- burgee_answer_action: 0 deny, 1 permit
+abbrev pub action : ℕ → ℕ
+action w = if permitted w then 1 else 0
 
 -- burgee_answer_tree: 0 NONE, 1 ALL, 2 MIXED
 unfoldable pub tree : ℕ → ℕ
@@ -78,45 +82,50 @@ lessOne (suc n) = some n
 unfoldable pub number : ℕ → Option ℕ
 number w = lessOne (accepted w / 2 ^ 8 % 2 ^ 16)
 
--- ---- an answer as the readers tell it; none where their parts are no answer's
+-- ---- an answer as the readers tell it; none where their parts are no answer's, or the word has more than these
 
--- by whether the call was refused
-abbrev told : {A : Type 0} → A → Option A → ℕ → Option A
-told refused given w = if eqb (refusal w) 0 then given else some refused
+unfoldable pub onlyIf : {A : Type 0} → Bool → Option A → Option A
+onlyIf b a = if b then a else none
+
+-- by whether the call was refused; `parts` is what the readers read of the bits from 8 on
+abbrev told : {A : Type 0} → A → Option A → ℕ → ℕ → Option A
+told refused given parts w =
+    if eqb (refusal w) 0 then onlyIf (eqb (accepted w) parts) given else onlyIf (eqb w (refusal w + line w * 2 ^ 8)) (some refused)
+
+-- the parts of a byte and a number
+unfoldable pub beside : ℕ → Option ℕ → ℕ
+beside a none = a
+beside a (some n) = a + suc n * 2 ^ 8
 
 abbrev pub toldFilled : ℕ → Option Filled
-toldFilled w = told (filled.Refused (refusal w)) (some (filled.Length (filledLength w))) w
-
--- an answer without parts
-unfoldable pub plain : {A : Type 0} → A → ℕ → Option A
-plain a n = if eqb n 0 then some a else none
+toldFilled w = told (filled.Refused (refusal w)) (some (filled.Length (filledLength w))) (filledLength w) w
 
 abbrev pub toldChecked : ℕ → Option Checked
-toldChecked w = told (checked.Refused (refusal w) (line w)) (plain checked.Accepted (accepted w)) w
+toldChecked w = told (checked.Refused (refusal w) (line w)) (some checked.Accepted) 0 w
 
 unfoldable pub countedBy : ℕ → Option ℕ → Option Counted
-countedBy n none = plain counted.NoGroup n
+countedBy n none = onlyIf (eqb n 0) (some counted.NoGroup)
 countedBy n (some g) = some (counted.Count n (record { 0 = g }))
 
 abbrev pub toldCounted : ℕ → Option Counted
-toldCounted w = told (counted.Declined (refusal w) (line w)) (countedBy (count w) (number w)) w
+toldCounted w = told (counted.Declined (refusal w) (line w)) (countedBy (count w) (number w)) (beside (count w) (number w)) w
 
 unfoldable pub pathBy : Bool → Option ℕ → Option PathAnswer
 pathBy permits none = if permits then none else some path.Default
 pathBy permits (some r) = some (if permits then path.Permit (record { 0 = r }) else path.Deny (record { 0 = r }))
 
 abbrev pub toldPath : ℕ → Option PathAnswer
-toldPath w = told (path.Refused (refusal w) (line w)) (pathBy (permitted w) (number w)) w
+toldPath w = told (path.Refused (refusal w) (line w)) (pathBy (permitted w) (number w)) (beside (action w) (number w)) w
 
 unfoldable pub treeBy : ℕ → Option ℕ → Option TreeAnswer
 treeBy n none = if eqb n 0 then some trees.None else if eqb n 1 then some trees.All else none
 treeBy n (some r) = if eqb n 2 then some (trees.Mixed (record { 0 = r })) else none
 
 abbrev pub toldTree : ℕ → Option TreeAnswer
-toldTree w = told (trees.Refused (refusal w) (line w)) (treeBy (tree w) (number w)) w
+toldTree w = told (trees.Refused (refusal w) (line w)) (treeBy (tree w) (number w)) (beside (tree w) (number w)) w
 
 abbrev pub toldPolicy : ℕ → Option Check
-toldPolicy w = told (policy.Refused (refusal w)) (plain policy.Accepted (accepted w)) w
+toldPolicy w = told (policy.Refused (refusal w)) (some policy.Accepted) 0 w
 
 abbrev byRule : Bool → ℕ → Verdict
 byRule permits r = if permits then rpc.Permitted r else rpc.Denied r
@@ -126,7 +135,7 @@ rpcBy permits none = if permits then none else some rpc.Default
 rpcBy permits (some r) = some (byRule permits r)
 
 abbrev pub toldRpc : ℕ → Option Verdict
-toldRpc w = told (rpc.Refused (refusal w)) (rpcBy (permitted w) (number w)) w
+toldRpc w = told (rpc.Refused (refusal w)) (rpcBy (permitted w) (number w)) (beside (action w) (number w)) w
 
 -- a permit that names no rule is factory's
 unfoldable pub probeBy : Bool → Option ℕ → Option RpcAnswer
@@ -134,7 +143,7 @@ probeBy permits none = some (if permits then probe.PermitAll else probe.Judged r
 probeBy permits (some r) = some (probe.Judged (byRule permits r))
 
 abbrev pub toldProbe : ℕ → Option RpcAnswer
-toldProbe w = told (probe.Judged (rpc.Refused (refusal w))) (probeBy (permitted w) (number w)) w
+toldProbe w = told (probe.Judged (rpc.Refused (refusal w))) (probeBy (permitted w) (number w)) (beside (action w) (number w)) w
 
 -- ---- the promise
 
@@ -158,8 +167,6 @@ pub record Words : Type 0 where
       → toldTree (word (ProbeTree rec store user mode origin path)) ≡ some (probeTree rec store user mode origin path)
   pub probe-rpc : (rec : Record) (store identity path headers : Str)
       → toldProbe (word (ProbeRpc rec store identity path headers)) ≡ some (probeRpc rec store identity path headers)
-  -- bits 40 to 63 are 0
-  pub nothing-above : (c : PublicCall) → word c < 2 ^ 40
 
 -- of a refusal every reader gives the safe value: deny, NONE, no rule, no group, 0
 pub record Safe (w : ℕ) (refused : refusal w ≡ 0 → ⊥) : Type 0 where
