@@ -6,6 +6,7 @@ use Rattle.cli_answers.proofs.Grouping.{Told, told-none, told-room, tol
 use Rattle.cli_answers.proofs.rows.group_lines.Statement.{statement}
 use Rattle.cli_answers.proofs.rows.group_lines.Tie as tie
 
+-- the lines of the groups below g are made, up to `end`
 abbrev Inv-loop : tie.InvT-loop
 Inv-loop text set n out₀ at end₀ g₀ out end g = (g ≤ n) × Told text set out₀ at g out end
 

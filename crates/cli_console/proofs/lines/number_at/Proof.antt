@@ -7,6 +7,7 @@ use Rattle.cli_console.proofs.Numbering.{Counting, number-start, number
 use Rattle.cli_console.proofs.lines.number_at.Statement.{statement}
 use Rattle.cli_console.proofs.lines.number_at.Tie as tie
 
+-- n counts the lines up to position i
 abbrev Inv-loop : tie.InvT-loop
 Inv-loop text p n₀ i₀ n i = (i ≤ length text) × Counting text p i n
 

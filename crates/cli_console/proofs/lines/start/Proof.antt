@@ -6,6 +6,7 @@ use Rattle.cli_console.proofs.Numbering.{Passing, line-turn, line-here,
 use Rattle.cli_console.proofs.lines.start.Statement.{statement}
 use Rattle.cli_console.proofs.lines.start.Tie as tie
 
+-- the line asked for is that of number `left` from `at` on
 abbrev Inv-loop : tie.InvT-loop
 Inv-loop text n at₀ left₀ at left = Passing text n at left
 

@@ -8,6 +8,7 @@ use Rattle.cli_console.proofs.Quoting.{Shown, shown-none, shown-room, s
 use Rattle.cli_console.proofs.quote.make.Statement.{statement}
 use Rattle.cli_console.proofs.quote.make.Tie as tie
 
+-- the first i bytes are made, up to `at`
 abbrev Inv-loop : tie.InvT-loop
 Inv-loop s out₀ at₀ i₀ out at i = (i ≤ length s) × Shown s out₀ i out at
 

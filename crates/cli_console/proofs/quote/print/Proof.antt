@@ -6,6 +6,7 @@ use Rattle.cli_console.proofs.Quoting.{part-short}
 use Rattle.cli_console.proofs.quote.print.Statement.{statement}
 use Rattle.cli_console.proofs.quote.print.Tie as tie
 
+-- at is within s
 abbrev Inv-loop : tie.InvT-loop
 Inv-loop to s at₀ t5 at = at ≤ length s
 
