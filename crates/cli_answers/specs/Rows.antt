@@ -16,6 +16,10 @@ use Rattle.cli_answers.specs.Lines.{nameIn}
 unfoldable pub rowLines : ℕ → ℕ → ℕ → Str
 rowLines groups members rules = fact (bytes "accepted\ngroups ") groups ++ fact (bytes "members ") members ++ fact (bytes "rules ") rules
 
+-- the longest line with a count of groups
+abbrev pub maxCountLine : ℕ
+maxCountLine = 28
+
 -- how many groups list a user; a refusal has words of its own
 unfoldable pub groupsLine : Counted → Str
 groupsLine (counted.Count n first) = fact (bytes "groups ") n

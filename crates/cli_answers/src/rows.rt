@@ -6,13 +6,15 @@ ghost use Rattle.limits.specs.Limits.{maxGroups};
 ghost use Rattle.table.specs.Group.{numbered};
 ghost use Rattle.table_membership.specs.Set.{hasOf, numbersIn};
 ghost use Rattle.cli_show.specs.Added.{Added, AddedUpTo};
-ghost use Rattle.cli_answers.specs.Rows.{rowLines, groupsLine, groupLine, groupLines, maxGroupLine};
+ghost use Rattle.cli_answers.specs.Rows.{rowLines, groupsLine, groupLine, groupLines, maxCountLine, maxGroupLine};
 use cli_show::add;
 use table::Counted;
 use table::GroupNumber;
 use table_facts::Row;
 
-// Room for a line on a group.
+// Room for a line with a count of groups, and for a line on a group.
+pub const MAX_COUNT_LINE: usize = 28;
+
 pub const MAX_GROUP_LINE: usize = 28 + limits::MAX_STRING;
 
 // How many rows of each kind an accepted table has.
@@ -27,8 +29,8 @@ pub fn counts(groups: usize, members: usize, rules: usize, out: &mut [u8]) -> us
 
 // How many groups list a user; nothing for a refusal.
 pub fn groups(c: Counted, out: &mut [u8]) -> usize
-    requires { ⌜ 28 ≤ length (now out) ⌝ }
-    ensures { λ n. ⌜ AddedUpTo 28 (now (out .entry)) 0 (groupsLine c) (now (out .exit)) n ⌝ }
+    requires { ⌜ maxCountLine ≤ length (now out) ⌝ }
+    ensures { λ n. ⌜ AddedUpTo maxCountLine (now (out .entry)) 0 (groupsLine c) (now (out .exit)) n ⌝ }
 {
     match c {
         Counted::Count { count, first } => add::fact(b"groups ", count as u64, out, 0),

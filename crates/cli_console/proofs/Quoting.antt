@@ -16,6 +16,7 @@ use Rattle.readable_parts.specs.Parts.{hexPair, hexText}
 use Rattle.cli_show.specs.Added.{Added, AddedUpTo}
 use Rattle.cli_show.proofs.Adding.{_then_, nothing-added}
 use Rattle.cli_console.specs.Quoted.{shown, quoted}
+use Rattle.cli_console.specs.Steps.{maxPart}
 
 -- ---- one byte
 
@@ -69,5 +70,5 @@ quoted-parts [] t = refl
 quoted-parts (x ∷ s) t = rw (quoted-parts s t) (sym (append-assoc (shown x) (joined shown s) (joined shown t)))
 
 -- a part is short
-pub part-short : (s : Str) (at end : ℕ) → (at < end) × (end ≤ length s) × (end ≤ at + 1024) → length (take (end - at) (drop at s)) ≤ 1024
+pub part-short : (s : Str) (at end : ℕ) → (at < end) × (end ≤ length s) × (end ≤ at + maxPart) → length (take (end - at) (drop at s)) ≤ maxPart
 part-short s at end h = omega (arith, length-take-le (end - at) (drop at s) (omega (arith, length-drop at s, h .1)), h .2)

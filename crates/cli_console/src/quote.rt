@@ -3,6 +3,7 @@ ghost use Prim.Native.Nat.{_+_, _*_, _≤_, _<_};
 ghost use lib.ListN.{length};
 ghost use Rattle.cli_show.specs.Added.{Added, AddedUpTo};
 ghost use Rattle.cli_console.specs.Quoted.{shown, quoted};
+ghost use Rattle.cli_console.specs.Steps.{maxPart};
 use cli_show::add;
 
 // As many bytes of a line as are made at once, and room for them: one that does not print takes four.
@@ -40,7 +41,7 @@ fn make(s: &[u8], out: &mut [u8]) -> usize
 // Where the part that begins at `at` ends.
 fn part_end(s: &[u8], at: usize) -> usize
     requires { ⌜ at < length (now s) ⌝ }
-    ensures { λ r. ⌜ (at < r) × (r ≤ length (now (s .entry))) × (r ≤ at + 1024) ⌝ }
+    ensures { λ r. ⌜ (at < r) × (r ≤ length (now (s .entry))) × (r ≤ at + maxPart) ⌝ }
 {
     if PART < s.len() - at {
         at + PART
@@ -50,7 +51,7 @@ fn part_end(s: &[u8], at: usize) -> usize
 }
 
 fn print_part(to: i32, s: &[u8])
-    requires { ⌜ length (now s) ≤ 1024 ⌝ }
+    requires { ⌜ length (now s) ≤ maxPart ⌝ }
 {
     let mut out = [0u8; PART_ROOM];
     let n = make(s, &mut out);

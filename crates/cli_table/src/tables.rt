@@ -5,14 +5,15 @@ ghost use lib.ListN.{length};
 ghost use Rattle.limits.specs.Limits.{maxGroups};
 ghost use Rattle.table.specs.Group.{groupCount};
 ghost use Rattle.cli_show.specs.Added.{Added};
-ghost use Rattle.cli_answers.specs.Rows.{maxGroupLine, groupsText};
+ghost use Rattle.cli_answers.specs.Rows.{maxCountLine, maxGroupLine, groupsText};
 ghost use Rattle.cli_answers.specs.Steps.{ListsGroups};
 use cli_answers::lines::Fallback;
 use table::Counted;
 use table_check::Seen;
 
 // Room for how many groups there are, and a line for each.
-const MAX_GROUPS_TEXT: usize = 28 + limits::MAX_GROUPS * cli_answers::rows::MAX_GROUP_LINE;
+const MAX_GROUPS_TEXT: usize = cli_answers::rows::MAX_COUNT_LINE
+    + limits::MAX_GROUPS * cli_answers::rows::MAX_GROUP_LINE;
 
 // How many rows of each kind an accepted table has, or why it is refused.
 pub fn check(text: &[u8]) {
@@ -46,7 +47,7 @@ fn list(text: &[u8], user: &[u8], out: &mut [u8], at: usize) -> usize
 
 // How many groups list the user, as c says, and each of them; nothing for a refusal.
 fn tell_groups(text: &[u8], user: &[u8], c: Counted, out: &mut [u8]) -> usize
-    requires { ⌜ (c ≡ groupCount (now text) (now user)) × (28 + maxGroups * maxGroupLine ≤ length (now out)) ⌝ }
+    requires { ⌜ (c ≡ groupCount (now text) (now user)) × (maxCountLine + maxGroups * maxGroupLine ≤ length (now out)) ⌝ }
     ensures { λ r. ⌜ Added (now (out .entry)) 0 (groupsText (now (text .entry)) (now (user .entry))) (now (out .exit)) r ⌝ }
 {
     let at = cli_answers::rows::groups(c, out);
