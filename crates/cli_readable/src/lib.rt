@@ -12,8 +12,8 @@ fn save(i: usize, table: &[u8]) {
     let begun = cli_saving::begin(i, true);
     let written = cli_saving::add(begun, table);
     if cli_saving::finish(written) {
-        let mut out = [0u8; cli_show::add::MAX_LINES];
-        let n = cli_show::add::fact(b"bytes ", table.len() as u64, &mut out, 0);
+        let mut out = [0u8; cli_show::MAX_LINES];
+        let n = text_make::fact(b"bytes ", table.len() as u64, &mut out, 0);
         cli_show::first(&out, n);
     }
 }

@@ -3,9 +3,8 @@ pub mod entry;
 
 ghost use Prim.Native.Nat.{_+_, _≤_};
 ghost use lib.ListN.{length};
-ghost use Rattle.cli_show.specs.Added.{Added, AddedUpTo};
+ghost use Rattle.text_make.specs.Added.{Added, AddedUpTo};
 ghost use Rattle.cli_refusal.specs.Refusal.{meaning, place, refusal as Refusal·refusal};
-use cli_show::add;
 
 // Room for the line: words are looked up in their table, and no longer than it.
 pub const MAX_LINE: usize = 1660;
@@ -61,8 +60,8 @@ pub fn add_place(line: usize, out: &mut [u8], at: usize) -> usize
     if line == 0 {
         return at;
     }
-    let number = add::string(b" at line ", out, at);
-    add::decimal(line as u64, out, number)
+    let number = text_make::string(b" at line ", out, at);
+    text_make::decimal(line as u64, out, number)
 }
 
 // Makes the line of a refusal.
@@ -70,10 +69,10 @@ pub fn line(number: u8, line: usize, out: &mut [u8]) -> usize
     requires { ⌜ 1660 ≤ length (now out) ⌝ }
     ensures { λ r. ⌜ Added (now (out .entry)) 0 (Refusal·refusal number line) (now (out .exit)) r ⌝ }
 {
-    let digits = add::string(b"refused ", out, 0);
-    let place = add::decimal(number as u64, out, digits);
+    let digits = text_make::string(b"refused ", out, 0);
+    let place = text_make::decimal(number as u64, out, digits);
     let colon = add_place(line, out, place);
-    let words = add::string(b": ", out, colon);
+    let words = text_make::string(b": ", out, colon);
     let end = add_meaning(number, out, words);
-    add::string(b"\n", out, end)
+    text_make::string(b"\n", out, end)
 }

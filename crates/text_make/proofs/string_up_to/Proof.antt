@@ -3,10 +3,10 @@ use borrow.Author.Needs.{needs}
 use native.Mathlib.Omega.{arith}
 use borrow.Author.Tests.{lt-ltb, le-ltb}
 use Rattle.text.specs.Test.{if_then_else_}
-use Rattle.cli_show.specs.Text.{upTo}
-use Rattle.cli_show.proofs.Adding.{nothing-added}
-use Rattle.cli_show.proofs.add.string_up_to.Statement.{statement}
-use Rattle.cli_show.proofs.add.string_up_to.Tie as tie
+use Rattle.text_make.specs.Text.{upTo}
+use Rattle.text_make.proofs.Adding.{nothing-added}
+use Rattle.text_make.proofs.string_up_to.Statement.{statement}
+use Rattle.text_make.proofs.string_up_to.Tie as tie
 
 returns : tie.Need-returns
 unfolding upTo if_then_else_

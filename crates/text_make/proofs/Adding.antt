@@ -4,7 +4,7 @@ use native.Mathlib.Omega.{arith}
 use mathlib.Core.List.{List, [], _++_}
 use lib.ListN.{length, length-append}
 use Rattle.text.proofs.Filling.{wrote-long, wrote-more, wrote-nothing}
-use Rattle.cli_show.specs.Added.{Added}
+use Rattle.text_make.specs.Added.{Added}
 
 infixl 30 _then_
 pub _then_ : {d s d′ t d″ : List ℕ} {at e e′ : ℕ} → Added d at s d′ e → Added d′ e t d″ e′ → Added d at (s ++ t) d″ e′

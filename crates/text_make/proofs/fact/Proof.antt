@@ -1,10 +1,10 @@
 -- `fact` adds the name, the number and the end of the line.
 use borrow.Author.Needs.{needs}
 use native.Mathlib.Omega.{arith}
-use Rattle.cli_show.specs.Text.{fact}
-use Rattle.cli_show.proofs.Adding.{_then_}
-use Rattle.cli_show.proofs.add.fact.Statement.{statement}
-use Rattle.cli_show.proofs.add.fact.Tie as tie
+use Rattle.text_make.specs.Text.{fact}
+use Rattle.text_make.proofs.Adding.{_then_}
+use Rattle.text_make.proofs.fact.Statement.{statement}
+use Rattle.text_make.proofs.fact.Tie as tie
 
 string-requires-2 : tie.Need-string-requires-2
 string-requires-2 c κs = omega arith

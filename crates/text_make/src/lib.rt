@@ -1,11 +1,8 @@
 // Text made in a buffer, piece after piece: each function stores its piece from `at` on, and answers where the next one begins.
 ghost use Prim.Native.Nat.{_+_, _≤_};
 ghost use lib.ListN.{length};
-ghost use Rattle.cli_show.specs.Added.{Added, AddedUpTo};
-ghost use Rattle.cli_show.specs.Text.{upTo, fact as Text·fact, decimal as Text·decimal};
-
-// Room for the lines of any answer, but for a refusal.
-pub const MAX_LINES: usize = 320;
+ghost use Rattle.text_make.specs.Added.{Added, AddedUpTo};
+ghost use Rattle.text_make.specs.Text.{upTo, fact as Text·fact, decimal as Text·decimal};
 
 pub fn string(s: &[u8], out: &mut [u8], at: usize) -> usize
     requires { ⌜ at + length (now s) ≤ length (now out) ⌝ }

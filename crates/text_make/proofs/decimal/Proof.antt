@@ -1,9 +1,9 @@
 -- `decimal` adds the digits that `io` makes of the number.
 use borrow.Author.Needs.{needs}
 use native.Mathlib.Omega.{arith}
-use Rattle.cli_show.proofs.Spelling.{few, decimal-added}
-use Rattle.cli_show.proofs.add.decimal.Statement.{statement}
-use Rattle.cli_show.proofs.add.decimal.Tie as tie
+use Rattle.text_make.proofs.Spelling.{few, decimal-added}
+use Rattle.text_make.proofs.decimal.Statement.{statement}
+use Rattle.text_make.proofs.decimal.Tie as tie
 
 string-requires : tie.Need-string-requires
 string-requires c κs = let at-start = c .before .before .before .before .before in

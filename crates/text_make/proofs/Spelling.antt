@@ -10,8 +10,8 @@ use lib.ListN.{length, take}
 use Rattle.text.specs.Test.{if_then_else_}
 use Rattle.io.specs.Digits.{glyph, Fewest}
 use Rattle.io.specs.Digits.{digits as spelled}
-use Rattle.cli_show.specs.Text.{digits, decimal}
-use Rattle.cli_show.specs.Added.{Added, AddedUpTo}
+use Rattle.text_make.specs.Text.{digits, decimal}
+use Rattle.text_make.specs.Added.{Added, AddedUpTo}
 
 last : (n : ℕ) → glyph (n % 10) ≡ 48 + n % 10
 last n = rw (lt-ltb (n % 10) 10 (mod-lt n (omega arith)))
