@@ -1,30 +1,32 @@
 -- A request is its heading and its path: what reading them apart tells of the frame.
 use Prim.Native.Nat.{ℕ, _+_, _-_, _≤_, _<_}
 use native.Mathlib.Omega.{arith}
-use borrow.Author.Tests.{ne-eqb, eqb-true, eqb-false}
+use borrow.Author.Tests.{ne-eqb, eqb-true, eqb-false, ltb-true, ltb-false}
 use mathlib.Core.Path.{_≡_, refl, sym, ap, _∙_}
 use mathlib.Core.Bool.{Bool, true, false, not}
 use mathlib.Core.List.{List}
 use mathlib.Core.Option.{Option, none, some}
-use lib.Dec.{eqb}
+use lib.Dec.{eqb, ltb}
 use lib.ListN.{length, getD, length-take, length-drop}
 use Rattle.text.specs.Test.{_and_, _or_, if_then_else_}
 use Rattle.text.specs.String.{Str}
 use Rattle.text.specs.Refusal.{_when_else_, clear}
 use Rattle.text.specs.Frame.{Parsed, got, unread, andThen, _>>=_, ret, byte, part, string}
 use Rattle.text.proofs.Frames.{byte-got, byte-unread}
+use Rattle.text.proofs.Codec.{never-got, then-got, got-move}
 use Rattle.text.proofs.Tests.{by, clash, and-l, and-r, and-false}
 use Rattle.path.specs.Path.{Path}
 use Rattle.path.specs.Bytes.{path}
 use Rattle.path.specs.Walk.{isPathIn}
 use Rattle.path.specs.Refusal.{goodPath}
 use Rattle.table.specs.Frame.{whole}
-use Rattle.table_place.specs.Place.{pathEnd, pathIn}
-use Rattle.table_place.proofs.Reading.{path-read}
+use Rattle.table_place.specs.Place.{strEnd, strIn, pathIn}
+use Rattle.table_place.proofs.Reading.{same-got, str-read, path-read}
 use Rattle.verdict.specs.Verdict.{Request}
 use Rattle.verdict_request.specs.Calls.{refusalOr, asked}
 use Rattle.log.specs.Request.{requestBody, framedRequest, framedRefusal, unrefused, goodRequest}
 use Rattle.log.specs.Heading.{Head, heading, headRefusal, headed}
+use Rattle.log.specs.declared.Heading.{Heading}
 use Rattle.log.specs.declared.Heading.the-variants.{At, Unread}
 
 -- ---- reading the heading, part by part
@@ -62,6 +64,80 @@ module _ (f : List ℕ) (o p : ℕ) (l : 2 ≤ o) (m : o ≤ length f) where
       → x ≡ got (record { mode = getD f 0 0; user = part f 2 o; origin = part f (o + 1) p }) p → At n o p ≡ headed x
   unfolding headed headRefusal
   head-at n e x g = let k : 2 + length (part f 2 o) ≡ o = omega (arith, user-long) in rw (g, k, e)
+
+-- what an answer of `read_heading` tells
+
+abbrev pub headIn : List ℕ → ℕ → ℕ → Head
+headIn f o p = record { mode = getD f 0 0; user = part f 2 o; origin = part f (o + 1) p }
+
+pub record HeadAt (f : List ℕ) (n o p : ℕ) : Type 0 where
+  pub some-bytes : 0 < length f
+  pub user-ends : 2 ≤ o
+  pub origin-ends : o + 1 ≤ p
+  pub within : p ≤ length f
+  pub reads : heading f 0 ≡ got (headIn f o p) p
+  pub number : n ≡ headRefusal (headIn f o p)
+
+module _ (f : List ℕ) where
+  next-string : (at : ℕ) (s : Str) (t : ℕ) → string f at ≡ got s t → (s ≡ part f (at + 1) t) × (at + 1 ≤ t) × (t ≤ length f)
+  unfolding strEnd strIn
+  next-string at s t e = let k = str-read f at s t e in (rw (k .2) (k .1), omega (arith, k .2), omega (arith, k .0, k .2))
+
+  module _ (h : 0 < length f) where
+    opened : heading f 0 ≡ andThen (string f 1) (λ u p. andThen (string f p) (λ o t. got (record { mode = getD f 0 0; user = u; origin = o }) t))
+    unfolding heading _>>=_ ret
+    opened = rw (byte-got f 0 h)
+
+    from-strings : (u : Str) (o : ℕ) → string f 1 ≡ got u o → (v : Str) (p : ℕ) → string f o ≡ got v p
+        → HeadAt f (headRefusal (record { mode = getD f 0 0; user = u; origin = v })) (2 + length u) p
+    from-strings u o e v p d =
+        let a = next-string 1 u o e in
+        let b = next-string o v p d in
+        let l : 2 + length u ≡ o = omega (arith, ap length (a .0), user-long f o p (a .1) (a .2)) in
+        rw l (record {
+          some-bytes = h;
+          user-ends = a .1;
+          origin-ends = b .1;
+          within = b .2;
+          reads = head-read f h o (e ∙ ap (λ (s : Str). got s o) (a .0)) p (d ∙ ap (λ (s : Str). got s p) (b .0));
+          number =
+              ap (λ (s : Str). headRefusal (record { mode = getD f 0 0; user = s; origin = v })) (a .0)
+              ∙ ap (λ (s : Str). headRefusal (record { mode = getD f 0 0; user = part f 2 o; origin = s })) (b .0);
+        })
+
+    from-heading : (h : Head) (t : ℕ) → heading f 0 ≡ got h t → HeadAt f (headRefusal h) (2 + length (h .user)) t
+    from-heading x t e =
+        let a = then-got (string f 1) _ (sym opened ∙ e) in
+        let b = then-got (string f (a .1)) _ (a .3) in
+        got-move (λ y d. HeadAt f (headRefusal y) (2 + length (y .user)) d) (b .3) (from-strings (a .0) (a .1) (a .2) (b .0) (b .1) (b .2))
+
+  heading-at : (h : Head) (t : ℕ) → heading f 0 ≡ got h t → HeadAt f (headRefusal h) (2 + length (h .user)) t
+  heading-at h t e =
+      by (ltb 0 (length f)) (λ u. from-heading (ltb-true _ _ u) h t e) (λ u. never-got (no-mode f (omega (arith, ltb-false 0 (length f) u))) e)
+
+  told : (x : Parsed Head) → heading f 0 ≡ x → (n o p : ℕ) → At n o p ≡ headed x → HeadAt f n o p
+  unfolding headed
+  told (got h t) i n o p e =
+      let a : n ≡ headRefusal h = cc in
+      let b : o ≡ 2 + length (h .user) = cc in
+      let c : p ≡ t = cc in
+      rw (a, b, c) (heading-at h t i)
+  told unread i n o p e = let z : _≡_ {A = ℕ} 0 1 = cc in absurd (omega arith)
+
+  missed : (x : Parsed Head) → heading f 0 ≡ x → Unread ≡ headed x → heading f 0 ≡ unread
+  unfolding headed
+  missed (got h t) i e = let z : _≡_ {A = ℕ} 0 1 = cc in absurd (omega arith)
+  missed unread i e = i
+
+  module _ (r : Heading) (e : r ≡ headed (heading f 0)) where
+    pub head-told : (n o p : ℕ) → r ≡ At n o p → HeadAt f n o p
+    head-told n o p g = told (heading f 0) refl n o p (sym g ∙ e)
+
+    pub head-missed : r ≡ Unread → heading f 0 ≡ unread
+    head-missed g = missed (heading f 0) refl (sym g ∙ e)
+
+pub head-mode : (f : List ℕ) (h : Head) (t : ℕ) → heading f 0 ≡ got h t → h .mode ≡ getD f 0 0
+head-mode f h t e = ap (λ (x : Head). x .mode) (same-got f _ h (headIn f (2 + length (h .user)) t) t t e (heading-at f h t e .reads) .0)
 
 -- ---- the whole request
 

@@ -7,7 +7,8 @@ use mathlib.Core.Bool.{Bool, true, false, not}
 use mathlib.Core.List.{List, [], _∷_, _++_, append-assoc}
 use mathlib.Core.Option.{some}
 use lib.Dec.{eqb, ltb}
-use lib.ListN.{length, drop, length-drop, length-append}
+use lib.ListN.{length, take, drop, length-drop, length-append}
+use lib.Seq.{take-at}
 use Rattle.limits.specs.Limits.{maxString, maxShortString}
 use Rattle.limits.specs.Sizes.{maxHeading, maxLogFrame, maxPathBytes}
 use Rattle.text.specs.Test.{_and_, _or_, if_then_else_}
@@ -60,6 +61,10 @@ module _ (f : List ℕ) where
 
   pub heading-length : (h : Head) (t : ℕ) → heading f 0 ≡ got h t → length (headBytes h) ≡ t
   heading-length h t e = took-length (headBytes h) t (heading-took h t e)
+
+  -- its bytes are the front
+  pub heading-front : (h : Head) (t : ℕ) → heading f 0 ≡ got h t → take t f ≡ headBytes h
+  heading-front h t e = ap (take t) (heading-took h t e .same) ∙ take-at (headBytes h) (drop t f) t (heading-length h t e)
 
 -- ---- how long
 

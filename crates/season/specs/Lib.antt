@@ -1,2 +1,5 @@
 pub mod Report
 pub mod Calls
+pub mod Counts
+pub mod Loaded
+pub mod Counting
