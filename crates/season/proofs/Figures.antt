@@ -53,19 +53,20 @@ unfolding forEach
 each-same f g e zero i = refl
 each-same f g e (suc n) i = rw (e i, each-same f g e n (suc i))
 
--- counts that agree make the same rows and figures
-module _ (t u : Table) (ps qs : List Request) (cells : (mode : ℕ) (outcome : PathAnswer → Bool) → cell t ps mode outcome ≡ cell u qs mode outcome) where
-  row-same : (mode : ℕ) → row t ps mode ≡ row u qs mode
+module _ (t u : Table) (ps qs : List Request) where
+  pub row-same : (mode : ℕ) → cell t ps mode permitted ≡ cell u qs mode permitted → cell t ps mode deniedByRule ≡ cell u qs mode deniedByRule
+      → cell t ps mode deniedByDefault ≡ cell u qs mode deniedByDefault → row t ps mode ≡ row u qs mode
   unfolding row
-  row-same mode = rw (cells mode permitted, cells mode deniedByRule, cells mode deniedByDefault)
+  row-same mode permit deny default = rw (permit, deny, default)
 
-  pub grid-same : grid t ps ≡ grid u qs
-  unfolding grid
-  grid-same = rw (row-same 1, row-same 2)
+  module _ (rows : (mode : ℕ) → row t ps mode ≡ row u qs mode) where
+    pub grid-same : grid t ps ≡ grid u qs
+    unfolding grid
+    grid-same = rw (rows 1, rows 2)
 
-  pub figures-same : ((i : ℕ) → ruleCount t ps i ≡ ruleCount u qs i) → figures t ps ≡ figures u qs
-  unfolding figures ruleCounts
-  figures-same e = rw (row-same 1, row-same 2, each-same (ruleCount t ps) (ruleCount u qs) e maxRules 0)
+    pub figures-same : ((i : ℕ) → ruleCount t ps i ≡ ruleCount u qs i) → figures t ps ≡ figures u qs
+    unfolding figures ruleCounts
+    figures-same rules = rw (rows 1, rows 2, each-same (ruleCount t ps) (ruleCount u qs) rules maxRules 0)
 
 -- ---- two logs added
 
