@@ -1,5 +1,5 @@
 -- The requests of a log: each is accepted, asked by its path's text too; and an accepted log has one for each line.
-use Prim.Native.Nat.{ℕ, suc, _+_, _≤_}
+use Prim.Native.Nat.{ℕ, _+_, _≤_}
 use native.Mathlib.Omega.{arith}
 use borrow.Author.Tests.{eqb-true, eqb-false, ltb-false, le-ltb}
 use mathlib.Core.Path.{_≡_, refl, ap, _∙_}
@@ -22,7 +22,7 @@ use Rattle.verdict.specs.Verdict.{Request}
 use Rattle.verdict_request.specs.Calls.{requestRefusal, request}
 use Rattle.log.specs.Request.{framedRequest, framedRefusal, unrefused, goodRequest, requestOf}
 use Rattle.log.specs.Log.{judgeLog, checkLog, before, requestsOf, logOf}
-use Rattle.log.proofs.Headings.{Good, good-parts}
+use Rattle.log.proofs.Headings.{good-parts}
 use Rattle.log.proofs.Lengths.{good-mode}
 use Rattle.log.proofs.Spelled.{same-request, same-number}
 use Rattle.season.proofs.Totals.{ReadsOrWrites}

@@ -1,5 +1,5 @@
 -- The lines of a log, or of a table, in another order, and two logs one after the other: what becomes of the figures.
-use Prim.Native.Nat.{ℕ, _+_, _*_, _≤_, _<_}
+use Prim.Native.Nat.{ℕ, _+_, _*_, _≤_}
 use native.Mathlib.Omega.{arith}
 use borrow.Author.Tests.{eq-eqb, eqb-true}
 use mathlib.Core.Path.{_≡_, refl, sym, ap, _∙_}
@@ -9,8 +9,8 @@ use mathlib.Core.List.{List, [], _∷_, _++_, filterMap, List·Memᴰ·head, Lis
 use mathlib.Core.List.{List·Permᴰ, List·Permᴰ·nil, List·Permᴰ·cons, List·Permᴰ·swap, List·Permᴰ·trans, Permᴰ·symm}
 use mathlib.Core.Option.{Option, none, some, Option·elim, bind}
 use lib.Dec.{eqb}
-use lib.ListN.{length, getD, getElem?, length-append}
-use Rattle.limits.specs.Limits.{maxRules, maxLogLines}
+use lib.ListN.{length, getElem?, length-append}
+use Rattle.limits.specs.Limits.{maxLogLines}
 use Rattle.text.specs.Test.{_and_, if_then_else_, _∈_, absent}
 use Rattle.text.specs.String.{Str, same}
 use Rattle.text.specs.Byte.{isHex, hexValue}
@@ -31,10 +31,10 @@ use Rattle.verdict_request.specs.Calls.{decidedBy}
 use Rattle.verdict_request.specs.declared.PathAnswer.{PathAnswer}
 use Rattle.log.specs.Request.{goodRequest, requestOf}
 use Rattle.log.specs.Log.{checkLog, before, requestsOf, logOf}
-use Rattle.season.specs.Report.{answerTo, decides, permitted, deniedByRule, deniedByDefault, count, ruleCount, cell, row, grid, figures}
+use Rattle.season.specs.Report.{answerTo, decides, permitted, deniedByRule, deniedByDefault, count, ruleCount, cell, grid, figures}
 use Rattle.season.proofs.Totals.{oneIf, count-cons, count-same}
 use Rattle.season.proofs.Figures.{row-same, grid-same, figures-same}
-use Rattle.season.proofs.Asked.{AcceptedLines, log-opens, log-closes}
+use Rattle.season.proofs.Asked.{log-opens, log-closes}
 
 -- ---- the lines of a log in another order
 

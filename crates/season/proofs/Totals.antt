@@ -4,16 +4,21 @@ use native.Mathlib.Omega.{arith}
 use borrow.Author.Tests.{eq-eqb, ne-eqb, eqb-true, eqb-false}
 use mathlib.Core.Path.{_≡_, refl, sym, ap, _∙_}
 use mathlib.Core.Logic.{_⊎_, inl, inr}
-use mathlib.Core.Bool.{Bool, true, false}
-use mathlib.Core.List.{List, [], _∷_, _++_, List·Memᴰ·head, List·Memᴰ·tail, List·Memᴰ·not-nil}
+use mathlib.Core.Bool.{Bool, false}
+use mathlib.Core.List.{List, [], _∷_, _++_, List·Memᴰ·head, List·Memᴰ·tail}
 use lib.Dec.{eqb}
-use lib.ListN.{length, getD}
+use mathlib.Core.Option.{Option, none, some}
+use lib.ListN.{length, getD, getElem?}
 use Rattle.limits.specs.Limits.{maxRules}
 use Rattle.text.specs.Test.{_and_, if_then_else_, _∈_, only}
 use Rattle.text.specs.String.{joined}
 use Rattle.text.proofs.Tests.{by, and-second}
 use Rattle.table.specs.Table.{Table}
-use Rattle.verdict.specs.Verdict.{Request}
+use Rattle.verdict.specs.Order.{Numbered}
+use Rattle.verdict.specs.Verdict.{Request, decider}
+use Rattle.verdict.specs.Laws.{Decided}
+use Rattle.verdict.proofs.Theorems.{verdict}
+use Rattle.verdict_request.specs.Calls.{decidedBy}
 use Rattle.verdict_request.specs.declared.PathAnswer.{PathAnswer}
 use Rattle.verdict_request.specs.declared.PathAnswer.the-variants.{Permit, Deny, Default}
 use Rattle.season.specs.Report.{answerTo, decides, permitted, deniedByRule, deniedByDefault, count, forEach, ruleCount, ruleCounts, cell, row, grid}
@@ -48,6 +53,11 @@ pub count-same : {A : Type 0} (f g : A → Bool) (xs : List A) → ((x : A) → 
 count-same f g [] h = count-nil f ∙ sym (count-nil g)
 count-same f g (x ∷ xs) h =
     omega (arith, count-cons f x xs, count-cons g x xs, ap oneIf (h x (List·Memᴰ·head refl)), count-same f g xs (λ y m. h y (List·Memᴰ·tail m)))
+
+pub count-none : {A : Type 0} (f : A → Bool) (xs : List A) → ((x : A) → f x ≡ false) → count f xs ≡ 0
+unfolding if_then_else_
+count-none f [] h = count-nil f
+count-none f (x ∷ xs) h = omega (arith, rw (h x) at (count-cons f x xs), count-none f xs h)
 
 -- ---- a figure for each number
 
@@ -98,6 +108,21 @@ pub data Answered (n : ℕ) : PathAnswer → Type 0 where
   deny : (r : ℕ) → r < n → Answered n (Deny (record { 0 = r }))
   default : Answered n Default
 
+pub below : {A : Type 0} (xs : List A) (i : ℕ) (x : A) → getElem? xs i ≡ some x → i < length xs
+below [] i x e = let z : _≡_ {A = ℕ} 0 1 = cc in absurd (omega arith)
+below (y ∷ xs) zero x e = omega arith
+below (y ∷ xs) (suc i) x e = let h = below xs i x e in omega arith
+
+pub answered : (t : Table) (n : ℕ) → length (t .rules) ≤ n → (q : Request) → Answered n (answerTo t q)
+unfolding answerTo
+answered t n h q = go (decider t q) (verdict t q)
+  where
+    go : (o : Option Numbered) → Decided t q o → Answered n (decidedBy o)
+    go none d = unfold decidedBy in default
+    go (some m) d =
+        let k : m .number < n = omega (arith, below (t .rules) (m .number) (m .rule) (d .numbered)) in
+        unfold decidedBy if_then_else_ in by (m .rule .permit) (λ e. rw e (permit (m .number) k)) (λ e. rw e (deny (m .number) k))
+
 -- what a request of mode m and answer a adds to a cell
 abbrev inCell : ℕ → PathAnswer → ℕ → (PathAnswer → Bool) → ℕ
 inCell m a mode outcome = oneIf (eqb m mode and outcome a)
@@ -143,6 +168,12 @@ one-rule {n} (permit r h) q m = omega (arith, one-hit r n 0 (omega arith) (omega
 one-rule {n} (deny r h) q m = omega (arith, one-hit r n 0 (omega arith) (omega arith), not-by-default (Deny (record { 0 = r })) (q .mode) refl)
 one-rule {n} default q m = omega (arith, each-none (λ (i : ℕ). oneIf (decides i Default)) (λ i. refl) n 0, by-default q m)
 
+undecided : {n : ℕ} {a : PathAnswer} → Answered n a → (i : ℕ) → n ≤ i → decides i a ≡ false
+unfolding decides
+undecided (permit r h) i l = ne-eqb r i (λ z. omega arith)
+undecided (deny r h) i l = ne-eqb r i (λ z. omega arith)
+undecided default i l = refl
+
 module _ (t : Table) where
   cell-cons : (q : Request) (qs : List Request) (mode : ℕ) (outcome : PathAnswer → Bool)
       → cell t (q ∷ qs) mode outcome ≡ inCell (q .mode) (answerTo t q) mode outcome + cell t qs mode outcome
@@ -168,6 +199,11 @@ module _ (t : Table) where
   rules-cons : (q : Request) (qs : List Request) → total (ruleCounts t (q ∷ qs)) ≡ inRules (answerTo t q) maxRules + total (ruleCounts t qs)
   unfolding ruleCounts ruleCount
   rules-cons q qs = each-total _ _ _ (λ i. count-cons (λ (p : Request). decides i (answerTo t p)) q qs) maxRules 0
+
+  -- a number that no rule has decides nothing
+  pub no-such-rule : (qs : List Request) (i : ℕ) → length (t .rules) ≤ i → ruleCount t qs i ≡ 0
+  unfolding ruleCount
+  no-such-rule qs i h = count-none _ qs (λ q. undecided (answered t (length (t .rules)) (omega arith) q) i h)
 
   -- no rule has a number past the report's
   module _ (told : (q : Request) → Answered maxRules (answerTo t q)) where
