@@ -5,21 +5,21 @@
 -- What is not promised: rule numbers change with the order of the table's lines, so the places of the rules' counts do; only ids do not.
 use Prim.Native.Nat.{ℕ, _+_, _≤_, _<_}
 use mathlib.Core.Path.{_≡_}
-use mathlib.Core.Bool.{Bool}
+use mathlib.Core.Bool.{Bool, false}
 use mathlib.Core.List.{List, [], _∷_, _++_, map, List·Permᴰ}
 use mathlib.Core.Option.{some}
 use lib.Dec.{eqb}
-use lib.ListN.{length, getD, getElem?}
+use lib.ListN.{length, drop, getD, getElem?}
 use Rattle.limits.specs.Limits.{maxRules, maxLogLines}
 use Rattle.limits.specs.Sizes.{reportLines, maxReport}
-use Rattle.text.specs.Test.{_and_, _∈_}
+use Rattle.text.specs.Test.{_and_, _∈_, any, absent}
 use Rattle.text.specs.String.{Str, joined}
 use Rattle.text.specs.Refusal.{clear}
 use Rattle.path_read.specs.Text.{pathText}
 use Rattle.table_line.specs.Lines.{lines}
 use Rattle.table.specs.Table.{Rule, Table}
 use Rattle.table.specs.Text.{check, tableOf}
-use Rattle.table.specs.declared.Checked.the-variants.{Accepted}
+use Rattle.table.specs.declared.Checked.the-variants.{Accepted, Refused}
 use Rattle.verdict.specs.Verdict.{Request}
 use Rattle.verdict_order.specs.Reordering.{ReorderedLines}
 use Rattle.verdict_request.specs.Calls.{requestRefusal, pathVerdict}
@@ -27,8 +27,10 @@ use Rattle.verdict_request.specs.declared.PathAnswer.{PathAnswer}
 use Rattle.log.specs.Request.{requestOf}
 use Rattle.log.specs.Log.{checkLog, logOf}
 use Rattle.season.specs.Report.{decides, permitted, deniedByRule, deniedByDefault, count, ruleCounts, cell, grid, figures, figureLine}
-use Rattle.season.specs.Calls.{reportOf}
+use Rattle.season.specs.Calls.{reportOf, seasonAnswer, seasonLent}
 use Rattle.season.specs.Total.{total}
+use Rattle.season.specs.declared.Reported.the-variants as reported
+use Rattle.promises.specs.First.{First}
 
 -- an accepted table text x, and an accepted log
 module _ (x log : Str) (ok : check x ≡ Accepted) (fine : checkLog log ≡ Accepted) where
@@ -83,3 +85,25 @@ module _ (x log : Str) (ok : check x ≡ Accepted) (fine : checkLog log ≡ Acce
     pub rules : (i j : ℕ) (r s : Rule) → getElem? (t .rules) i ≡ some r → getElem? (tableOf y .rules) j ≡ some s → r .id ≡ s .id
         → getD (figures t qs) i 0 ≡ getD (figures (tableOf y) qs) j 0
     pub cells : grid t qs ≡ grid (tableOf y) qs
+
+-- any table text, any log and any lent buffer
+module _ (x log : Str) (out : List ℕ) where
+  -- a line "isn't so framed or gets 20 to 22"
+  abbrev pub bad : Str → Bool
+  bad l = absent (requestOf l)
+
+  pub record ReportAnswers : Type 0 where
+    -- "Table faults come first"
+    pub table : (number line : ℕ) → check x ≡ Refused number line → seasonAnswer x log out ≡ reported.Refused number line
+    -- "then the earliest log line that is number 1,000,001 (50) or bad (51 with its line), 50 first on one line"; a log is accepted where none is
+    pub bad-line : (n : ℕ) → n < maxLogLines → First bad n (lines log) → checkLog log ≡ Refused 51 (n + 1)
+    pub too-many : maxLogLines < length (lines log) → ((n : ℕ) → First bad n (lines log) → maxLogLines ≤ n) → checkLog log ≡ Refused 50 0
+    pub good : length (lines log) ≤ maxLogLines → any bad (lines log) ≡ false → checkLog log ≡ Accepted
+    pub log-fault : (number line : ℕ) → check x ≡ Accepted → checkLog log ≡ Refused number line → seasonAnswer x log out ≡ reported.Refused number line
+    -- the report fills the start of the buffer and nothing beyond; 23 where it "doesn't fit the lent buffer"
+    pub fits : check x ≡ Accepted → checkLog log ≡ Accepted → length (reportOf x log) ≤ length out
+        → (seasonAnswer x log out ≡ reported.Length (length (reportOf x log)))
+        × (seasonLent x log out ≡ reportOf x log ++ drop (length (reportOf x log)) out)
+    pub too-long : check x ≡ Accepted → checkLog log ≡ Accepted → length out < length (reportOf x log) → seasonAnswer x log out ≡ reported.Refused 23 0
+    -- a refused call leaves the buffer as it stood
+    pub refused : (number line : ℕ) → seasonAnswer x log out ≡ reported.Refused number line → seasonLent x log out ≡ out
