@@ -28,7 +28,8 @@ use Rattle.rpc.specs.Pattern as pattern
 use Rattle.text_make.specs.Text.{digits, decimal}
 use Rattle.log.specs.Request.{requestBody, framedRequest, framedRefusal, unrefused, goodRequest, requestOf}
 use Rattle.log.specs.Log.{judgeLog, checkLog, before as put-before, requestsOf, logOf}
-use Rattle.season.specs.Report.{answerTo, decides, permitted, deniedByRule, deniedByDefault, count, forEach, ruleCount, ruleCounts, cell, row, figures, figureLine, report}
+use Rattle.season.specs.Report.{answerTo, decides, permitted, deniedByRule, deniedByDefault}
+use Rattle.season.specs.Report.{count, forEach, ruleCount, ruleCounts, cell, row, figures, figureLine, report}
 use Rattle.season.specs.Calls.{firstFault, fault, reportOf}
 use Rattle.promises.specs.Examples.{examples, Examples}
 
@@ -43,6 +44,7 @@ unfolding xor _and_ _or_ if_then_else_ all any only twice same more before _>>=_
     badUser wild definite holds meets covers conflict clashes agrees agree meld join definites better earlier prefer
     candidate choose concerns applies matches decider action permits fits opposes word answer tree badMode badOrigin
     absent requestRefusal orNothing request decidedBy pathAnswer pathVerdict spread treeAnswer treeVerdict empty begins ends pattern.matches
-    digits decimal requestBody framedRequest framedRefusal unrefused goodRequest bind requestOf judgeLog checkLog put-before requestsOf logOf answerTo
-    decides permitted deniedByRule deniedByDefault count forEach ruleCount ruleCounts cell row figures figureLine joined report firstFault fault reportOf examples
+    digits decimal requestBody framedRequest framedRefusal unrefused goodRequest bind requestOf judgeLog checkLog
+    put-before requestsOf logOf answerTo decides permitted deniedByRule deniedByDefault count forEach ruleCount
+    ruleCounts cell row figures figureLine joined report firstFault fault reportOf examples
 marked = refl

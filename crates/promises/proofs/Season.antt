@@ -28,7 +28,7 @@ use Rattle.log.specs.Log.{judgeLog, checkLog, logOf}
 use Rattle.season.specs.Report.{answerTo, decides, permitted, deniedByRule, deniedByDefault, count, ruleCount, cell, row, grid, figures, report}
 use Rattle.season.specs.Calls.{firstFault, fault, reportOf, answered, stored, seasonAnswer, seasonLent}
 use Rattle.season.specs.declared.Reported.the-variants as reported
-use Rattle.season.proofs.Totals.{count-same, below, answered as all-answered, no-such-rule, grid-total, rules-total}
+use Rattle.season.proofs.Totals.{ReadsOrWrites, count-same, below, answered as all-answered, no-such-rule, grid-total, rules-total}
 use Rattle.season.proofs.Figures.{figures-length, rule-figure, report-lines, report-short, figures-added}
 use Rattle.season.proofs.Asked.{log-closes, log-asked, each-line, log-length, log-few}
 use Rattle.season.proofs.Orders.{log-again, same-figures, both-logs, both-accepted, same-count, same-grid}
@@ -51,7 +51,8 @@ module _ (x log : Str) (ok : check x ≡ Accepted) (fine : checkLog log ≡ Acce
   unfolding answerTo
   is-answer q m =
       let a = log-asked log q m in
-      ap (λ (r : Request). decidedBy (decider t r)) (sym (a .same)) ∙ sym (path-promise x (q .user) (q .mode) (q .origin) (pathText (q .path)) ok (a .accepted) .answers)
+      ap (λ (r : Request). decidedBy (decider t r)) (sym (a .same))
+      ∙ sym (path-promise x (q .user) (q .mode) (q .origin) (pathText (q .path)) ok (a .accepted) .answers)
 
   rule-count : (i : ℕ) → ruleCount t qs i ≡ count (λ (q : Request). decides i (answer q)) qs
   unfolding ruleCount
@@ -66,6 +67,7 @@ module _ (x log : Str) (ok : check x ≡ Accepted) (fine : checkLog log ≡ Acce
   report-promise =
       let few = accepted-whole x ok .few-rules in
       let told = all-answered t maxRules few in
+      let modes : (q : Request) → q ∈ qs → ReadsOrWrites q = λ q m. log-asked log q m .mode in
       record {
         requests = sym (each-line log fine);
         accepted = λ q m. log-asked log q m .accepted;
@@ -83,8 +85,8 @@ module _ (x log : Str) (ok : check x ≡ Accepted) (fine : checkLog log ≡ Acce
         number = figures-length t qs;
         text = report-lines t qs;
         longest = report-short t qs (log-few log fine);
-        grid-sum = grid-total t told qs (λ q m. log-asked log q m .mode) ∙ log-length log fine;
-        rules-sum = rules-total t told qs (λ q m. log-asked log q m .mode) ∙ log-length log fine;
+        grid-sum = grid-total t told qs modes ∙ log-length log fine;
+        rules-sum = rw (← cell-count 1 deniedByDefault, ← cell-count 2 deniedByDefault) (rules-total t told qs modes ∙ log-length log fine);
       }
 
   pub log-order-promise : (other : Str) (same : List·Permᴰ (lines log) (lines other)) → LogOrderPromise x log ok fine other same

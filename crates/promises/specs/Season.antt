@@ -26,7 +26,7 @@ use Rattle.verdict_request.specs.Calls.{requestRefusal, pathVerdict}
 use Rattle.verdict_request.specs.declared.PathAnswer.{PathAnswer}
 use Rattle.log.specs.Request.{requestOf}
 use Rattle.log.specs.Log.{checkLog, logOf}
-use Rattle.season.specs.Report.{decides, permitted, deniedByRule, deniedByDefault, count, ruleCounts, cell, grid, figures, figureLine}
+use Rattle.season.specs.Report.{decides, permitted, deniedByRule, deniedByDefault, count, ruleCounts, grid, figures, figureLine}
 use Rattle.season.specs.Calls.{reportOf, seasonAnswer, seasonLent}
 use Rattle.season.specs.Total.{total}
 use Rattle.season.specs.declared.Reported.the-variants as reported
@@ -67,7 +67,7 @@ module _ (x log : Str) (ok : check x ≡ Accepted) (fine : checkLog log ≡ Acce
     pub longest : length (reportOf x log) ≤ maxReport
     -- "the grid's sum equals the number of log lines"; and so does that of the rules' counts and the two cells of the default
     pub grid-sum : total (joined (λ (r : List ℕ). r) (grid t qs)) ≡ length (lines log)
-    pub rules-sum : total (ruleCounts t qs) + (cell t qs 1 deniedByDefault + cell t qs 2 deniedByDefault) ≡ length (lines log)
+    pub rules-sum : total (ruleCounts t qs) + (outcomes 1 deniedByDefault + outcomes 2 deniedByDefault) ≡ length (lines log)
 
   -- a log with the same lines in another order: accepted too, with the same report
   pub record LogOrderPromise (other : Str) (same : List·Permᴰ (lines log) (lines other)) : Type 0 where

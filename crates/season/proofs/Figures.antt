@@ -8,8 +8,7 @@ use mathlib.Core.Logic.{_⊎_, inl, inr}
 use mathlib.Core.Bool.{Bool}
 use mathlib.Core.List.{List, [], _∷_, _++_, map, append-assoc, List·Memᴰ·head, List·Memᴰ·tail, List·Memᴰ·not-nil, List·Memᴰ·append-cases}
 use lib.Dec.{ltb}
-use lib.ListN.{length, getD, drop, length-append, List·getD-append}
-use lib.Seq.{drop-at}
+use lib.ListN.{length, getD, length-append, List·getD-append}
 use Rattle.limits.specs.Limits.{maxRules, maxLogLines}
 use Rattle.limits.specs.Sizes.{maxReportLine, reportLines, maxReport}
 use Rattle.text.specs.Test.{if_then_else_, _∈_}
@@ -40,11 +39,9 @@ module _ (t : Table) (qs : List Request) where
   pub rule-figure : (i : ℕ) → i < maxRules → getD (figures t qs) i 0 ≡ ruleCount t qs i
   unfolding figures ruleCounts
   rule-figure i h =
-      List·getD-append (ruleCounts t qs) gridFigures 0 i (omega (arith, all-rules)) ∙ each-at (ruleCount t qs) maxRules 0 i h ∙ ap (ruleCount t qs) (omega arith)
-
-  pub grid-figures : drop maxRules (figures t qs) ≡ joined (λ (r : List ℕ). r) (grid t qs)
-  unfolding figures grid row joined
-  grid-figures = drop-at (ruleCounts t qs) gridFigures maxRules all-rules
+      List·getD-append (ruleCounts t qs) gridFigures 0 i (omega (arith, all-rules))
+      ∙ each-at (ruleCount t qs) maxRules 0 i h
+      ∙ ap (ruleCount t qs) (omega arith)
 
 -- ---- the same figures
 
@@ -170,7 +167,8 @@ report-short t qs h = omega (arith, joined-short (figures t qs) (λ k m. omega (
 digits-high : (k n : ℕ) {b : ℕ} → b ∈ digits k n → 48 ≤ b
 unfolding digits if_then_else_
 digits-high zero n m = absurd (List·Memᴰ·not-nil m)
-digits-high (suc k) n {b} m = by (ltb n 10) (λ e. go [] (λ z. absurd (List·Memᴰ·not-nil z)) (rw e at m)) (λ e. go (digits k (n / 10)) (digits-high k (n / 10)) (rw e at m))
+digits-high (suc k) n {b} m =
+    by (ltb n 10) (λ e. go [] (λ z. absurd (List·Memᴰ·not-nil z)) (rw e at m)) (λ e. go (digits k (n / 10)) (digits-high k (n / 10)) (rw e at m))
   where
     last : b ∈ (48 + n % 10) ∷ [] → 48 ≤ b
     last (List·Memᴰ·head e) = omega arith

@@ -31,10 +31,10 @@ use Rattle.verdict_request.specs.Calls.{decidedBy}
 use Rattle.verdict_request.specs.declared.PathAnswer.{PathAnswer}
 use Rattle.log.specs.Request.{goodRequest, requestOf}
 use Rattle.log.specs.Log.{checkLog, before, requestsOf, logOf}
-use Rattle.season.specs.Report.{answerTo, decides, permitted, deniedByRule, deniedByDefault, count, ruleCount, cell, grid, figures}
+use Rattle.season.specs.Report.{answerTo, decides, permitted, deniedByRule, deniedByDefault, count, ruleCount, cell, row, grid, figures}
 use Rattle.season.proofs.Totals.{oneIf, count-cons, count-same}
 use Rattle.season.proofs.Figures.{row-same, grid-same, figures-same}
-use Rattle.season.proofs.Asked.{log-opens, log-closes}
+use Rattle.season.proofs.Asked.{AcceptedLines, log-opens, log-closes}
 
 -- ---- the lines of a log in another order
 
@@ -75,12 +75,13 @@ module _ (a b : Str) (p : List·Permᴰ (lines a) (lines b)) where
       log-closes b (record { few = omega (arith, perm-length p, o .few); good = λ l m. o .good l (perm-mem (Permᴰ·symm p) m) })
 
   pub same-figures : (t : Table) → figures t (logOf a) ≡ figures t (logOf b)
-  same-figures t =
-      figures-same t t (logOf a) (logOf b) (λ mode. row-same t t (logOf a) (logOf b) mode (cells mode permitted) (cells mode deniedByRule) (cells mode deniedByDefault))
-      rules
+  same-figures t = figures-same t t (logOf a) (logOf b) rows rules
     where
       cells : (mode : ℕ) (outcome : PathAnswer → Bool) → cell t (logOf a) mode outcome ≡ cell t (logOf b) mode outcome
       cells mode outcome = unfold cell in count-perm _ requests-perm
+
+      rows : (mode : ℕ) → row t (logOf a) mode ≡ row t (logOf b) mode
+      rows mode = row-same t t (logOf a) (logOf b) mode (cells mode permitted) (cells mode deniedByRule) (cells mode deniedByDefault)
 
       rules : (i : ℕ) → ruleCount t (logOf a) i ≡ ruleCount t (logOf b) i
       rules i = unfold ruleCount in count-perm _ requests-perm
@@ -156,7 +157,8 @@ unfolding requestsOf
 requests-append [] ms = refl
 requests-append (l ∷ ls) ms = go (requestOf l) (requests-append ls ms)
   where
-    go : (o : Option Request) → requestsOf (ls ++ ms) ≡ requestsOf ls ++ requestsOf ms → before o (requestsOf (ls ++ ms)) ≡ before o (requestsOf ls) ++ requestsOf ms
+    go : (o : Option Request) → requestsOf (ls ++ ms) ≡ requestsOf ls ++ requestsOf ms
+        → before o (requestsOf (ls ++ ms)) ≡ before o (requestsOf ls) ++ requestsOf ms
     go none e = unfold before in e
     go (some q) e = unfold before in ap (λ (qs : List Request). q ∷ qs) e
 
@@ -169,11 +171,14 @@ module _ (a b : Str) (e : checkLog a ≡ Accepted) where
   both-logs = ap requestsOf both-lines ∙ requests-append (lines a) (lines b)
 
   pub both-accepted : checkLog b ≡ Accepted → length (lines a) + length (lines b) ≤ maxLogLines → checkLog (a ++ b) ≡ Accepted
-  both-accepted f h = log-closes (a ++ b) (rw both-lines (record { few = omega (arith, length-append (lines a) (lines b)); good = λ l m. go l (List·Memᴰ·append-cases (lines a) m) }))
+  both-accepted f h = log-closes (a ++ b) (rw both-lines all-lines)
     where
       go : (l : Str) → (l ∈ lines a) ⊎ (l ∈ lines b) → absent (requestOf l) ≡ false
       go l (inl m) = log-opens a e .good l m
       go l (inr m) = log-opens b f .good l m
+
+      all-lines : AcceptedLines (lines a ++ lines b)
+      all-lines = record { few = omega (arith, length-append (lines a) (lines b)); good = λ l m. go l (List·Memᴰ·append-cases (lines a) m) }
 
 -- ---- the lines of a table in another order
 
@@ -239,16 +244,18 @@ module _ (t u : Table) (ok : Orderly t) (p : Reordered t u) (qs : List Request) 
   alike = reordered t u ok p .1
 
   -- rules of one id decided equally often, whatever their numbers
-  pub same-count : (i j : ℕ) (r s : Rule) → getElem? (t .rules) i ≡ some r → getElem? (u .rules) j ≡ some s → r .id ≡ s .id → ruleCount t qs i ≡ ruleCount u qs j
+  pub same-count : (i j : ℕ) (r s : Rule) → getElem? (t .rules) i ≡ some r → getElem? (u .rules) j ≡ some s → r .id ≡ s .id
+      → ruleCount t qs i ≡ ruleCount u qs j
   unfolding ruleCount
   same-count i j r s here there e =
       count-same _ _ qs (λ q m. decides-id t ok q i r here ∙ rw (alike q .deciding, e) (sym (decides-id u (reordered t u ok p .0) q j s there)))
 
-  same-outcome : (mode : ℕ) (outcome : PathAnswer → Bool) (told : Bool → Option Str → Bool) → ((o : Option Numbered) → outcome (decidedBy o) ≡ told (action o) (idOf o))
-      → cell t qs mode outcome ≡ cell u qs mode outcome
+  same-outcome : (mode : ℕ) (outcome : PathAnswer → Bool) (told : Bool → Option Str → Bool)
+      → ((o : Option Numbered) → outcome (decidedBy o) ≡ told (action o) (idOf o)) → cell t qs mode outcome ≡ cell u qs mode outcome
   unfolding cell answerTo permits
   same-outcome mode outcome told is =
-      count-same _ _ qs (λ q m. ap (λ (b : Bool). eqb (q .mode) mode and b) (is (decider t q) ∙ rw (alike q .action, alike q .deciding) (sym (is (decider u q)))))
+      count-same _ _ qs
+      (λ q m. ap (λ (b : Bool). eqb (q .mode) mode and b) (is (decider t q) ∙ rw (alike q .action, alike q .deciding) (sym (is (decider u q)))))
 
   pub same-grid : grid t qs ≡ grid u qs
   same-grid =

@@ -1,4 +1,4 @@
--- The figures of a report: how counts add up, what they sum to, and how many there are.
+-- Counting requests by their answers, and what the counts of a report sum to.
 use Prim.Native.Nat.{ℕ, zero, suc, _+_, _≤_, _<_}
 use native.Mathlib.Omega.{arith}
 use borrow.Author.Tests.{eq-eqb, ne-eqb, eqb-true, eqb-false}
@@ -6,8 +6,8 @@ use mathlib.Core.Path.{_≡_, refl, sym, ap, _∙_}
 use mathlib.Core.Logic.{_⊎_, inl, inr}
 use mathlib.Core.Bool.{Bool, false}
 use mathlib.Core.List.{List, [], _∷_, _++_, List·Memᴰ·head, List·Memᴰ·tail}
-use lib.Dec.{eqb}
 use mathlib.Core.Option.{Option, none, some}
+use lib.Dec.{eqb}
 use lib.ListN.{length, getD, getElem?}
 use Rattle.limits.specs.Limits.{maxRules}
 use Rattle.text.specs.Test.{_and_, if_then_else_, _∈_, only}
@@ -54,7 +54,7 @@ count-same f g [] h = count-nil f ∙ sym (count-nil g)
 count-same f g (x ∷ xs) h =
     omega (arith, count-cons f x xs, count-cons g x xs, ap oneIf (h x (List·Memᴰ·head refl)), count-same f g xs (λ y m. h y (List·Memᴰ·tail m)))
 
-pub count-none : {A : Type 0} (f : A → Bool) (xs : List A) → ((x : A) → f x ≡ false) → count f xs ≡ 0
+count-none : {A : Type 0} (f : A → Bool) (xs : List A) → ((x : A) → f x ≡ false) → count f xs ≡ 0
 unfolding if_then_else_
 count-none f [] h = count-nil f
 count-none f (x ∷ xs) h = omega (arith, rw (h x) at (count-cons f x xs), count-none f xs h)
