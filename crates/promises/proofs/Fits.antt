@@ -1,6 +1,6 @@
 -- What a call answers fits its word: a refusal number is one byte and not 0, a line has 32 bits and comes with numbers 1 to 9 alone, the number of a rule
 -- or a group has 16 bits with 1 added, a count is one byte, a length has 32 bits.
-use Prim.Native.Nat.{ℕ, zero, suc, _+_, _<_, _≤_, _^_}
+use Prim.Native.Nat.{ℕ, suc, _+_, _<_, _≤_, _^_}
 use mathlib.Core.Path.{_≡_, refl, ap}
 use mathlib.Core.Logic.{_⊎_, inl, inr}
 use mathlib.Core.Bool.{Bool, true, false}
@@ -9,7 +9,7 @@ use mathlib.Core.Option.{Option, none, some, Option·elim, Option·map}
 use native.Mathlib.Omega.{arith}
 use borrow.Author.Tests.{ltb-false, eqb-true, eqb-false}
 use lib.Dec.{eqb, ltb, leb}
-use lib.ListN.{length, getElem?}
+use lib.ListN.{length}
 use Rattle.limits.specs.Limits.{maxTableText, maxGroups, maxListRules, maxPolicyText}
 use Rattle.text.specs.Test.{_and_, if_then_else_}
 use Rattle.text.specs.String.{Str, bytes, same}
@@ -73,6 +73,7 @@ use Rattle.rotation.specs.declared.InForce.the-variants as force
 use Rattle.rotation_upload.specs.Offered.{ofPolicy, offeredCheck}
 use Rattle.rotation_probe.specs.Probe.{probed, pathOn, pathRefused, probePath, treeOn, treeRefused, probeTree}
 use Rattle.rotation_probe.specs.Rpc.{factoryRpc, rpcOn, rpcRefused, probeRpc}
+use Rattle.season.proofs.Totals.{below}
 use Rattle.rotation_probe.specs.declared.rpcs.RpcAnswer.{RpcAnswer}
 use Rattle.rotation_probe.specs.declared.rpcs.RpcAnswer.the-variants as probe
 
@@ -260,11 +261,6 @@ request-fits : (user : Str) (mode : ℕ) (origin text : Str) → Refusal (reques
 unfolding requestRefusal
 request-fits user mode origin text =
     or-else _ 20 _ (omega arith) (omega arith) (or-else _ 21 _ (omega arith) (omega arith) (or-else _ 22 clear (omega arith) (omega arith) none-at-all))
-
-below : {A : Type 0} (xs : List A) (i : ℕ) (x : A) → getElem? xs i ≡ some x → i < length xs
-below [] i x e = let z : _≡_ {A = ℕ} 0 1 = cc in absurd (omega arith)
-below (y ∷ xs) zero x e = omega arith
-below (y ∷ xs) (suc i) x e = let h = below xs i x e in omega arith
 
 -- an accepted table has at most 256 rules
 rule-number : (x : Str) → check x ≡ checked.Accepted → (over : table.Rule → table.Rule → Bool) (test : table.Rule → Bool) (n : Numbered)

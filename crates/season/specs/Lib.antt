@@ -1,5 +1,3 @@
 pub mod Report
 pub mod Calls
-pub mod Counts
-pub mod Loaded
-pub mod Counting
+pub mod Total

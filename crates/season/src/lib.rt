@@ -1,7 +1,4 @@
 // The season report: how often each rule of a table decided over a log, and a grid of modes against outcomes.
-pub mod count;
-pub mod heading;
-pub mod lines;
 
 // The answer of the report.
 pub enum Reported {
