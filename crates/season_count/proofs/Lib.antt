@@ -3,3 +3,4 @@ pub mod Runs
 pub mod Judging
 pub mod Windows
 pub mod Lining
+pub mod Looping

@@ -1,130 +1,117 @@
+use mathlib.Core.Path.{refl, sym}
+use lib.Seq.{length-take-le}
+use Rattle.table_line.proofs.FirstLine.{line-read, line-unhex}
+use Rattle.season_count.specs.Counting.{Counts-line}
+use Rattle.season_count.proofs.Windows.{from-within, from-below, line-room, bad-line}
+use Rattle.season_count.proofs.Lining.{judged-bad, judged-answer, line-long, size-within, some-line, no-request, mode-fits, counted-line}
 use borrow.Author.Needs.{needs}
 use Rattle.season_count.proofs.lines.count_line.Statement.{statement}
 use Rattle.season_count.proofs.lines.count_line.Tie as tie
-use Rattle.season_count.proofs.lines.count_line.Reads as reads
-use Rattle.season_count.proofs.lines.count_line.Lts as lts
-use Rattle.season_count.proofs.count.count_cell.Reads as count-cell-reads
-use Rattle.season_count.proofs.count.count_rule.Reads as count-rule-reads
-use Rattle.season_count.proofs.heading.judge.Reads as judge-reads
-use Rattle.season_count.proofs.lines.reach.Reads as reach-reads
-use Rattle.table_line.proofs.read_line.Reads as read-line-reads
 
--- src/lines.rt:63:9
-reach-requires : tie.Need-reach-requires
-reach-requires c κs = search needs
-
--- src/lines.rt:64:35
 slice-aggregate-read-line : tie.Need-slice-aggregate-read-line
-slice-aggregate-read-line c = ?
+slice-aggregate-read-line c = sym (length-take-le _ _ (c .before .reach .ensures .within))
 
--- src/lines.rt:64:9
 read-line-requires : tie.Need-read-line-requires
-read-line-requires c κs = ?
+read-line-requires c κs =
+    let at-start = c .before .before .before .before .before .before .before .before .before .before .before .before in (
+      from-within _ _ _ (at-start .pre .5) (c .before .before .reach .ensures),
+      line-room _ _ _ (at-start .pre .5) (c .before .before .reach .ensures) _ (at-start .pre .3),
+    )
 
--- src/lines.rt:65:28
-enum-known-l : tie.Need-enum-known-l
-enum-known-l c = search needs
-
--- src/lines.rt:66:9
-enum-told : tie.Need-enum-told
-enum-told c = search needs
-
--- src/lines.rt:66:9
-same-length : tie.Need-same-length
-same-length c = search needs
-
--- src/lines.rt:66:9
 returns : tie.Need-returns
-returns c = ?
+unfolding Counts-line
+returns c = let at-read-line = c .before .before .before .before in
+    let at-reach = at-read-line .before .before .before in
+    let at-start = at-reach .before .before .before .before .before .before .before .before .before .before in (
+      bad-line _ _ _ (at-start .pre .5) (at-reach .reach .ensures)
+          (line-unhex _ _ _ (at-read-line .read-line .ensures .0)
+          (from-below _ _ _ (at-start .pre .5) (at-reach .reach .ensures)) (c .enum-told .given .1)),
+      (refl, line-long _ _ _ (at-start .pre .5) (at-reach .reach .ensures) _ _ (at-start .pre .3) (at-read-line .read-line .ensures .1)),
+    )
 
--- src/lines.rt:76:9
 slice-reshare-prefix-judge : tie.Need-slice-reshare-prefix-judge
-slice-reshare-prefix-judge c = ?
+slice-reshare-prefix-judge c = let at-read-line = c .before .before .before .before .before in
+    let at-reach = at-read-line .before .before .before in
+    let at-start = at-reach .before .before .before .before .before .before .before .before .before .before in
+    size-within _ _ _ (at-start .pre .5) (at-reach .reach .ensures) _ _ (at-start .pre .3)
+    (at-read-line .read-line .ensures .1) (line-read _ _ _ (at-read-line .read-line .ensures .0)
+    (from-within _ _ _ (at-start .pre .5) (at-reach .reach .ensures)) _ _ (c .before .l .given .1))
 
--- src/lines.rt:76:9
 slice-aggregate-judge : tie.Need-slice-aggregate-judge
-slice-aggregate-judge c = ?
+slice-aggregate-judge c = let at-read-line = c .before .before .before .before .before .before in
+    let at-reach = at-read-line .before .before .before in
+    let at-start = at-reach .before .before .before .before .before .before .before .before .before .before in
+    sym (length-take-le _ _ (size-within _ _ _ (at-start .pre .5) (at-reach .reach .ensures) _ _ (at-start .pre .3)
+    (at-read-line .read-line .ensures .1) (line-read _ _ _ (at-read-line .read-line .ensures .0)
+    (from-within _ _ _ (at-start .pre .5) (at-reach .reach .ensures)) _ _ (c .before .before .l .given .1))))
 
--- src/lines.rt:68:9
 judge-requires : tie.Need-judge-requires
-judge-requires c κs = search needs
+judge-requires c κs =
+    let at-start = c .before .before .before .before .before .before .before .before .before .before .before .before .before .before .before .before .before .before .before .before .before in
+    (at-start .pre .0, at-start .pre .1, at-start .pre .2)
 
--- src/lines.rt:81:31
-enum-known-j : tie.Need-enum-known-j
-enum-known-j c = search needs
-
--- src/lines.rt:82:9
-enum-told-2 : tie.Need-enum-told-2
-enum-told-2 c = search needs
-
--- src/lines.rt:82:9
-same-length-2 : tie.Need-same-length-2
-same-length-2 c = search needs
-
--- src/lines.rt:82:9
-same-length-3 : tie.Need-same-length-3
-same-length-3 c = search needs
-
--- src/lines.rt:82:9
-same-length-4 : tie.Need-same-length-4
-same-length-4 c = search needs
-
--- src/lines.rt:82:9
 returns-2 : tie.Need-returns-2
-returns-2 c = ?
+unfolding Counts-line
+returns-2 c = let at-judge = c .before .before .before .before .before .before in
+    let at-l = at-judge .before .before .before .before .before in
+    let at-read-line = at-l .before .before .before .before in let at-reach = at-read-line .before .before .before in
+    let at-start = at-reach .before .before .before .before .before .before .before .before .before .before in (
+      no-request _ _ _ (at-start .pre .5) (at-reach .reach .ensures) _ _ (at-start .pre .3)
+          (at-read-line .read-line .ensures .1) (line-read _ _ _ (at-read-line .read-line .ensures .0)
+          (from-within _ _ _ (at-start .pre .5) (at-reach .reach .ensures)) _ _ (at-l .l .given .1))
+          (judged-bad _ _ _ _ _ _ _ _ _ _ _ (at-judge .judge .ensures .0) (c .enum-told2 .given .1)),
+      (
+        at-judge .judge .ensures .1,
+        line-long _ _ _ (at-start .pre .5) (at-reach .reach .ensures) _ _ (at-start .pre .3) (at-read-line .read-line .ensures .1),
+      ),
+    )
 
--- src/lines.rt:84:5
 count-rule-requires : tie.Need-count-rule-requires
-count-rule-requires c κs = ?
+count-rule-requires c κs = let at-judge = c .before .before .before .before .before .before .before .before in
+    let at-start = at-judge .before .before .before .before .before .before .before .before .before .before .before .before .before .before .before .before .before .before .before .before .before .before in
+    (judged-answer _ _ _ _ _ _ _ _ _ _ _ (at-judge .judge .ensures .0) _ _ (c .before .before .j .given .1) .placed, at-start .pre .4 .rules)
 
--- src/lines.rt:85:36
 slice-read-count-cell : tie.Need-slice-read-count-cell
-slice-read-count-cell c = ?
+slice-read-count-cell c =
+    let at-l = c .before .before .before .before .before .before .before .before .before .before .before .before .before .before .before .before in
+    let at-read-line = at-l .before .before .before .before in let at-reach = at-read-line .before .before .before in
+    let at-start = at-reach .before .before .before .before .before .before .before .before .before .before in
+    some-line _ _ _ (at-start .pre .5) (at-reach .reach .ensures) _ _ (at-start .pre .3)
+    (at-read-line .read-line .ensures .1) (line-read _ _ _ (at-read-line .read-line .ensures .0)
+    (from-within _ _ _ (at-start .pre .5) (at-reach .reach .ensures)) _ _ (at-l .l .given .1))
 
--- src/lines.rt:85:5
 count-cell-requires : tie.Need-count-cell-requires
-count-cell-requires c κs = ?
+count-cell-requires c κs = let at-j = c .before .before .before .before .before in
+    let at-judge = at-j .before .before .before .before .before .before in
+    let at-l = at-judge .before .before .before .before .before in
+    let at-read-line = at-l .before .before .before .before in let at-reach = at-read-line .before .before .before in
+    let at-start = at-reach .before .before .before .before .before .before .before .before .before .before in
+    let mode = mode-fits _ _ _ (at-start .pre .5) (at-reach .reach .ensures) _ _ (at-start .pre .3)
+    (at-read-line .read-line .ensures .1) (line-read _ _ _ (at-read-line .read-line .ensures .0)
+    (from-within _ _ _ (at-start .pre .5) (at-reach .reach .ensures)) _ _ (at-l .l .given .1)) _ _ _ _ _ _ _ _ _ _ _
+    (judged-answer _ _ _ _ _ _ _ _ _ _ _ (at-judge .judge .ensures .0) _ _ (at-j .j .given .1)) in (mode .0, mode .1, at-start .pre .4 .cells)
 
--- src/lines.rt:39:1
-same-length-5 : tie.Need-same-length-5
-same-length-5 c = search needs
-
--- src/lines.rt:39:1
-same-length-6 : tie.Need-same-length-6
-same-length-6 c = search needs
-
--- src/lines.rt:39:1
-same-length-7 : tie.Need-same-length-7
-same-length-7 c = search needs
-
--- src/lines.rt:39:1
 returns-3 : tie.Need-returns-3
-returns-3 c = ?
+unfolding Counts-line
+returns-3 c = let at-count-rule = c .before .before .before in let at-j = at-count-rule .before .before .before in
+    let at-judge = at-j .before .before .before .before .before .before in
+    let at-l = at-judge .before .before .before .before .before in
+    let at-read-line = at-l .before .before .before .before in let at-reach = at-read-line .before .before .before in
+    let at-start = at-reach .before .before .before .before .before .before .before .before .before .before in (
+      counted-line _ _ _ (at-start .pre .5) (at-reach .reach .ensures) _ _ (at-start .pre .3)
+          (at-read-line .read-line .ensures .1) (line-read _ _ _ (at-read-line .read-line .ensures .0)
+          (from-within _ _ _ (at-start .pre .5) (at-reach .reach .ensures)) _ _ (at-l .l .given .1)) _ _ _ _ _ _ _ _ _ _ _
+          (judged-answer _ _ _ _ _ _ _ _ _ _ _ (at-judge .judge .ensures .0) _ _ (at-j .j .given .1)) _ _ _ _
+          (at-count-rule .count-rule .ensures) (c .count-cell .ensures),
+      (
+        at-judge .judge .ensures .1,
+        line-long _ _ _ (at-start .pre .5) (at-reach .reach .ensures) _ _ (at-start .pre .3) (at-read-line .read-line .ensures .1),
+      ),
+    )
 
 pub count-line-spec : {M : Type 1} → statement M
-count-line-spec =
-    tie.close
-    (tie.spec
-    reach-requires
-    slice-aggregate-read-line
-    read-line-requires
-    enum-known-l
-    enum-told
-    same-length
-    returns
-    slice-reshare-prefix-judge
-    slice-aggregate-judge
-    judge-requires
-    enum-known-j
-    enum-told-2
-    same-length-2
-    same-length-3
-    same-length-4
-    returns-2
-    count-rule-requires
-    slice-read-count-cell
-    count-cell-requires
-    same-length-5
-    same-length-6
-    same-length-7
-    returns-3)
+count-line-spec = tie.close (tie.spec (λ c κs. search needs) slice-aggregate-read-line read-line-requires
+    (λ c. search needs) (λ c. search needs) (λ c. search needs) returns slice-reshare-prefix-judge slice-aggregate-judge
+    judge-requires (λ c. search needs) (λ c. search needs) (λ c. search needs) (λ c. search needs) (λ c. search needs)
+    returns-2 count-rule-requires slice-read-count-cell count-cell-requires (λ c. search needs) (λ c. search needs)
+    (λ c. search needs) returns-3)
