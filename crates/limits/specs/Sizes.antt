@@ -76,16 +76,13 @@ maxLogFrame = maxHeading + maxPathBytes
 abbrev pub maxLogLine : ℕ
 maxLogLine = 2 * maxLogFrame + 1
 
--- a count of at most 1,000,000 and LF
-abbrev pub maxReportLine : ℕ
-maxReportLine = 8
-
 -- a count for each rule, and six for the grid
 abbrev pub reportLines : ℕ
 reportLines = maxRules + 6
 
+-- each of at most 1,000,000, with LF
 abbrev pub maxReport : ℕ
-maxReport = reportLines * maxReportLine
+maxReport = reportLines * 8
 
 -- ---- the definitions' side of `constants`: the limits, then the sizes, in the same order
 
@@ -99,4 +96,4 @@ all =
     ∷ maxStringBytes ∷ maxKeyBytes ∷ maxKeysBytes ∷ maxElemBytes ∷ maxPathBytes
     ∷ maxValueText ∷ maxKeyText ∷ maxElemText ∷ maxPathText
     ∷ maxQuoted ∷ maxReadableLine ∷ maxReadableText
-    ∷ maxHeading ∷ maxLogFrame ∷ maxLogLine ∷ maxReportLine ∷ reportLines ∷ maxReport ∷ []
+    ∷ maxHeading ∷ maxLogFrame ∷ maxLogLine ∷ reportLines ∷ maxReport ∷ []

@@ -85,17 +85,15 @@ pub const MAX_LOG_FRAME: usize = MAX_HEADING + MAX_PATH_BYTES;
 
 pub const MAX_LOG_LINE: usize = 2 * MAX_LOG_FRAME + 1;
 
-pub const MAX_REPORT_LINE: usize = 8;
-
 pub const REPORT_LINES: usize = MAX_RULES + 6;
 
-pub const MAX_REPORT: usize = REPORT_LINES * MAX_REPORT_LINE;
+pub const MAX_REPORT: usize = REPORT_LINES * 8;
 
 // No refusal number: `clear` of the definitions, which the functions that answer a number give where nothing is to be refused.
 pub const CLEAR: u8 = 255;
 
 // Every limit and every size, in the order of the definitions.
-pub fn constants() -> [usize; 37]
+pub fn constants() -> [usize; 36]
     ensures { λ r. ⌜ r ≡ all ⌝ }
 {
     [
@@ -133,7 +131,6 @@ pub fn constants() -> [usize; 37]
         MAX_HEADING,
         MAX_LOG_FRAME,
         MAX_LOG_LINE,
-        MAX_REPORT_LINE,
         REPORT_LINES,
         MAX_REPORT,
     ]

@@ -10,7 +10,7 @@ use mathlib.Core.List.{List, [], _∷_, _++_, map, append-assoc, List·Memᴰ·h
 use lib.Dec.{ltb}
 use lib.ListN.{length, getD, length-append, List·getD-append}
 use Rattle.limits.specs.Limits.{maxRules, maxLogLines}
-use Rattle.limits.specs.Sizes.{maxReportLine, reportLines, maxReport}
+use Rattle.limits.specs.Sizes.{reportLines, maxReport}
 use Rattle.text.specs.Test.{if_then_else_, _∈_}
 use Rattle.text.specs.String.{Str, joined}
 use Rattle.text.proofs.Tests.{by}
@@ -143,11 +143,11 @@ digits-short (suc k) (suc j) n h =
     (λ e. let s : n / 10 < 10 ^ suc j = div-lt-iff-lt-mul {k = 10} (omega arith) .1 (omega (arith, pow-suc 10 (suc j))) in
     rw e (omega (arith, length-append (digits k (n / 10)) ((48 + n % 10) ∷ []), digits-short k j (n / 10) s)))
 
-line-short : (n : ℕ) → n ≤ maxLogLines → length (figureLine n) ≤ maxReportLine
+line-short : (n : ℕ) → n ≤ maxLogLines → length (figureLine n) ≤ 8
 unfolding figureLine decimal
 line-short n h = omega (arith, length-append (digits 20 n) (10 ∷ []), digits-short 20 6 n (omega arith))
 
-joined-short : (ns : List ℕ) → ((n : ℕ) → n ∈ ns → n ≤ maxLogLines) → length (joined figureLine ns) ≤ length ns * maxReportLine
+joined-short : (ns : List ℕ) → ((n : ℕ) → n ∈ ns → n ≤ maxLogLines) → length (joined figureLine ns) ≤ length ns * 8
 unfolding joined
 joined-short [] h = omega arith
 joined-short (n ∷ ns) h =
