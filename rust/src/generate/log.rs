@@ -1,8 +1,9 @@
 //! Logs of path requests: good ones for a generated table, and lines with a single fault.
 
 use super::path::{longest_path, push_string, put_fault, Path, FAULTS};
-use super::table::{hex_line, path_near, some_origin, Line, Shape, USERS};
+use super::table::{dense_table, hex_line, path_near, some_origin, Line, Shape, USERS};
 use crate::limits;
+use crate::path::path_bytes;
 use crate::random::Random;
 
 /// A line as its parts; the encoder takes it as it is, good or not.
@@ -37,12 +38,32 @@ pub fn log_text(lines: &[LogLine]) -> Vec<u8> {
     lines.iter().flat_map(LogLine::text).collect()
 }
 
+/// A good line with an empty origin, for a path text.
+pub fn line_for(user: &str, mode: u8, path: &str) -> Vec<u8> {
+    let mut frame = vec![mode];
+    push_string(&mut frame, user.as_bytes());
+    push_string(&mut frame, b"");
+    frame.extend(path_bytes(path.as_bytes()).expect("a good path"));
+    hex_line(&frame)
+}
+
+/// A small good table whose rules overlap often, as many of them about writing as about reading.
+pub fn dense_table_for_logs(random: &mut Random) -> Vec<Line> {
+    let mut lines = dense_table(random);
+    for line in &mut lines {
+        if let Line::Rule(rule) = line {
+            rule.mode = random.between(1, 2) as u8;
+        }
+    }
+    lines
+}
+
 /// Good lines near the rules of a table: some in runs of one user, mode and origin, some each by another.
 pub fn dense_log(random: &mut Random, table: &[Line], shape: &Shape, count: usize) -> Vec<LogLine> {
     let mut lines = Vec::new();
     while lines.len() < count {
         let user = if random.one_in(12) { "nobody" } else { random.pick(&USERS) };
-        let (mode, origin) = (if random.one_in(5) { 2 } else { 1 }, some_origin(random));
+        let (mode, origin) = (random.between(1, 2) as u8, some_origin(random));
         let run = if random.one_in(2) { 1 } else { random.between(2, 8) };
         for _ in 0..run.min(count - lines.len()) {
             let path = path_near(random, table, shape);

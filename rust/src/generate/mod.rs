@@ -10,5 +10,6 @@ pub mod rotation;
 pub mod short;
 pub mod table;
 pub mod table_fault;
+pub mod worst_log;
 pub mod worst_tree;
 pub mod yard;
