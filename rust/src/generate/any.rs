@@ -149,7 +149,7 @@ fn some_policy(random: &mut Random) -> Vec<u8> {
     }
 }
 
-/// The paths of a request, as of those tables.
+/// Requests as deep, and out of as many names and values, as the rules of those tables.
 const DENSE: Shape = Shape { depth: 4, key_names: 3, values: 4, ..Shape::SMALL };
 
 fn some_path(random: &mut Random) -> Path {

@@ -22,11 +22,7 @@ impl LogLine {
     }
 
     pub fn frame(&self) -> Vec<u8> {
-        let mut frame = vec![self.mode];
-        push_string(&mut frame, &self.user);
-        push_string(&mut frame, &self.origin);
-        frame.extend(self.path.bytes());
-        frame
+        frame_of(self.mode, &self.user, &self.origin, &self.path.bytes())
     }
 
     pub fn text(&self) -> Vec<u8> {
@@ -40,11 +36,17 @@ pub fn log_text(lines: &[LogLine]) -> Vec<u8> {
 
 /// A good line with an empty origin, for a path text.
 pub fn line_for(user: &str, mode: u8, path: &str) -> Vec<u8> {
+    let path = path_bytes(path.as_bytes()).expect("a good path");
+    hex_line(&frame_of(mode, user.as_bytes(), b"", &path))
+}
+
+/// Mode, S user, S origin, path bytes.
+pub(super) fn frame_of(mode: u8, user: &[u8], origin: &[u8], path: &[u8]) -> Vec<u8> {
     let mut frame = vec![mode];
-    push_string(&mut frame, user.as_bytes());
-    push_string(&mut frame, b"");
-    frame.extend(path_bytes(path.as_bytes()).expect("a good path"));
-    hex_line(&frame)
+    push_string(&mut frame, user);
+    push_string(&mut frame, origin);
+    frame.extend(path);
+    frame
 }
 
 /// A small good table whose rules overlap often, as many of them about writing as about reading.

@@ -1,7 +1,6 @@
 //! Log lines on which a verdict takes long: every rule concerns the user, and is to be compared with the request to its end.
 
-use super::log::{longest_line, LogLine};
-use super::path::push_string;
+use super::log::{frame_of, longest_line, LogLine};
 use super::table::{hex_line, table_text, Line, Rule};
 use super::worst_tree::worst_trees;
 use crate::frame::Taker;
@@ -32,10 +31,7 @@ fn nearly_the_last_rule(name: &str, table: Vec<u8>) -> WorstLog {
     // A path ends with a value, or with a name and a count of no keys.
     let last = if path.ends_with(&[0]) { path.len() - 2 } else { path.len() - 1 };
     path[last] = if path[last] == b'y' { b'x' } else { b'y' };
-    let mut frame = vec![1];
-    push_string(&mut frame, b"u");
-    push_string(&mut frame, b"");
-    WorstLog { name: name.into(), line: hex_line(&[frame, path].concat()), table }
+    WorstLog { name: name.into(), line: hex_line(&frame_of(1, b"u", b"", &path)), table }
 }
 
 /// The path bytes of a rule's frame.
