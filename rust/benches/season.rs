@@ -32,7 +32,8 @@ fn main() {
     for lines in [1, 10_000, 100_000] {
         row(&printed, &format!("all about one user, {lines} lines"), &interfaces, &log_of_interfaces(lines));
     }
-    for lines in [1, 10_000, 100_000] {
+    row(&printed, "of a yard, 1 lines", &yard, &yard_log(&mut random, 1, 1));
+    for lines in [10_000, 100_000] {
         row(&printed, &format!("of a yard, {lines} lines in runs"), &yard, &yard_log(&mut random, lines, RUN));
         row(&printed, &format!("of a yard, {lines} lines in no runs"), &yard, &yard_log(&mut random, lines, 1));
     }
