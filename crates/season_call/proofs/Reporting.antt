@@ -1,8 +1,11 @@
 -- The report of an accepted table and an accepted log is the text of the counts.
-use Prim.Native.Nat.{ℕ}
+use Prim.Native.Nat.{ℕ, zero, suc, _≤_}
+use native.Mathlib.Omega.{arith}
 use mathlib.Core.Path.{_≡_, refl, sym, ap, _∙_, subst}
 use mathlib.Core.List.{List, [], _∷_, _++_}
-use lib.ListN.{length, take}
+use lib.ListN.{length, take, getD, replicate}
+use Rattle.limits.specs.Limits.{maxRules}
+use Rattle.text.specs.Test.{only}
 use Rattle.text.specs.String.{Str, joined}
 use Rattle.table.specs.Text.{check, tableOf}
 use Rattle.table.specs.declared.Checked.{Checked}
@@ -20,8 +23,8 @@ use Rattle.season.specs.Report.{count, forEach, ruleCount, ruleCounts, cell, ro
 use Rattle.season.specs.Calls.{firstFault, fault, reportOf, answered, stored, seasonAnswer, seasonLent}
 use Rattle.season.specs.declared.Reported.{Reported}
 use Rattle.season.specs.declared.Reported.the-variants.{Refused}
-use Rattle.season_count.specs.Counts.{cellOf}
-use Rattle.season_count.specs.Loaded.{Sound, Is}
+use Rattle.season_count.specs.Counts.{cellOf, UpTo}
+use Rattle.season_count.specs.Loaded.{Sound, Is, Remembered}
 use Rattle.season_count.specs.Counting.{CountsOf, CountedLines, Counts-lines}
 use Rattle.season_count.specs.declared.lines.Ended.{Ended}
 use Rattle.season_count.specs.declared.lines.Ended.the-variants as ended
@@ -37,11 +40,6 @@ module _ {text buf : List ℕ} {u : ℕ} {c : Counts} {groups users owners start
 
   pub is-table : Is (take u buf) users owners (c .members) starts holders (c .rules) (tableOf text)
   is-table = record { holding = holding K; groups = grouped K }
-
--- ---- the counts of no requests
-
-pub no-requests : (t : Table) → CountsOf t [] (ruleCounts t []) (grid t [])
-no-requests t = record { rules = refl; rows = refl }
 
 -- ---- a whole log
 
@@ -94,3 +92,28 @@ module _ (l : Loaded) (n k : ℕ) (e : l ≡ loaded.Refused n k) where
   pub refused-as : refusedBy l ≡ Refused n k
   unfolding refusedBy
   refused-as = rw e
+
+pub nothing-remembered : (f users owners : List ℕ) (m : ℕ) (starts holders : List ℕ) (n : ℕ) (key on : List ℕ) → n ≤ length on → Remembered f users owners m starts holders n key 0 on
+nothing-remembered f users owners m starts holders n key on h = record { within = omega arith; marks = h; head = λ l. absurd (omega arith) }
+
+-- ---- before the first line
+
+zeros-low : (n i : ℕ) → getD (replicate n 0) i 0 ≤ 0
+zeros-low zero i = omega arith
+zeros-low (suc n) zero = omega arith
+zeros-low (suc n) (suc i) = zeros-low n i
+
+row-low : (c : ℕ) → getD (replicate 3 0) c 0 ≤ 0
+row-low c = zeros-low 3 c
+
+cells-low : (r c : ℕ) → cellOf (replicate 2 (replicate 3 0)) r c ≤ 0
+cells-low zero c = row-low c
+cells-low (suc zero) c = row-low c
+cells-low (suc (suc r)) c = zeros-low 0 c
+
+pub none-up-to : UpTo 0 (replicate maxRules 0) (replicate 2 (replicate 3 0))
+none-up-to = record { rules = zeros-low maxRules; cells = cells-low }
+
+pub none-counted : (t : Table) → CountsOf t [] (replicate maxRules 0) (replicate 2 (replicate 3 0))
+unfolding ruleCounts forEach ruleCount count only grid row cell
+none-counted t = record { rules = refl; rows = refl }

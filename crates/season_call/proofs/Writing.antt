@@ -8,14 +8,14 @@ use mathlib.Core.Path.{_≡_, refl, sym, ap, _∙_}
 use mathlib.Core.List.{List, [], _∷_, _++_, append-assoc, append-nil}
 use lib.Dec.{leb}
 use lib.ListN.{length, take, getD, length-append}
-use lib.Seq.{take-suc, take-all}
+use lib.Seq.{length-take-le, take-suc, take-all}
 use Rattle.limits.specs.Limits.{maxRules}
 use Rattle.limits.specs.Sizes.{reportLines}
 use Rattle.text.specs.Test.{if_then_else_}
 use Rattle.text.specs.String.{Str, joined}
 use Rattle.text.specs.Fill.{put}
 use Rattle.text.proofs.Codec.{joined-nil}
-use Rattle.text.proofs.Filling.{wrote-long, put-take}
+use Rattle.text.proofs.Filling.{wrote-long, put-length, put-take}
 use Rattle.text_make.specs.Added.{Added, AddedUpTo}
 use Rattle.text_make.specs.Text.{fact}
 use Rattle.text_make.proofs.Adding.{_then_, nothing-added}
@@ -46,8 +46,8 @@ module _ {d figures d′ : List ℕ} {end : ℕ} (w : FiguresWritten d figures d
   pub line-fits : (k : ℕ) → length figures < k → k * lineRoom ≤ length d → end + lineRoom ≤ length d′
   line-fits k h r = omega (arith, w .short, long-still)
 
-  pub one-more : {n : ℕ} {d″ : List ℕ} {end′ : ℕ} → AddedUpTo lineRoom d′ end (figureLine n) d″ end′ → FiguresWritten d (figures ++ (n ∷ [])) d″ end′
-  one-more {n} a =
+  pub one-more : (n : ℕ) {d″ : List ℕ} {end′ : ℕ} → AddedUpTo lineRoom d′ end (figureLine n) d″ end′ → FiguresWritten d (figures ++ (n ∷ [])) d″ end′
+  one-more n a =
       record {
         added = rw (joined-more figures n) (w .added then a .added);
         short = let s = a .short in omega (arith, w .short, length-append figures (n ∷ []));
@@ -56,12 +56,12 @@ module _ {d figures d′ : List ℕ} {end : ℕ} (w : FiguresWritten d figures d
 -- ---- the counts, and then the cells
 
 module _ (counts : List ℕ) where
-  pub next-count : {d d′ d″ : List ℕ} {i end end′ : ℕ} → FiguresWritten d (take i counts) d′ end → i < length counts
+  pub next-count : (i : ℕ) {d d′ d″ : List ℕ} {end end′ : ℕ} → FiguresWritten d (take i counts) d′ end → i < length counts
       → AddedUpTo lineRoom d′ end (figureLine (getD counts i 0)) d″ end′ → FiguresWritten d (take (i + 1) counts) d″ end′
-  next-count {i = i} w h a = rw (add-one i, take-suc counts i 0 h) (one-more w a)
+  next-count i w h a = rw (add-one i, take-suc counts i 0 h) (one-more w (getD counts i 0) a)
 
-  pub all-counts : {d d′ : List ℕ} {i end : ℕ} → FiguresWritten d (take i counts) d′ end → length counts ≤ i → FiguresWritten d counts d′ end
-  all-counts {i = i} w h = rw (take-all i counts h) at w
+  pub all-counts : (i : ℕ) {d d′ : List ℕ} {end : ℕ} → FiguresWritten d (take i counts) d′ end → length counts ≤ i → FiguresWritten d counts d′ end
+  all-counts i w h = rw (take-all i counts h) at w
 
 pub six-more : (xs : List ℕ) (a b c d e f : ℕ)
     → ((((((xs ++ (a ∷ [])) ++ (b ∷ [])) ++ (c ∷ [])) ++ (d ∷ [])) ++ (e ∷ [])) ++ (f ∷ [])) ≡ xs ++ (a ∷ b ∷ c ∷ d ∷ e ∷ f ∷ [])
@@ -70,7 +70,7 @@ six-more (x ∷ xs) a b c d e f = ap (λ (ys : List ℕ). x ∷ ys) (six-more xs
 
 -- ---- handed out
 
-module _ {d figures d′ : List ℕ} {end : ℕ} (a : Added d 0 (joined figureLine figures) d′ end) where
+module _ (figures : List ℕ) {d d′ : List ℕ} {end : ℕ} (a : Added d 0 (joined figureLine figures) d′ end) where
   pub text-ends : length (joined figureLine figures) ≡ end
   text-ends = let e = a .wrote .ends in omega arith
 
@@ -85,11 +85,17 @@ module _ {d figures d′ : List ℕ} {end : ℕ} (a : Added d 0 (joined figureLi
   pub no-room : (out : List ℕ) → length out < end → (Refused 23 0 ≡ handsOut figures out) × (out ≡ leftIn figures out)
   unfolding answered stored if_then_else_
   no-room out h =
-      let l : leb (length (joined figureLine figures)) (length out) ≡ false = lt-leb _ _ (omega (arith, text-ends)) in
+      let l : leb (length (joined figureLine figures)) (length out) ≡ false = lt-leb (length (joined figureLine figures)) (length out) (omega (arith, text-ends)) in
       (rw l, rw l)
 
   pub room : (out out′ : List ℕ) → end ≤ length out → out′ ≡ put out 0 (take end d′) → (Length end ≡ handsOut figures out) × (out′ ≡ leftIn figures out)
   unfolding answered stored if_then_else_
   room out out′ h w =
-      let l : leb (length (joined figureLine figures)) (length out) ≡ true = le-leb _ _ (omega (arith, text-ends)) in
+      let l : leb (length (joined figureLine figures)) (length out) ≡ true = le-leb (length (joined figureLine figures)) (length out) (omega (arith, text-ends)) in
       (rw l (ap Length (sym text-ends)), rw l (w ∙ ap (put out 0) text-is))
+
+  pub copy-fits : (out : List ℕ) → end ≤ length out → 0 + length (take end d′) ≤ length out
+  copy-fits out h = let l : length (take end d′) ≡ end = length-take-le end d′ text-within in omega arith
+
+  pub out-long : (out out′ : List ℕ) → end ≤ length out → out′ ≡ put out 0 (take end d′) → length out′ ≡ length out
+  out-long out out′ h w = ap length w ∙ put-length out 0 (take end d′) (copy-fits out h)

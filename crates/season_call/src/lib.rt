@@ -9,7 +9,7 @@ use season::Reported;
 use season_count::lines::Ended;
 use table_load::Loaded;
 
-pub mod text;
+mod written;
 
 // A table's own refusal.
 fn refused(l: Loaded) -> Reported
@@ -45,7 +45,21 @@ fn count_log(
     let mut key = [0u8; limits::MAX_HEADING];
     let mut on = [0u8; limits::MAX_RULES];
     season_count::lines::count_lines(
-        f, users, owners, m, starts, holders, n, log, 0, &mut line, &mut key, 0, &mut on, counts, grid,
+        f,
+        users,
+        owners,
+        m,
+        starts,
+        holders,
+        n,
+        log,
+        0,
+        &mut line,
+        &mut key,
+        0,
+        &mut on,
+        counts,
+        grid,
     )
 }
 
@@ -87,7 +101,7 @@ pub fn season_report(table: &[u8], log: &[u8], out: &mut [u8]) -> Reported
         &mut grid,
     );
     let Ended::Refused { number, line } = e else {
-        return crate::text::hand_out(&counts, grid, out);
+        return crate::written::hand_out(&counts, grid, out);
     };
     Reported::Refused {
         number: number,

@@ -4,7 +4,6 @@ ghost use Prim.Native.Nat.{_+_, _*_, _≤_};
 ghost use mathlib.Core.List.{_++_};
 ghost use lib.ListN.{length};
 ghost use Rattle.limits.specs.Limits.{maxRules};
-ghost use Rattle.limits.specs.Sizes.{reportLines};
 ghost use Rattle.text.specs.String.{joined};
 ghost use Rattle.text_make.specs.Added.{Added, AddedUpTo};
 ghost use Rattle.season.specs.Report.{figureLine};
@@ -23,13 +22,13 @@ fn write_number(n: u64, out: &mut [u8], at: usize) -> usize
 }
 
 // The counts of the rules.
-fn write_counts(counts: &[u64; limits::MAX_RULES], out: &mut [u8]) -> usize
-    requires { ⌜ maxRules * lineRoom ≤ length (now out) ⌝ }
+fn write_counts(counts: &[u64], out: &mut [u8]) -> usize
+    requires { ⌜ length (now counts) * lineRoom ≤ length (now out) ⌝ }
     ensures { λ r. ⌜ FiguresWritten (now (out .entry)) (now (counts .entry)) (now (out .exit)) r ⌝ }
 {
     let mut i = 0;
     let mut at = 0;
-    while i < limits::MAX_RULES {
+    while i < counts.len() {
         at = write_number(counts[i], out, at);
         i += 1;
     }
@@ -37,8 +36,8 @@ fn write_counts(counts: &[u64; limits::MAX_RULES], out: &mut [u8]) -> usize
 }
 
 // The whole text.
-fn write(counts: &[u64; limits::MAX_RULES], grid: [[u64; 3]; 2], out: &mut [u8]) -> usize
-    requires { ⌜ reportLines * lineRoom ≤ length (now out) ⌝ }
+fn write(counts: &[u64], grid: [[u64; 3]; 2], out: &mut [u8]) -> usize
+    requires { ⌜ (length (now counts) + 6) * lineRoom ≤ length (now out) ⌝ }
     ensures { λ r. ⌜ Added (now (out .entry)) 0 (joined figureLine (now (counts .entry) ++ cellsIn grid)) (now (out .exit)) r ⌝ }
 {
     let a = write_counts(counts, out);
@@ -51,11 +50,7 @@ fn write(counts: &[u64; limits::MAX_RULES], grid: [[u64; 3]; 2], out: &mut [u8])
 }
 
 // The text at the start of the buffer, where it fits.
-pub fn hand_out(
-    counts: &[u64; limits::MAX_RULES],
-    grid: [[u64; 3]; 2],
-    out: &mut [u8],
-) -> Reported
+pub fn hand_out(counts: &[u64; limits::MAX_RULES], grid: [[u64; 3]; 2], out: &mut [u8]) -> Reported
     ensures { λ r. ⌜ r ≡ handsOut (now (counts .entry) ++ cellsIn grid) (now (out .entry)) ⌝ }
     ensures { λ _. ⌜ now (out .exit) ≡ leftIn (now (counts .entry) ++ cellsIn grid) (now (out .entry)) ⌝ }
 {
