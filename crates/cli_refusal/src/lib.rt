@@ -45,7 +45,9 @@ fn add_meaning(number: u8, out: &mut [u8], at: usize) -> usize
         37 a barred or ill-spelt header key\n\
         38 a rule name twice in a list\n\
         40 identity or path over 256 bytes, or a byte of it does not print\n\
-        41 header lines ill-formed, over 8,192 bytes together, or a byte of a value does not print\n",
+        41 header lines ill-formed, over 8,192 bytes together, or a byte of a value does not print\n\
+        50 the log has over 1,000,000 lines\n\
+        51 not a request that can be judged\n",
         &key,
         out,
         at,
