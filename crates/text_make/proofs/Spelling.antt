@@ -18,15 +18,15 @@ use Rattle.text_make.specs.Added.{Added, AddedUpTo}
 unfoldable pub left : ℕ → ℕ → Str
 left k n = if eqb n 0 then [] else digits k n
 
-left-none : (k : ℕ) → left k 0 ≡ []
+pub left-none : (k : ℕ) → left k 0 ≡ []
 unfolding left if_then_else_
 left-none k = refl
 
-left-some : (k n : ℕ) → (n ≡ 0 → ⊥) → left k n ≡ digits k n
+pub left-some : (k n : ℕ) → (n ≡ 0 → ⊥) → left k n ≡ digits k n
 unfolding left if_then_else_
 left-some k n h = rw (ne-eqb n 0 h)
 
-last-digit : (k n : ℕ) → digits (suc k) n ≡ left k (n / 10) ++ ((48 + n % 10) ∷ [])
+pub last-digit : (k n : ℕ) → digits (suc k) n ≡ left k (n / 10) ++ ((48 + n % 10) ∷ [])
 unfolding digits if_then_else_
 last-digit k n = go (decLt n 10)
   where
