@@ -1,72 +1,76 @@
--- The fewest digits of a number are those of its text.
-use Prim.Native.Nat.{ℕ, zero, suc, _+_, _*_, _-_, _/_, _%_, _^_, _≤_, _<_}
+-- The digits of a number, from the last one on.
+use Prim.Native.Nat.{ℕ, zero, suc, _+_, _-_, _/_, _%_, _^_, _≤_, _<_}
 use native.Mathlib.Omega.{arith}
+use native.Mathlib.Nat.{pow-zero, pow-suc, div-lt-iff-lt-mul}
+use borrow.Author.Tests.{lt-ltb, le-ltb, ne-eqb}
 use native.Mathlib.Decide.{decLt}
-use native.Mathlib.Nat.{mod-lt, pow-zero, pow-suc, div-lt-iff-lt-mul, le-div-iff-mul-le, pow-le-pow-right}
-use borrow.Author.Tests.{lt-ltb, le-ltb}
-use mathlib.Core.Path.{_≡_, _∙_}
-use mathlib.Core.List.{List, [], _∷_, _++_}
-use lib.ListN.{length, take}
+use mathlib.Core.Path.{_≡_, refl, ap, _∙_}
+use mathlib.Core.List.{List, [], _∷_, _++_, append-assoc}
+use lib.Dec.{eqb}
+use lib.ListN.{length, take, drop, set, length-set, length-drop}
+use lib.Seq.{set-split, drop-at, length-take-le, take-all}
 use Rattle.text.specs.Test.{if_then_else_}
-use Rattle.io.specs.Digits.{glyph, Fewest}
-use Rattle.io.specs.Digits.{digits as spelled}
+use Rattle.text.specs.String.{Str}
 use Rattle.text_make.specs.Text.{digits, decimal}
 use Rattle.text_make.specs.Added.{Added, AddedUpTo}
 
-last : (n : ℕ) → glyph (n % 10) ≡ 48 + n % 10
-last n = rw (lt-ltb (n % 10) 10 (mod-lt n (omega arith)))
+-- the digits of what is left of a number; none where nothing is left
+unfoldable pub left : ℕ → ℕ → Str
+left k n = if eqb n 0 then [] else digits k n
 
-one-digit : (k n : ℕ) → n < 10 → digits (suc k) n ≡ (48 + n % 10) ∷ []
+pub left-none : (k : ℕ) → left k 0 ≡ []
+unfolding left if_then_else_
+left-none k = refl
+
+pub left-some : (k n : ℕ) → (n ≡ 0 → ⊥) → left k n ≡ digits k n
+unfolding left if_then_else_
+left-some k n h = rw (ne-eqb n 0 h)
+
+pub last-digit : (k n : ℕ) → digits (suc k) n ≡ left k (n / 10) ++ ((48 + n % 10) ∷ [])
 unfolding digits if_then_else_
-one-digit k n h = rw (lt-ltb n 10 h)
-
-more-digits : (k n : ℕ) → 10 ≤ n → digits (suc k) n ≡ digits k (n / 10) ++ ((48 + n % 10) ∷ [])
-unfolding digits if_then_else_
-more-digits k n h = rw (le-ltb n 10 h)
-
-positive : (r : ℕ) → 1 ≤ 10 ^ r
-positive r = omega (arith, pow-le-pow-right {n = 10} (omega arith) {i = 0} {j = r} (omega arith), pow-zero 10)
-
-module _ (n r : ℕ) (f : Fewest 10 1 n (suc (suc r))) where
-  least : 10 ^ r * 10 ≤ n
-  least =
-      let e : suc (suc r) - 1 ≡ suc r = omega arith in
-      let h : 10 ^ suc r ≤ n = rw e at (f .2 (omega arith)) in
-      omega (arith, h, pow-suc 10 r)
-
-  tenfold : 10 ≤ n
-  tenfold = omega (arith, least, positive r)
-
-  -- what is left without the last digit
-  shorter : Fewest 10 1 (n / 10) (suc r)
-  shorter =
-      let e : suc r - 1 ≡ r = omega arith in
-      let h : n < 10 ^ suc r * 10 = omega (arith, f .1, pow-suc 10 (suc r)) in
-      (omega arith, div-lt-iff-lt-mul {k = 10} (omega arith) .1 h, λ l. rw e (le-div-iff-mul-le {k = 10} (omega arith) .1 least))
-
-single : (n : ℕ) → Fewest 10 1 n 1 → n < 10
-single n f = omega (arith, f .1, pow-suc 10 0, pow-zero 10)
-
-pub spelled-out : (k r n : ℕ) → r ≤ k → Fewest 10 1 n r → spelled 10 r n ≡ digits k n
-spelled-out k zero n l f = absurd (omega arith)
-spelled-out zero (suc r) n l f = absurd (omega arith)
-spelled-out (suc k) (suc zero) n l f = rw (one-digit k n (single n f), last n)
-spelled-out (suc k) (suc (suc r)) n l f =
-    rw (more-digits k n (tenfold n r f), last n, ← spelled-out k (suc r) (n / 10) (omega arith) (shorter n r f))
-
--- a number of 64 bits has 20 digits at most
-pub few : (n r : ℕ) → n < 2 ^ 64 → Fewest 10 1 n r → r ≤ 20
-few n r h f = go (decLt 20 r)
+last-digit k n = go (decLt n 10)
   where
-    go : Dec (20 < r) → r ≤ 20
-    go (no m) = omega arith
-    go (yes m) =
-        let p : 10 ^ 20 ≤ 10 ^ (r - 1) = pow-le-pow-right {n = 10} (omega arith) {i = 20} {j = r - 1} (omega arith) in
-        let q : 10 ^ (r - 1) ≤ n = f .2 (omega arith) in
-        absurd (omega arith)
+    go : Dec (n < 10) → digits (suc k) n ≡ left k (n / 10) ++ ((48 + n % 10) ∷ [])
+    go (yes h) =
+        let e : n / 10 ≡ 0 = omega arith in
+        rw (lt-ltb n 10 h, e, left-none k)
+    go (no h) = rw (le-ltb n 10 (omega arith), left-some k (n / 10) (omega arith))
 
-pub decimal-added : (n r : ℕ) (o d d′ : List ℕ) (at e : ℕ) → r ≤ 20 → Fewest 10 1 n r → take r o ≡ spelled 10 r n → Added d at (take r o) d′ e → r ≡ length (take r o) → AddedUpTo 20 d at (decimal n) d′ e
+drop-set : (l : List ℕ) (i a : ℕ) → i < length l → drop i (set l i a) ≡ a ∷ drop (suc i) l
+drop-set l i a h = rw (set-split l i a h) (drop-at (take i l) _ i (length-take-le i l (omega arith)))
+
+-- the text of n is what is left to be written, and the digits from `first` on
+pub record Spelled (n : ℕ) (written : List ℕ) (first rest : ℕ) : Type 0 where
+  pub text : decimal n ≡ left first rest ++ drop first written
+  pub small : rest < 10 ^ first
+  pub within : first ≤ 19
+  pub long : length written ≡ 20
+
+pub first-spelled : (n : ℕ) (written : List ℕ) → n < 2 ^ 64 → length written ≡ 20 → drop 19 written ≡ (48 + n % 10) ∷ [] → Spelled n written 19 (n / 10)
 unfolding decimal
-decimal-added n r o d d′ at e l f s a c =
-    let q : take r o ≡ digits 20 n = s ∙ spelled-out 20 r n l f in
-    record { added = rw q at a; short = omega (arith, a .wrote .ends, c) }
+first-spelled n written h l e = record { text = last-digit 19 n ∙ rw e; small = omega arith; within = omega arith; long = l }
+
+module _ (n : ℕ) (written : List ℕ) (rest : ℕ) (more : rest ≡ 0 → ⊥) where
+  pub room : (first : ℕ) → Spelled n written first rest → 1 ≤ first
+  room zero s = absurd (more (omega (arith, s .small, pow-zero 10)))
+  room (suc k) s = omega arith
+
+  pub next-spelled : (first : ℕ) → Spelled n written first rest → Spelled n (set written (first - 1) (48 + rest % 10)) (first - 1) (rest / 10)
+  next-spelled zero s = absurd (more (omega (arith, s .small, pow-zero 10)))
+  next-spelled (suc k) s =
+      let e : suc k - 1 ≡ k = omega arith in
+      rw e
+      (record {
+        text = s .text ∙ rw (left-some (suc k) rest more, last-digit k rest, drop-set written k (48 + rest % 10) (omega (arith, s .within, s .long))) (append-assoc (left k (rest / 10)) _ _);
+        small = div-lt-iff-lt-mul {k = 10} (omega arith) .1 (omega (arith, s .small, pow-suc 10 k));
+        within = omega (arith, s .within);
+        long = simp length-set (s .long);
+      })
+
+-- nothing is left, and the digits were added
+pub all-spelled : {n first at e : ℕ} {written d d′ : List ℕ} → Spelled n written first 0 → Added d at (take (20 - first) (drop first written)) d′ e → AddedUpTo 20 d at (decimal n) d′ e
+all-spelled {n} {first} {at} {e} {written} {d} {d′} s a =
+    let l : length (drop first written) ≡ 20 - first = length-drop first written ∙ ap (λ (n : ℕ). n - first) (s .long) in
+    let w : take (20 - first) (drop first written) ≡ drop first written = take-all (20 - first) (drop first written) (omega arith) in
+    let t : decimal n ≡ take (20 - first) (drop first written) = s .text ∙ rw (left-none first, w) in
+    record { added = rw t a; short = omega (arith, a .wrote .ends, ap length w) }

@@ -1,5 +1,6 @@
 // Text made in a buffer, piece after piece: each function stores its piece from `at` on, and answers where the next one begins.
-ghost use Prim.Native.Nat.{_+_, _≤_};
+ghost use mathlib.Core.Path.{_≡_};
+ghost use Prim.Native.Nat.{_+_, _%_, _≤_};
 ghost use lib.ListN.{length};
 ghost use Rattle.text_make.specs.Added.{Added, AddedUpTo};
 ghost use Rattle.text_make.specs.Text.{upTo, fact as Text·fact, decimal as Text·decimal};
@@ -23,13 +24,28 @@ pub fn string_up_to(most: usize, s: &[u8], out: &mut [u8], at: usize) -> usize
     string(s, out, at)
 }
 
+fn last_digit(n: u64) -> u8
+    ensures { λ r. ⌜ r ≡ 48 + n % 10 ⌝ }
+{
+    b'0' + (n % 10) as u8
+}
+
+// The digits from the last one on.
 pub fn decimal(n: u64, out: &mut [u8], at: usize) -> usize
     requires { ⌜ at + 20 ≤ length (now out) ⌝ }
     ensures { λ r. ⌜ AddedUpTo 20 (now (out .entry)) at (Text·decimal n) (now (out .exit)) r ⌝ }
 {
     let mut digits = [0u8; 20];
-    let k = io::decimal(n, &mut digits);
-    string(&digits[..k], out, at)
+    let mut first: usize = 19;
+    digits[19] = last_digit(n);
+    let mut rest = n / 10;
+    // what is left to be written, and the digits from `first` on, are the text
+    while rest != 0 {
+        first -= 1;
+        digits[first] = last_digit(rest);
+        rest /= 10;
+    }
+    string(&digits[first..], out, at)
 }
 
 // `name n`, on a line of its own
