@@ -25,7 +25,7 @@ use Rattle.verdict.specs.Verdict.{concerns, applies, matches, decider, action, 
 use Rattle.verdict_request.specs.Calls.{badMode, badOrigin, requestRefusal, request, decidedBy, pathAnswer, pathVerdict, spread, treeAnswer, treeVerdict}
 use Rattle.text_affix.specs.Affix.{empty, begins, ends}
 use Rattle.rpc.specs.Pattern as pattern
-use Rattle.text_make.specs.Text.{digits, decimal}
+use Rattle.text_make.specs.Decimal.{digits, decimal}
 use Rattle.log.specs.Request.{requestBody, framedRequest, framedRefusal, unrefused, goodRequest, requestOf}
 use Rattle.log.specs.Log.{judgeLog, checkLog, before as put-before, requestsOf, logOf}
 use Rattle.season.specs.Report.{answerTo, decides, permitted, deniedByRule, deniedByDefault}

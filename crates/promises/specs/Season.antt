@@ -3,7 +3,7 @@
 -- The definitions named here are those of the report's contract: a log is accepted where `checkLog` says so, `logOf` are the requests that it holds, and
 -- `reportOf` is the text of `figures`. The single-path verdict is `pathVerdict`, that of the contract of `burgee_path_verdict`.
 -- What is not promised: rule numbers change with the order of the table's lines, so the places of the rules' counts do; only ids do not.
-use Prim.Native.Nat.{ℕ, _+_, _≤_, _<_}
+use Prim.Native.Nat.{ℕ, _+_, _*_, _≤_, _<_}
 use mathlib.Core.Path.{_≡_}
 use mathlib.Core.Bool.{Bool, false}
 use mathlib.Core.List.{List, [], _∷_, _++_, map, List·Permᴰ}
@@ -11,7 +11,6 @@ use mathlib.Core.Option.{some}
 use lib.Dec.{eqb}
 use lib.ListN.{length, drop, getD, getElem?}
 use Rattle.limits.specs.Limits.{maxRules, maxLogLines}
-use Rattle.limits.specs.Sizes.{reportLines, maxReport}
 use Rattle.text.specs.Test.{_and_, _∈_, any, absent}
 use Rattle.text.specs.String.{Str, joined}
 use Rattle.text.specs.Refusal.{clear}
@@ -61,10 +60,10 @@ module _ (x log : Str) (ok : check x ≡ Accepted) (fine : checkLog log ≡ Acce
         ∷ (outcomes 2 permitted ∷ outcomes 2 deniedByRule ∷ outcomes 2 deniedByDefault ∷ []) ∷ []
     -- "The report is 262 decimal lines": the rules' counts, then the grid
     pub all : figures t qs ≡ ruleCounts t qs ++ joined (λ (r : List ℕ). r) (grid t qs)
-    pub number : length (figures t qs) ≡ reportLines
+    pub number : length (figures t qs) ≡ maxRules + 6
     pub text : lines (reportOf x log) ≡ map figureLine (figures t qs)
-    -- no report is longer
-    pub longest : length (reportOf x log) ≤ maxReport
+    -- no report is longer: a count has at most seven digits
+    pub longest : length (reportOf x log) ≤ (maxRules + 6) * 8
     -- "the grid's sum equals the number of log lines"; and so does that of the rules' counts and the two cells of the default
     pub grid-sum : total (joined (λ (r : List ℕ). r) (grid t qs)) ≡ length (lines log)
     pub rules-sum : total (ruleCounts t qs) + (outcomes 1 deniedByDefault + outcomes 2 deniedByDefault) ≡ length (lines log)

@@ -14,7 +14,7 @@ use Rattle.limits.specs.Sizes.{reportLines, maxReport}
 use Rattle.text.specs.Test.{if_then_else_, _∈_}
 use Rattle.text.specs.String.{Str, joined}
 use Rattle.text.proofs.Tests.{by}
-use Rattle.text_make.specs.Text.{digits, decimal}
+use Rattle.text_make.specs.Decimal.{digits, decimal}
 use Rattle.table_line.specs.Lines.{lines, onto}
 use Rattle.table.specs.Table.{Table}
 use Rattle.verdict.specs.Verdict.{Request}

@@ -7,7 +7,7 @@ use lib.ListN.{length}
 use Rattle.limits.specs.Limits.{maxRules}
 use Rattle.text.specs.Test.{_and_, only}
 use Rattle.text.specs.String.{Str, bytes, joined}
-use Rattle.text_make.specs.Text.{decimal}
+use Rattle.text_make.specs.Decimal.{decimal}
 use Rattle.table.specs.Table.{Table}
 use Rattle.verdict.specs.Verdict.{Request, decider}
 use Rattle.verdict_request.specs.Calls.{decidedBy}

@@ -13,7 +13,7 @@ use lib.Dec.{eqb, ltb}
 use Rattle.text.specs.Test.{_and_, if_then_else_}
 use Rattle.text.specs.Byte.{isDigit}
 use Rattle.text.specs.String.{Str}
-use Rattle.text_make.specs.Text.{digits, decimal}
+use Rattle.text_make.specs.Decimal.{digits, decimal}
 use Rattle.text_make.proofs.Spelling.{left-none, left-some, last-digit}
 use Rattle.season.specs.Report.{figureLine}
 use Rattle.season_sum.specs.Reading.{followed, continues, numberFrom, figureOf}

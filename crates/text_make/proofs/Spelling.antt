@@ -11,7 +11,7 @@ use lib.ListN.{length, take, drop, set, length-set, length-drop}
 use lib.Seq.{set-split, drop-at, length-take-le, take-all}
 use Rattle.text.specs.Test.{if_then_else_}
 use Rattle.text.specs.String.{Str}
-use Rattle.text_make.specs.Text.{digits, decimal}
+use Rattle.text_make.specs.Decimal.{digits, decimal}
 use Rattle.text_make.specs.Added.{Added, AddedUpTo}
 
 -- the digits of what is left of a number; none where nothing is left

@@ -3,7 +3,8 @@ ghost use mathlib.Core.Path.{_≡_};
 ghost use Prim.Native.Nat.{_+_, _%_, _≤_};
 ghost use lib.ListN.{length};
 ghost use Rattle.text_make.specs.Added.{Added, AddedUpTo};
-ghost use Rattle.text_make.specs.Text.{upTo, fact as Text·fact, decimal as Text·decimal};
+ghost use Rattle.text_make.specs.Decimal.{decimal as Text·decimal};
+ghost use Rattle.text_make.specs.Text.{upTo, fact as Text·fact};
 
 pub fn string(s: &[u8], out: &mut [u8], at: usize) -> usize
     requires { ⌜ at + length (now s) ≤ length (now out) ⌝ }
