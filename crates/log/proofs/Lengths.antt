@@ -4,13 +4,13 @@ use native.Mathlib.Omega.{arith}
 use borrow.Author.Tests.{eqb-true, ltb-false}
 use mathlib.Core.Path.{_≡_, refl, sym, ap, _∙_}
 use mathlib.Core.Bool.{Bool, true, false, not}
-use mathlib.Core.List.{List, [], _∷_, _++_, append-assoc}
+use mathlib.Core.List.{List, _∷_, _++_, append-assoc}
 use mathlib.Core.Option.{some}
-use lib.Dec.{eqb, ltb}
+use lib.Dec.{eqb}
 use lib.ListN.{length, take, drop, length-drop, length-append}
 use lib.Seq.{take-at}
 use Rattle.limits.specs.Limits.{maxString, maxShortString}
-use Rattle.limits.specs.Sizes.{maxHeading, maxLogFrame, maxPathBytes}
+use Rattle.limits.specs.Sizes.{maxHeading, maxLogFrame}
 use Rattle.text.specs.Test.{_and_, _or_, if_then_else_}
 use Rattle.text.specs.String.{Str}
 use Rattle.text.specs.Refusal.{_when_else_, clear}
@@ -28,7 +28,7 @@ use Rattle.verdict.specs.Verdict.{Request}
 use Rattle.verdict_request.specs.Calls.{badMode, badOrigin}
 use Rattle.log.specs.Request.{goodRequest}
 use Rattle.log.specs.Heading.{Head, heading, headBytes, headRefusal}
-use Rattle.log.proofs.Headings.{Good, good-parts, no-path-there}
+use Rattle.log.proofs.Headings.{good-parts, no-path-there}
 
 module _ (f : List ℕ) where
   -- a heading that was read stands there

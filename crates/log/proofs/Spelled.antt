@@ -1,17 +1,12 @@
 -- A request by path bytes is the request by the path text that they spell.
-use Prim.Native.Nat.{ℕ}
-use mathlib.Core.Path.{_≡_, refl, ap, _∙_}
-use mathlib.Core.Bool.{Bool, true, not}
-use mathlib.Core.Option.{Option, some}
-use Rattle.text.specs.Test.{if_then_else_, absent, orNothing}
-use Rattle.text.specs.Refusal.{_when_else_, clear}
-use Rattle.path.specs.Path.{Path}
+use mathlib.Core.Path.{_≡_}
+use mathlib.Core.Bool.{true}
+use Rattle.text.specs.Test.{absent, orNothing}
 use Rattle.path.specs.Refusal.{goodPath}
 use Rattle.path_read.specs.Text.{pathText}
-use Rattle.path_read.specs.TextReader.{readText}
 use Rattle.path_read.proofs.RoundTrip.{good-text}
 use Rattle.verdict.specs.Verdict.{Request}
-use Rattle.verdict_request.specs.Calls.{refusalOr, requestRefusal, request}
+use Rattle.verdict_request.specs.Calls.{requestRefusal, request}
 use Rattle.log.specs.Request.{framedRefusal}
 
 module _ (q : Request) (g : goodPath (q .path) ≡ true) where

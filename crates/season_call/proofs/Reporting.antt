@@ -1,8 +1,8 @@
 -- The report of an accepted table and an accepted log is the text of the counts.
 use Prim.Native.Nat.{ℕ, zero, suc, _≤_}
 use native.Mathlib.Omega.{arith}
-use mathlib.Core.Path.{_≡_, refl, sym, ap, _∙_, subst}
-use mathlib.Core.List.{List, [], _∷_, _++_}
+use mathlib.Core.Path.{_≡_, refl, ap, subst}
+use mathlib.Core.List.{List, [], _++_}
 use lib.ListN.{length, take, getD, replicate}
 use Rattle.limits.specs.Limits.{maxRules}
 use Rattle.text.specs.Test.{only}
@@ -13,19 +13,19 @@ use Rattle.table.specs.declared.Checked.the-variants as checked
 use Rattle.table_load.specs.declared.row.Counts.{Counts}
 use Rattle.table_load.specs.declared.Loaded.{Loaded}
 use Rattle.table_load.specs.declared.Loaded.the-variants as loaded
-use Rattle.table_load.specs.Loaded.{Kept, Outcome}
-use Rattle.table_check.proofs.Calls.{outcome-refused, count-requires, grouped}
+use Rattle.table_load.specs.Loaded.{Kept}
+use Rattle.table_check.proofs.Calls.{count-requires, grouped}
 use Rattle.verdict.specs.Verdict.{Request}
 use Rattle.table.specs.Table.{Table}
 use Rattle.verdict_call.proofs.Holding.{safe, holding}
-use Rattle.log.specs.Log.{checkLog, judgeLog, logOf, requestsOf}
+use Rattle.log.specs.Log.{checkLog, logOf}
 use Rattle.season.specs.Report.{count, forEach, ruleCount, ruleCounts, cell, row, grid, figures, figureLine, report}
 use Rattle.season.specs.Calls.{firstFault, fault, reportOf, answered, stored, seasonAnswer, seasonLent}
 use Rattle.season.specs.declared.Reported.{Reported}
 use Rattle.season.specs.declared.Reported.the-variants.{Refused}
 use Rattle.season_count.specs.Counts.{cellOf, UpTo}
 use Rattle.season_count.specs.Loaded.{Sound, Is, Remembered}
-use Rattle.season_count.specs.Counting.{CountsOf, CountedLines, Counts-lines}
+use Rattle.season_count.specs.Counting.{CountsOf, Counts-lines}
 use Rattle.season_count.specs.declared.lines.Ended.{Ended}
 use Rattle.season_count.specs.declared.lines.Ended.the-variants as ended
 use Rattle.season_call.specs.Refused.{refusedBy}

@@ -1,5 +1,5 @@
 -- The text of a report, line after line.
-use Prim.Native.Nat.{ℕ, zero, suc, _+_, _*_, _≤_, _<_}
+use Prim.Native.Nat.{ℕ, _+_, _*_, _≤_, _<_}
 use native.Mathlib.Numerals.{add-one}
 use native.Mathlib.Omega.{arith}
 use borrow.Author.Tests.{le-leb, lt-leb}
@@ -9,8 +9,6 @@ use mathlib.Core.List.{List, [], _∷_, _++_, append-assoc, append-nil}
 use lib.Dec.{leb}
 use lib.ListN.{length, take, getD, length-append}
 use lib.Seq.{length-take-le, take-suc, take-all}
-use Rattle.limits.specs.Limits.{maxRules}
-use Rattle.limits.specs.Sizes.{reportLines}
 use Rattle.text.specs.Test.{if_then_else_}
 use Rattle.text.specs.String.{Str, joined}
 use Rattle.text.specs.Fill.{put}
@@ -19,11 +17,10 @@ use Rattle.text.proofs.Filling.{wrote-long, put-length, put-take}
 use Rattle.text_make.specs.Added.{Added, AddedUpTo}
 use Rattle.text_make.specs.Text.{fact}
 use Rattle.text_make.proofs.Adding.{_then_, nothing-added}
-use Rattle.table.specs.declared.Checked.the-variants.{Accepted}
 use Rattle.season.specs.Report.{figureLine}
 use Rattle.season.specs.Calls.{answered, stored}
 use Rattle.season.specs.declared.Reported.the-variants.{Length, Refused}
-use Rattle.season_call.specs.Written.{lineRoom, FiguresWritten, cellsIn, handsOut, leftIn}
+use Rattle.season_call.specs.Written.{lineRoom, FiguresWritten, handsOut, leftIn}
 
 pub fact-is : (n : ℕ) → fact [] n ≡ figureLine n
 unfolding fact figureLine

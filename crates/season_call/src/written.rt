@@ -3,7 +3,6 @@ ghost use mathlib.Core.Path.{_≡_};
 ghost use Prim.Native.Nat.{_+_, _*_, _≤_};
 ghost use mathlib.Core.List.{_++_};
 ghost use lib.ListN.{length};
-ghost use Rattle.limits.specs.Limits.{maxRules};
 ghost use Rattle.text.specs.String.{joined};
 ghost use Rattle.text_make.specs.Added.{Added, AddedUpTo};
 ghost use Rattle.season.specs.Report.{figureLine};

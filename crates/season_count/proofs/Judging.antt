@@ -1,13 +1,13 @@
 -- The answer to a frame whose heading and path are good.
-use Prim.Native.Nat.{ℕ, _+_, _≤_, _<_}
+use Prim.Native.Nat.{ℕ, _≤_, _<_}
 use native.Mathlib.Omega.{arith}
 use mathlib.Core.Path.{_≡_, refl, ap, _∙_}
-use mathlib.Core.Bool.{Bool, true, false}
+use mathlib.Core.Bool.{true, false}
 use mathlib.Core.List.{List}
-use mathlib.Core.Option.{none, some}
+use mathlib.Core.Option.{none}
 use lib.ListN.{length, getD}
 use Rattle.limits.specs.Limits.{maxRules}
-use Rattle.text.specs.Test.{_and_, if_then_else_}
+use Rattle.text.specs.Test.{if_then_else_}
 use Rattle.text.specs.Frame.{Parsed, got, unread}
 use Rattle.text.proofs.Tests.{by}
 use Rattle.path.specs.Path.{Path}
@@ -20,16 +20,13 @@ use Rattle.verdict_judge.specs.Best.{lacks, held, NumberBelow, BestMarked}
 use Rattle.verdict_judge.specs.declared.best.Best.{Best}
 use Rattle.verdict_request.specs.Calls.{decidedBy}
 use Rattle.verdict_request.specs.declared.PathAnswer.{PathAnswer}
-use Rattle.verdict_request.specs.declared.PathAnswer.the-variants.{Permit, Deny, Default, Refused}
 use Rattle.verdict_call.proofs.Found.{found}
-use Rattle.table_membership.specs.Set.{setIn}
 use Rattle.log.specs.Request.{goodRequest}
-use Rattle.log.specs.Heading.{heading}
 use Rattle.log.proofs.Headings.{no-path-there, head-mode, bad-path, good-path, withPath}
 use Rattle.log.proofs.Lengths.{good-mode}
 use Rattle.season.specs.Report.{answerTo}
 use Rattle.season_count.specs.Counts.{Placed}
-use Rattle.season_count.specs.Loaded.{Headed, Is, Answers}
+use Rattle.season_count.specs.Loaded.{Headed, Answers}
 
 -- ---- the path
 

@@ -1,9 +1,9 @@
 -- One line counted: what was decoded is its frame, and what was judged is its request.
-use Prim.Native.Nat.{ℕ, _+_, _*_, _≤_, _<_}
+use Prim.Native.Nat.{ℕ, _+_, _≤_, _<_}
 use native.Mathlib.Omega.{arith}
-use mathlib.Core.Path.{_≡_, refl, sym, ap, _∙_, subst}
-use mathlib.Core.List.{List, [], _∷_, _++_}
-use mathlib.Core.Option.{none, some}
+use mathlib.Core.Path.{_≡_, sym, ap, _∙_, subst}
+use mathlib.Core.List.{List}
+use mathlib.Core.Option.{none}
 use lib.ListN.{length, take, drop, getD, length-drop}
 use lib.Seq.{getD-take}
 use Rattle.limits.specs.Sizes.{maxLogFrame}

@@ -4,10 +4,8 @@ use native.Mathlib.Nat.{add-zero}
 use native.Mathlib.Omega.{arith}
 use borrow.Author.Tests.{lt-ltb, le-ltb}
 use mathlib.Core.Path.{_≡_, refl, sym, ap, _∙_, subst}
-use mathlib.Core.Bool.{true, false}
 use mathlib.Core.List.{List, [], _∷_, _++_, append-assoc, append-nil}
 use mathlib.Core.Option.{Option, none, some}
-use lib.Dec.{ltb}
 use lib.ListN.{length, drop, length-append, length-drop}
 use lib.Seq.{drop-length}
 use Rattle.limits.specs.Limits.{maxLogLines}
@@ -16,7 +14,6 @@ use Rattle.text.specs.String.{Str}
 use Rattle.table_line.specs.Lines.{lines}
 use Rattle.table_line.proofs.FirstLine.{lines-cons}
 use Rattle.table.specs.Table.{Table}
-use Rattle.table.specs.declared.Checked.{Checked}
 use Rattle.table.specs.declared.Checked.the-variants.{Accepted, Refused}
 use Rattle.verdict.specs.Verdict.{Request}
 use Rattle.log.specs.Request.{requestOf}

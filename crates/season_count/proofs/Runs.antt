@@ -1,17 +1,17 @@
 -- A run of lines with one heading: the heading that is remembered, and what it tells of a frame.
 use Prim.Native.Nat.{ℕ, _+_, _≤_, _<_}
 use native.Mathlib.Omega.{arith}
-use borrow.Author.Tests.{ltb-true, leb-true}
-use mathlib.Core.Path.{_≡_, refl, sym, ap, _∙_}
-use mathlib.Core.Bool.{Bool, true}
+use borrow.Author.Tests.{ltb-true}
+use mathlib.Core.Path.{_≡_, sym, ap, _∙_}
+use mathlib.Core.Bool.{true}
 use mathlib.Core.List.{List, _++_}
 use mathlib.Core.Option.{none}
-use lib.Dec.{ltb, leb}
+use lib.Dec.{ltb}
 use lib.ListN.{length, take, drop, getD, length-append, take-append-drop}
 use lib.Seq.{length-take-le, take-at}
 use Rattle.limits.specs.Sizes.{maxHeading}
 use Rattle.text.specs.Test.{_and_}
-use Rattle.text.specs.String.{Str, same}
+use Rattle.text.specs.String.{Str}
 use Rattle.text.specs.Fill.{put}
 use Rattle.text.specs.Refusal.{clear}
 use Rattle.text.specs.Frame.{part, got}
@@ -21,7 +21,7 @@ use Rattle.text_affix.specs.Affix.{begins}
 use Rattle.table_membership.specs.Set.{setIn}
 use Rattle.verdict_concern.specs.Concern.{Applying}
 use Rattle.log.specs.Request.{goodRequest}
-use Rattle.log.specs.Heading.{Head, heading, headBytes, headRefusal}
+use Rattle.log.specs.Heading.{headBytes, headRefusal}
 use Rattle.log.proofs.Headings.{headIn, HeadAt}
 use Rattle.log.proofs.Lengths.{heading-there, heading-length, heading-front, short-heading}
 use Rattle.season_count.specs.Loaded.{Remembered, Headed}

@@ -8,15 +8,13 @@ use mathlib.Core.Logic.{_⊎_, inl, inr}
 use mathlib.Core.List.{List, [], _∷_, _++_}
 use mathlib.Core.Option.{Option, none, some, bind}
 use lib.Dec.{eqb, leb}
-use lib.ListN.{length, take, drop, length-drop, length-append, take-append-drop}
+use lib.ListN.{length, take, drop, length-drop, take-append-drop}
 use lib.Seq.{length-take-le, take-all, take-add, drop-at, drop-drop, drop-append-le}
 use Rattle.limits.specs.Sizes.{maxLogFrame, maxLogLine}
-use Rattle.text.specs.Test.{_and_, if_then_else_}
-use Rattle.text.specs.Byte.{isHex}
+use Rattle.text.specs.Test.{if_then_else_}
 use Rattle.text.specs.String.{Str}
 use Rattle.text.proofs.Tests.{by, clash}
 use Rattle.table_line.specs.Lines.{onto, lines, pair, pairs, nonempty, frame}
-use Rattle.table_line.specs.Decoding.{digits}
 use Rattle.table_line.proofs.FirstLine.{head, lines-cons, Read, Unhex}
 use Rattle.verdict.specs.Verdict.{Request}
 use Rattle.log.specs.Request.{goodRequest, requestOf}

@@ -3,7 +3,7 @@ ghost use mathlib.Core.Path.{_≡_};
 ghost use Prim.Native.Nat.{_≤_, _<_};
 ghost use lib.ListN.{getD};
 ghost use Rattle.limits.specs.Limits.{maxRules, maxLogLines};
-ghost use Rattle.season_count.specs.Counts.{raised, cellOf, raisedBy, columnOf, cellRaisedBy, Placed, UpTo};
+ghost use Rattle.season_count.specs.Counts.{raised, cellOf, raisedBy, columnOf, cellRaisedBy, Placed};
 use table::RuleNumber;
 use verdict_request::PathAnswer;
 

@@ -1,3 +1,4 @@
+-- The word of what `season_report` answers.
 use mathlib.Core.Path.{ap, _∙_}
 use Rattle.text.specs.String.{Str}
 use Rattle.burgee.specs.Word.{reportedWord}

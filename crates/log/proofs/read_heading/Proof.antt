@@ -1,3 +1,4 @@
+-- `read_heading` tells what `heading` reads.
 use native.Mathlib.Omega.{arith}
 use Rattle.text.proofs.Frames.{string-ends, string-misses}
 use Rattle.log.proofs.Headings.{no-mode, no-user, no-origin, head-read, head-unread, head-at}

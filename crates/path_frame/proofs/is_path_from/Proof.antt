@@ -15,4 +15,5 @@ returns-2 c = let at-read-path = c .before .before .before in
     sym (a-path _ _ _ (at-read-path .read-path .ensures) _ _ (c .before .w .given .1))
 
 pub is-path-from-spec : {M : Type 1} → statement M
-is-path-from-spec = tie.close (tie.spec (λ c κs. search needs) (λ c. search needs) (λ c. search needs) returns returns-2)
+is-path-from-spec = tie.close (tie.spec (λ c κs. search needs) (λ c. search needs) (λ c. search needs) returns
+    returns-2)

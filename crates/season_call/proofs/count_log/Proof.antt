@@ -1,3 +1,4 @@
+-- `count_log` counts the lines of the log after none.
 use native.Mathlib.Omega.{arith}
 use Rattle.season_call.proofs.Reporting.{whole-log, nothing-remembered}
 use borrow.Author.Needs.{needs}

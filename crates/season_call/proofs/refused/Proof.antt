@@ -1,3 +1,4 @@
+-- `refused` equals its definition.
 use Rattle.season_call.specs.Refused.{refusedBy}
 use borrow.Author.Needs.{needs}
 use Rattle.season_call.proofs.refused.Statement.{statement}

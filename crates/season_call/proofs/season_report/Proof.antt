@@ -1,3 +1,4 @@
+-- `season_report` answers by the table's refusal, the log's, or the text of the counts.
 use native.Mathlib.Omega.{arith}
 use mathlib.Core.Path.{sym, _∙_}
 use Rattle.table.specs.Text.{tableOf}

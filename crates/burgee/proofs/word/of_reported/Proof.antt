@@ -1,3 +1,4 @@
+-- `of_reported` equals its definition.
 use mathlib.Core.Path.{sym, ap, _∙_}
 use Rattle.burgee.specs.Word.{reportedWord}
 use borrow.Author.Needs.{needs}

@@ -1,3 +1,4 @@
+-- `hand_out` stores the text where it fits.
 use native.Mathlib.Omega.{arith}
 use mathlib.Core.Path.{sym}
 use mathlib.Core.List.{_++_}

@@ -1,3 +1,4 @@
+-- `write` adds the counts of the rules, and then the six cells.
 use native.Mathlib.Omega.{arith}
 use Prim.Native.Nat.{_+_}
 use lib.ListN.{length, length-append}

@@ -1,3 +1,4 @@
+-- `write_counts` adds a line for each count.
 use borrow.Author.Needs.{needs}
 use native.Mathlib.Omega.{arith}
 use Prim.Native.Nat.{_-_, _≤_}
@@ -7,6 +8,7 @@ use Rattle.season_call.proofs.Writing.{none-written, long-still, line-f
 use Rattle.season_call.proofs.written.write_counts.Statement.{statement}
 use Rattle.season_call.proofs.written.write_counts.Tie as tie
 
+-- the first i counts are written
 abbrev Inv-loop : tie.InvT-loop
 Inv-loop counts out₀ i₀ at₀ out i at = (i ≤ length counts) × FiguresWritten out₀ (take i counts) out at
 

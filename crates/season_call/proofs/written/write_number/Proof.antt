@@ -1,3 +1,4 @@
+-- `write_number` adds the line of a figure.
 use Rattle.season_call.proofs.Writing.{fact-is}
 use borrow.Author.Needs.{needs}
 use Rattle.season_call.proofs.written.write_number.Statement.{statement}

@@ -1,3 +1,4 @@
+-- `column` equals its definition.
 use Rattle.season_count.specs.Counts.{columnOf}
 use borrow.Author.Needs.{needs}
 use Rattle.season_count.proofs.count.column.Statement.{statement}

@@ -1,3 +1,4 @@
+-- `count_cell` raises the cell of its definition.
 use native.Mathlib.Omega.{arith}
 use Prim.Native.Nat.{_-_}
 use Rattle.season_count.proofs.Raising.{column-small}

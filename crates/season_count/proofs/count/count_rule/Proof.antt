@@ -1,3 +1,4 @@
+-- `count_rule` raises the place of its definition.
 use mathlib.Core.Path.{_∙_}
 use Rattle.season_count.specs.Counts.{raisedBy, Placed}
 use Rattle.season_count.proofs.Raising.{raised-as, placed-as}

@@ -1,3 +1,4 @@
+-- `is_remembered` equals its definition.
 use native.Mathlib.Omega.{arith}
 use borrow.Author.Tests.{lt-ltb, le-ltb}
 use lib.ListN.{length}

@@ -1,3 +1,4 @@
+-- `judge` answers as the table does to the frame's request.
 use native.Mathlib.Omega.{arith}
 use borrow.Author.Tests.{not-true, not-false}
 use mathlib.Core.Path.{sym, _∙_}

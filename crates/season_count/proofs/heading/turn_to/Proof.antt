@@ -1,3 +1,4 @@
+-- `turn_to` remembers the heading of the frame.
 use native.Mathlib.Omega.{arith}
 use mathlib.Core.Path.{refl, sym, _∙_}
 use lib.Seq.{length-take-le}
@@ -76,15 +77,15 @@ copy-requires c κs = let at-if2 = c .before .before .before .before .before .be
 
 returns-4 : tie.Need-returns-4
 returns-4 c = let at-mark = c .before .before .before .before .before .before .before in
-    let at-memberships = at-mark .before .before .before .before in
-    let at-h = at-memberships .before .before .before .before in
-    let at-start = at-h .before .before .before .before .before .before .before .before .before .before .before .before .before .before in
-    let at = head-told _ _ (at-h .before .before .read-heading .ensures) _ _ _ (at-h .h .given .1) in
+    let at-memberships = at-mark .before .before .before .before in let at-if2 = at-memberships .before .before in
+    let at-read-heading = at-if2 .before .before .before .before in
+    let at-start = at-read-heading .before .before .before .before .before .before .before .before .before .before .before .before in
+    let at = head-told _ _ (at-read-heading .read-heading .ensures) _ _ _ (at-if2 .before .before .h .given .1) in
     let marks = at-start .pre .1 .marks in (
-      turned _ _ _ _ _ _ _ at (at-memberships .before .before .if2 .left) _ _ _
+      turned _ _ _ _ _ _ _ at (at-if2 .if2 .left) _ _ _
           (omega (arith, marks, at-mark .mark .ensures .0)) (c .before .before .copy .ensures) _
           (at-memberships .memberships .ensures) (at-mark .mark .ensures .1),
-      key-long at (at-memberships .before .before .if2 .left) (at-start .args .key .now) _ (at-start .pre .2) (c .before .before .copy .ensures),
+      key-long at (at-if2 .if2 .left) (at-start .args .key .now) _ (at-start .pre .2) (c .before .before .copy .ensures),
     )
 
 pub turn-to-spec : {M : Type 1} → statement M

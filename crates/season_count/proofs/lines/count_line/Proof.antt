@@ -1,3 +1,4 @@
+-- `count_line` counts the first line from `from` on.
 use mathlib.Core.Path.{refl, sym}
 use lib.Seq.{length-take-le}
 use Rattle.table_line.proofs.FirstLine.{line-read, line-unhex}

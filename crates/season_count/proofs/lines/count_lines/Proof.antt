@@ -1,3 +1,4 @@
+-- `count_lines` counts line after line.
 use borrow.Author.Needs.{needs}
 use native.Mathlib.Omega.{arith}
 use Prim.Native.Nat.{_-_}
@@ -8,6 +9,7 @@ use Rattle.season_count.proofs.Looping.{Going, going-starts, going-over
 use Rattle.season_count.proofs.lines.count_lines.Statement.{statement}
 use Rattle.season_count.proofs.lines.count_lines.Tie as tie
 
+-- the lines before `from` are counted, and the lent slices are as long as they were
 abbrev Inv-loop : tie.InvT-loop
 Inv-loop f users owners m starts holders n text before line₀ key₀ len on₀ counts₀ grid₀ all₀ from₀ head₀ line key on counts grid all from head =
     Going f users owners m starts holders n text before counts₀ grid₀ all from key head on counts grid ×

@@ -1,3 +1,4 @@
+-- `reach` meets its definition.
 use mathlib.Core.Path.{refl}
 use mathlib.Core.Logic.{inl, inr}
 use native.Mathlib.Omega.{arith}
