@@ -1,7 +1,8 @@
 // Answers as words: bits 0 to 7 the refusal number; from bit 8 on the line or the length; or from bit 8 on the action or the count, and from bit 16 on the
 // number of the rule or the group, plus 1.
 ghost use mathlib.Core.Path.{_≡_};
-ghost use Rattle.burgee.specs.Word.{refusalWord, filledWord, checkedWord, countedWord, pathWord, treeWord, reportedWord, policyWord, rpcWord, rpcProbeWord};
+ghost use Rattle.burgee.specs.Word.{refusalWord, filledWord, checkedWord, countedWord, pathWord, treeWord, reportedWord};
+ghost use Rattle.burgee.specs.Word.{policyWord, rpcWord, rpcProbeWord};
 use path_read::Filled;
 use policy_check::check::Check;
 use rotation_probe::rpcs::RpcAnswer;
