@@ -154,6 +154,7 @@ done
 input=/dev/null
 torn 2 pack "$work/readable"
 torn 2 policy $policy
+torn 4 report-sum examples/files/week1.report examples/files/week2.report
 torn 2 rpc $policy '' /
 torn 4 rpc $policy '' / "$work/headers"
 

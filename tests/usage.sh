@@ -35,7 +35,7 @@ rotate rpc
 END
 
 # The page of a command by its name, or by --help or -h as its one word; elsewhere that is a name.
-for command in table show pack policy groups verdict tree explain path rpc rotate version; do
+for command in table show pack policy groups verdict tree explain report-sum path rpc rotate version; do
     for word in --help -h; do
         answer_is $command $word < <(burgee help $command)
     done

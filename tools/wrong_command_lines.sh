@@ -93,6 +93,18 @@ slips cli_table/src/tables.rt verdict says nothing of a user who is not named: i
 slips cli_table/src/tables.rt tree says nothing of a user who is not named: in tree s/cli_names::tell(text, user);//
 slips cli_table/src/explanation.rt explain says nothing of a user who is not named: in all s/cli_names::tell(text, user);//
 slips cli_probe/src/lib.rt the probes say nothing of a user who is not named: in answer_table s/cli_names::tell(text, user);//
+reports cli_season/src/sums.rt the last report is left out: in run s/while i < words/while i + 1 < words/
+reports cli_season/src/sums.rt a report that cannot be read is passed over: in add s/        return false;/        return true;/
+reports cli_season/src/sums.rt a report that is refused is passed over: in add s/    false$/    true/
+reports cli_season/src/sums.rt a longer text is cut to the longest report: s/TEXT_ROOM: usize = MAX_REPORT + 1/TEXT_ROOM: usize = MAX_REPORT/
+reports cli_season/src/sums.rt refusals on standard output: in refuse s/first_to(2/first_to(1/
+reports cli_season/src/sums.rt a refused report is not marked: in refuse s/cli_show::marks::refusal();//
+reports cli_season/src/sums.rt the line of a refused report is not shown: in add s/quote(.*);//
+reports cli_season/src/sums.rt a missing line is shown: in quote s/limits::REPORT_LINES < line/true/
+reports cli_season/src/sums.rt a missing LF is not told: in quote s/line, is_all/line, false/
+reports cli_season/src/sums.rt standard input read twice: in is_read_once s/is_named & is_standard/false/
+reports cli_season/src/refusals.rt reasons exchanged: in reason {s/Outcome::LineCount/Outcome::Swap/; s/Outcome::TooLarge/Outcome::LineCount/; s/Outcome::Swap/Outcome::TooLarge/}
+reports cli/src/main.rt report-sum without a report: in takes s/2 < words/1 < words/
 program bin/burgee a changed source is not noticed: s/ \[ -z "\$later" \] && / /
 program bin/burgee a source that looks old is not noticed: s/-cnewer/-newer/
 program bin/burgee an added or removed source is not noticed: s/sources -print0/sources -type f -print0/

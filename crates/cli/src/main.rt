@@ -14,6 +14,7 @@ enum Command {
     Verdict,
     Tree,
     Explain,
+    ReportSum,
     Rpc,
     Rotate,
     Version,
@@ -24,7 +25,7 @@ enum Command {
 // The command of that name.
 fn named(word: &[u8]) -> Command {
     let place = cli_console::lines::place(
-        b"table\nshow\npack\npolicy\ngroups\npath\nverdict\ntree\nexplain\nrpc\nrotate\nversion\n--version\nhelp\n--help\n-h\n",
+        b"table\nshow\npack\npolicy\ngroups\npath\nverdict\ntree\nexplain\nreport-sum\nrpc\nrotate\nversion\n--version\nhelp\n--help\n-h\n",
         word,
     );
     match place {
@@ -38,9 +39,10 @@ fn named(word: &[u8]) -> Command {
         7 => Command::Verdict,
         8 => Command::Tree,
         9 => Command::Explain,
-        10 => Command::Rpc,
-        11 => Command::Rotate,
-        12 | 13 => Command::Version,
+        10 => Command::ReportSum,
+        11 => Command::Rpc,
+        12 => Command::Rotate,
+        13 | 14 => Command::Version,
         _ => Command::Help,
     }
 }
@@ -169,7 +171,7 @@ fn explain_use() {
     }
 }
 
-// Whether a command takes that many words; how many a rotation takes, its step says.
+// Whether a command takes that many words; how many a rotation takes, its step says, and a sum takes any number of reports.
 fn takes(command: Command, words: usize) -> bool {
     match command {
         Command::Table | Command::Show | Command::Policy => words == 3,
@@ -177,7 +179,7 @@ fn takes(command: Command, words: usize) -> bool {
         Command::Groups | Command::Path => words == 4,
         Command::Verdict | Command::Tree | Command::Explain => words == 7,
         Command::Rpc => (words == 5) | (words == 6),
-        Command::Rotate => 2 < words,
+        Command::ReportSum | Command::Rotate => 2 < words,
         Command::Version => words == 2,
         _ => words < 4,
     }
@@ -191,6 +193,7 @@ fn run(command: Command, name: &[u8], words: usize) {
         Command::Groups => groups(),
         Command::Path => path(),
         Command::Verdict | Command::Tree | Command::Explain => verdict(command, name),
+        Command::ReportSum => cli_season::sums::run(words),
         Command::Rpc => rpc(words),
         Command::Rotate => rotate(words),
         Command::Version => cli_help::version(),

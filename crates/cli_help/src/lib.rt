@@ -101,6 +101,7 @@ fn all() {
         burgee verdict FILE USER read|write ORIGIN PATH    what a user may do at a path\n\
         burgee tree FILE USER read|write ORIGIN PATH       and at every path beneath it\n\
         burgee explain FILE USER read|write ORIGIN PATH    why: the rules that match, the best first\n\
+        burgee report-sum REPORT ..                        the sum of season reports\n\
         burgee path read TEXT                              path text as path bytes\n\
         burgee path write BYTES                            path bytes as path text\n\
         burgee policy FILE                                 checks an RPC policy\n\
@@ -251,6 +252,27 @@ fn explain(command: &[u8], step: &[u8], part: Part) -> bool {
         deny\n\
         default\n\
         no rule matches\n",
+    )
+}
+
+fn report_sum(command: &[u8], step: &[u8], part: Part) -> bool {
+    print(
+        command,
+        step,
+        part,
+        b"burgee report-sum REPORT ..\n\
+        \n\
+        The sum of season reports, line by line, as a report. A report is 262 lines, each a decimal number without leading zeros\n\
+        of 64 bits at most. The first file that is none, or with which a sum has more than 64 bits, is refused by its line,\n\
+        on standard error, and nothing is printed.\n\
+        \n\
+        $ burgee report-sum examples/files/week1.report examples/files/week2.report | head -n 3\n\
+        218\n\
+        97\n\
+        58\n\
+        $ sed '2s/^/0/' examples/files/week1.report | burgee report-sum examples/files/week2.report -\n\
+        refused at line 2 of -: not a decimal number of 64 bits at most, without leading zeros\n\
+        line: 045\n",
     )
 }
 
@@ -411,6 +433,7 @@ fn find(command: &[u8], step: &[u8], part: Part) -> bool {
         | verdict(command, step, part)
         | tree(command, step, part)
         | explain(command, step, part)
+        | report_sum(command, step, part)
         | path(command, step, part)
         | policy(command, step, part)
         | rpc(command, step, part)

@@ -1,15 +1,17 @@
 -- A report added to sums.
 use Prim.Native.Nat.{ℕ, zero, suc, _+_}
 use native.Mathlib.Omega.{arith}
-use mathlib.Core.Path.{_≡_, refl, sym, _∙_}
+use mathlib.Core.Path.{_≡_, refl, sym, ap, _∙_}
 use mathlib.Core.List.{List, [], _∷_, append-nil}
 use mathlib.Core.Option.{Option, none, some}
 use lib.ListN.{length, drop-of-length-le}
 use Rattle.limits.specs.Sizes.{reportLines}
+use Rattle.text.specs.Test.{if_then_else_}
 use Rattle.text.specs.String.{Str}
+use mathlib.Core.Bool.{Bool, true, false}
 use Rattle.text.specs.Fill.{put}
 use Rattle.text.proofs.Filling.{put-length}
-use Rattle.season_sum.specs.Reading.{figureOf, onward, reading, figuresOf}
+use Rattle.season_sum.specs.Reading.{fits, figureOf, onward, reading, figuresOf}
 use Rattle.season_sum.specs.Adding.{adding, sumsOf, whereGood, afterReport, sumsAfter}
 use Rattle.season_sum.specs.declared.Outcome.{Outcome}
 use Rattle.season_sum.specs.declared.Outcome.the-variants.{Good, NoFigure, LineCount, TooLarge}
@@ -57,3 +59,25 @@ module _ (text : Str) (zeros figures : List ℕ) (long : length zeros ≡ report
         go (NoFigure l) n = (refl, refl)
         go (LineCount l) n = (refl, refl)
         go (TooLarge l) n = (refl, refl)
+
+-- ---- as many sums as before
+
+sums-long : (ms ns : List ℕ) → length (sumsOf ms ns) ≡ length ms
+unfolding sumsOf if_then_else_
+sums-long [] ns = refl
+sums-long (m ∷ ms) [] = refl
+sums-long (m ∷ ms) (n ∷ ns) = go (fits (m + n)) (sums-long ms ns)
+  where
+    go : (b : Bool) → length (sumsOf ms ns) ≡ length ms → length (if b then (m + n) ∷ sumsOf ms ns else m ∷ ms) ≡ length (m ∷ ms)
+    go true e = ap suc e
+    go false e = refl
+
+pub sums-after-long : (text : Str) (ms : List ℕ) → length (sumsAfter text ms) ≡ length ms
+unfolding sumsAfter whereGood
+sums-after-long text ms = go (reading reportLines 1 text)
+  where
+    go : (o : Outcome) → length (whereGood o (sumsOf ms (figuresOf reportLines text)) (λ r. ms)) ≡ length ms
+    go Good = sums-long ms (figuresOf reportLines text)
+    go (NoFigure l) = refl
+    go (LineCount l) = refl
+    go (TooLarge l) = refl
