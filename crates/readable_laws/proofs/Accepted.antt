@@ -35,8 +35,8 @@ use Rattle.table.specs.Text.{unless, judge, check}
 use Rattle.table.specs.declared.Checked.the-variants.{Accepted, Refused}
 use Rattle.table.proofs.Numbers.{refusal-clear}
 use Rattle.readable_parts.specs.Parts.{partOf, rest, ofRest, quoted, hexDigit, hexPair, hexText, shownString, shownTime, shownPath, shownCode, shownPlain, shown}
-use Rattle.readable_lines.specs.Form.{parts, formBy, printed, shownFrame}
-use Rattle.readable_lines.specs.Lines.{lined, shownLine}
+use Rattle.readable_lines.specs.Form.{parts, formBy, printed, shownBy, shownFrame}
+use Rattle.readable_lines.specs.Lines.{lined, shownLineBy, shownLine}
 use Rattle.readable.specs.Texts.{onward, ending}
 use Rattle.readable.specs.declared.Ended.the-variants as ended
 use Rattle.readable_parts.proofs.Showing.{is-plain}
@@ -381,7 +381,7 @@ module _ (f : Str) (m : Small f) where
       (λ u. never-got refl (rw (byte-unread f 0 (ltb-false _ _ u)) at w))
 
   frame-shows : (e : Entry) → entryOf f ≡ some e → Fine e → (s : Str) × (shownFrame f ≡ some s)
-  unfolding shownFrame whole printed if_then_else_
+  unfolding shownFrame shownBy whole printed if_then_else_
   frame-shows e h g = let r = kind-reads (getD f 0 0) e (kind-told e h) g in (r .0, rw (r .1, eq-eqb (length f) (length f) refl, r .2))
 
 -- ---- each line
@@ -397,7 +397,7 @@ frame-told b none h = let z : _≡_ {A = ℕ} 2 clear = h in absurd (omega arith
 frame-told b (some f) h = (f, refl, h)
 
 shown-line : (l f s : Str) → frame l ≡ some f → shownFrame f ≡ some s → shownLine l ≡ some (s ++ (10 ∷ []))
-unfolding shownLine bind lined
+unfolding shownLine shownLineBy bind lined
 shown-line l f s e i = rw (e, i)
 
 pub line-shows : (b : Earlier) (l : Str) → refusal b (lineOf l) ≡ clear → (r : Str) × (shownLine l ≡ some r)
