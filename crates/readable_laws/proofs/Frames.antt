@@ -157,7 +157,7 @@ unfolding whole if_then_else_
 whole-got s w = rw (eq-eqb (length s) (length s) refl)
 
 -- what was taken whole is all there is
-took-all : (s w : Str) → Took s 0 w (length s) → s ≡ w
+pub took-all : (s w : Str) → Took s 0 w (length s) → s ≡ w
 took-all s w t = t .same ∙ ap (λ (z : Str). w ++ z) (drop-length s) ∙ append-nil w
 
 -- a line that r packs, and that stands at the end of a frame so, is shown by r′
