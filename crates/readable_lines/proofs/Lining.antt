@@ -49,7 +49,7 @@ unended [] h i l = absurd (omega arith)
 unended (x ∷ s) h zero l = by (eqb x 10) (λ u. let h′ = rw u at h in absurd (omega arith)) (λ u. u)
 unended (x ∷ s) h (suc i) l = by (eqb x 10) (λ u. let h′ = rw u at h in absurd (omega arith)) (λ u. let h′ = rw u at h in unended s (omega arith) i (omega arith))
 
-unended-line : (s : Str) → 0 < length s → length s ≤ until (is 10) s → lines s ≡ s ∷ []
+pub unended-line : (s : Str) → 0 < length s → length s ≤ until (is 10) s → lines s ≡ s ∷ []
 unfolding lines onto until if_then_else_
 unended-line [] z h = absurd (omega arith)
 unended-line (x ∷ []) z h = by (eqb x 10) (λ u. let h′ = rw u at h in absurd (omega arith)) (λ u. rw u)
