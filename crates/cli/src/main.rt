@@ -15,6 +15,7 @@ enum Command {
     Tree,
     Explain,
     Rpc,
+    Log,
     Rotate,
     Version,
     Help,
@@ -24,7 +25,7 @@ enum Command {
 // The command of that name.
 fn named(word: &[u8]) -> Command {
     let place = cli_console::lines::place(
-        b"table\nshow\npack\npolicy\ngroups\npath\nverdict\ntree\nexplain\nrpc\nrotate\nversion\n--version\nhelp\n--help\n-h\n",
+        b"table\nshow\npack\npolicy\ngroups\npath\nverdict\ntree\nexplain\nrpc\nlog\nrotate\nversion\n--version\nhelp\n--help\n-h\n",
         word,
     );
     match place {
@@ -39,8 +40,9 @@ fn named(word: &[u8]) -> Command {
         8 => Command::Tree,
         9 => Command::Explain,
         10 => Command::Rpc,
-        11 => Command::Rotate,
-        12 | 13 => Command::Version,
+        11 => Command::Log,
+        12 => Command::Rotate,
+        13 | 14 => Command::Version,
         _ => Command::Help,
     }
 }
@@ -153,6 +155,19 @@ fn path() {
     }
 }
 
+// burgee log show FILE
+// burgee log pack FILE
+fn log() {
+    let mut step = io::buffer();
+    let s = input::word(2, &mut step);
+    let direction = cli_console::lines::place(b"show\npack\n", &step[..s]);
+    match direction {
+        1 => cli_readable::logs::convert(false, 3),
+        2 => cli_readable::logs::convert(true, 3),
+        _ => cli_console::say::usage(b"neither show nor pack: ", &step[..s], b"log"),
+    }
+}
+
 // burgee rotate STEP FILE ..
 fn rotate(words: usize) {
     let mut step = io::buffer();
@@ -174,7 +189,7 @@ fn takes(command: Command, words: usize) -> bool {
     match command {
         Command::Table | Command::Show | Command::Policy => words == 3,
         Command::Pack => (words == 3) | (words == 4),
-        Command::Groups | Command::Path => words == 4,
+        Command::Groups | Command::Path | Command::Log => words == 4,
         Command::Verdict | Command::Tree | Command::Explain => words == 7,
         Command::Rpc => (words == 5) | (words == 6),
         Command::Rotate => 2 < words,
@@ -192,6 +207,7 @@ fn run(command: Command, name: &[u8], words: usize) {
         Command::Path => path(),
         Command::Verdict | Command::Tree | Command::Explain => verdict(command, name),
         Command::Rpc => rpc(words),
+        Command::Log => log(),
         Command::Rotate => rotate(words),
         Command::Version => cli_help::version(),
         Command::Help => explain_use(),
