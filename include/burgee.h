@@ -138,9 +138,9 @@ static inline const char *burgee_refusal_text(unsigned number)
     case BURGEE_REFUSED_HEADERS:
         return "header lines ill-formed, over 8,192 bytes together, or a byte of a value does not print";
     case BURGEE_REFUSED_LOG_LENGTH:
-        return "the log has over 1,000,000 lines";
+        return "the log has more than 1,000,000 lines";
     case BURGEE_REFUSED_LOG_LINE:
-        return "not a request that can be judged";
+        return "not a line of a log: mode, user, origin and path of a good request, in hex digits, then LF";
     default:
         return "no refusal number of this version";
     }

@@ -16,6 +16,7 @@ enum Command {
     Explain,
     ReportSum,
     Rpc,
+    Log,
     Rotate,
     Version,
     Help,
@@ -25,7 +26,7 @@ enum Command {
 // The command of that name.
 fn named(word: &[u8]) -> Command {
     let place = cli_console::lines::place(
-        b"table\nshow\npack\npolicy\ngroups\npath\nverdict\ntree\nexplain\nreport-sum\nrpc\nrotate\nversion\n--version\nhelp\n--help\n-h\n",
+        b"table\nshow\npack\npolicy\ngroups\npath\nverdict\ntree\nexplain\nreport-sum\nrpc\nlog\nrotate\nversion\n--version\nhelp\n--help\n-h\n",
         word,
     );
     match place {
@@ -41,8 +42,9 @@ fn named(word: &[u8]) -> Command {
         9 => Command::Explain,
         10 => Command::ReportSum,
         11 => Command::Rpc,
-        12 => Command::Rotate,
-        13 | 14 => Command::Version,
+        12 => Command::Log,
+        13 => Command::Rotate,
+        14 | 15 => Command::Version,
         _ => Command::Help,
     }
 }
@@ -155,6 +157,19 @@ fn path() {
     }
 }
 
+// burgee log show FILE
+// burgee log pack FILE
+fn log() {
+    let mut step = io::buffer();
+    let s = input::word(2, &mut step);
+    let direction = cli_console::lines::place(b"show\npack\n", &step[..s]);
+    match direction {
+        1 => cli_readable::logs::convert(false, 3),
+        2 => cli_readable::logs::convert(true, 3),
+        _ => cli_console::say::usage(b"neither show nor pack: ", &step[..s], b"log"),
+    }
+}
+
 // burgee rotate STEP FILE ..
 fn rotate(words: usize) {
     let mut step = io::buffer();
@@ -176,7 +191,7 @@ fn takes(command: Command, words: usize) -> bool {
     match command {
         Command::Table | Command::Show | Command::Policy => words == 3,
         Command::Pack => (words == 3) | (words == 4),
-        Command::Groups | Command::Path => words == 4,
+        Command::Groups | Command::Path | Command::Log => words == 4,
         Command::Verdict | Command::Tree | Command::Explain => words == 7,
         Command::Rpc => (words == 5) | (words == 6),
         Command::ReportSum | Command::Rotate => 2 < words,
@@ -195,6 +210,7 @@ fn run(command: Command, name: &[u8], words: usize) {
         Command::Verdict | Command::Tree | Command::Explain => verdict(command, name),
         Command::ReportSum => cli_season::sums::run(words),
         Command::Rpc => rpc(words),
+        Command::Log => log(),
         Command::Rotate => rotate(words),
         Command::Version => cli_help::version(),
         Command::Help => explain_use(),

@@ -106,6 +106,8 @@ fn all() {
         burgee path write BYTES                            path bytes as path text\n\
         burgee policy FILE                                 checks an RPC policy\n\
         burgee rpc FILE IDENTITY PATH [HEADERS-FILE]       whether a client may make a call\n\
+        burgee log show FILE                               a log of requests as readable text\n\
+        burgee log pack FILE                               readable text as a log\n\
         burgee rotate STEP FILE ..                         a rotation, tried by hand\n\
         burgee help [COMMAND]                              this page, or one command's; also burgee COMMAND --help\n\
         burgee version                                     the version of this program\n\
@@ -349,6 +351,36 @@ fn rpc(command: &[u8], step: &[u8], part: Part) -> bool {
     )
 }
 
+fn log(command: &[u8], step: &[u8], part: Part) -> bool {
+    print(
+        command,
+        step,
+        part,
+        b"burgee log show FILE\n\
+        burgee log pack FILE\n\
+        \n\
+        A log of path requests as readable text, a request a line, and that text back as the log: the two undo each other, line by line.\n\
+        A line of the readable text is this, and ends with LF:\n\
+        \n\
+        read|write [USER] origin [ORIGIN] PATH\n\
+        \n\
+        In brackets \\ stands before ] and \\. USER, ORIGIN and PATH are as a verdict takes them.\n\
+        A log can be long, and is converted in parts: what was made before the line that is refused is printed.\n\
+        Refusals go to standard error: of a log by number and line, of readable text by the line, as burgee pack does.\n\
+        \n\
+        $ printf 'read [ann] origin [] /system\\nwrite [ann] origin [] /interfaces/interface[name=uplink]\\n' | burgee log pack - | tee target/help.log\n\
+        0103616e6e00010673797374656d00\n\
+        0203616e6e00020a696e74657266616365730009696e7465726661636501046e616d650675706c696e6b\n\
+        $ burgee log show target/help.log\n\
+        read [ann] origin [] /system\n\
+        write [ann] origin [] /interfaces/interface[name=uplink]\n\
+        $ sed s/^02/03/ target/help.log | burgee log show -\n\
+        read [ann] origin [] /system\n\
+        refused 51 at line 2: not a line of a log: mode, user, origin and path of a good request, in hex digits, then LF\n\
+        line: 0303616e6e00020a696e74657266616365730009696e7465726661636501046e616d650675706c696e6b\n",
+    )
+}
+
 fn rotate(command: &[u8], step: &[u8], part: Part) -> bool {
     print(
         command,
@@ -437,6 +469,7 @@ fn find(command: &[u8], step: &[u8], part: Part) -> bool {
         | path(command, step, part)
         | policy(command, step, part)
         | rpc(command, step, part)
+        | log(command, step, part)
         | rotate(command, step, part)
         | about_version(command, step, part)
 }

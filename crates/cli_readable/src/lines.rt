@@ -7,7 +7,7 @@ use readable::Converted;
 
 // Why nothing was made of a text; nothing where it was converted.
 pub fn refusal(c: Converted, out: &mut [u8]) -> usize
-    requires { ⌜ 1660 ≤ length (now out) ⌝ }
+    requires { ⌜ 1780 ≤ length (now out) ⌝ }
     ensures { λ n. ⌜ Added (now (out .entry)) 0 (refusalLine c) (now (out .exit)) n ⌝ }
 {
     match c {

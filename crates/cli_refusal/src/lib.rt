@@ -7,12 +7,12 @@ ghost use Rattle.text_make.specs.Added.{Added, AddedUpTo};
 ghost use Rattle.cli_refusal.specs.Refusal.{meaning, place, refusal as Refusal·refusal};
 
 // Room for the line: words are looked up in their table, and no longer than it.
-pub const MAX_LINE: usize = 1660;
+pub const MAX_LINE: usize = 1780;
 
 // Adds what a number means.
 fn add_meaning(number: u8, out: &mut [u8], at: usize) -> usize
-    requires { ⌜ at + 1600 ≤ length (now out) ⌝ }
-    ensures { λ r. ⌜ AddedUpTo 1600 (now (out .entry)) at (meaning number) (now (out .exit)) r ⌝ }
+    requires { ⌜ at + 1720 ≤ length (now out) ⌝ }
+    ensures { λ r. ⌜ AddedUpTo 1720 (now (out .entry)) at (meaning number) (now (out .exit)) r ⌝ }
 {
     let key = [48 + number / 10 % 10, 48 + number % 10, b' '];
     entry::add_entry(
@@ -46,8 +46,8 @@ fn add_meaning(number: u8, out: &mut [u8], at: usize) -> usize
         38 a rule name twice in a list\n\
         40 identity or path over 256 bytes, or a byte of it does not print\n\
         41 header lines ill-formed, over 8,192 bytes together, or a byte of a value does not print\n\
-        50 the log has over 1,000,000 lines\n\
-        51 not a request that can be judged\n",
+        50 the log has more than 1,000,000 lines\n\
+        51 not a line of a log: mode, user, origin and path of a good request, in hex digits, then LF\n",
         &key,
         out,
         at,
@@ -68,7 +68,7 @@ pub fn add_place(line: usize, out: &mut [u8], at: usize) -> usize
 
 // Makes the line of a refusal.
 pub fn line(number: u8, line: usize, out: &mut [u8]) -> usize
-    requires { ⌜ 1660 ≤ length (now out) ⌝ }
+    requires { ⌜ 1780 ≤ length (now out) ⌝ }
     ensures { λ r. ⌜ Added (now (out .entry)) 0 (Refusal·refusal number line) (now (out .exit)) r ⌝ }
 {
     let digits = text_make::string(b"refused ", out, 0);
