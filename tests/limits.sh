@@ -186,7 +186,7 @@ it has at most {MAX_SHORT_STRING} bytes that print
 nested to depth {MAX_DEPTH} at most
 40 identity or path over {MAX_REQUEST_STRING} bytes
 over {MAX_HEADER_LINES} bytes together
-50 the log has over {MAX_LOG_LINES} lines
+50 the log has more than {MAX_LOG_LINES} lines
 END
 
 # ---- every number that is written with a comma, in documents, comments and messages, is a limit, or one of these

@@ -5,7 +5,7 @@ use mathlib.Core.List.{[], _∷_, _++_}
 use lib.Dec.{eqb}
 use Rattle.text.specs.Test.{if_then_else_}
 use Rattle.text.specs.String.{Str, bytes, joined}
-use Rattle.text_make.specs.Text.{decimal}
+use Rattle.text_make.specs.Decimal.{decimal}
 use Rattle.cli_refusal.specs.Entry.{entry}
 use mathlib.Core.Bool.{true}
 
