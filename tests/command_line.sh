@@ -34,6 +34,10 @@ printf 'site:north\n' >"$work/headers"
 takes 0 table $table
 takes 0 show $table
 misused_as pack "$work/readable" "$work/packed" more
+printf '0103616e6e0000\n' >"$work/log"
+printf 'read [ann] origin [] /\n' >"$work/requests"
+takes 0 log show "$work/log"
+takes 0 log pack "$work/requests"
 takes 0 policy $policy
 takes 0 groups $table ann
 takes 0 path read /
@@ -73,6 +77,7 @@ misused help "$long"
 misused_as verdict $table ann "$long" '' /
 misused_as rotate "$long" "$work/x"
 misused_as path "$long" /
+misused_as log "$long" "$work/log"
 complaint table "$long"
 refused groups $table "$long"
 refused_number() {
@@ -111,6 +116,8 @@ for file in "$work/none" "$work" "$long"; do
     for command in table show pack policy; do
         complaint $command "$file"
     done
+    complaint log show "$file"
+    complaint log pack "$file"
     complaint groups "$file" ann
     for command in verdict tree explain; do
         complaint $command "$file" ann read '' /
@@ -153,7 +160,10 @@ for input in /dev/null $table; do
 done
 input=/dev/null
 torn 2 pack "$work/readable"
+torn 2 log show "$work/log"
+torn 2 log pack "$work/requests"
 torn 2 policy $policy
+torn 3 report $table "$work/log"
 torn 4 report-sum examples/files/week1.report examples/files/week2.report
 torn 2 rpc $policy '' /
 torn 4 rpc $policy '' / "$work/headers"
@@ -219,6 +229,12 @@ says 38 'a rule name twice in a list' policy "$work/text"
 says 40 'identity or path over 256 bytes, or a byte of it does not print' rpc $policy $'\t' /
 text 'no colon\n'
 says 41 'header lines ill-formed, over 8,192 bytes together, or a byte of a value does not print' rpc $policy '' / "$work/text"
+
+yes 0101750000 | head -n 1000001 >"$work/text"
+says 50 'the log has more than 1,000,000 lines' report $table "$work/text"
+text '0101750000\n01\n'
+says 51 'not a line of a log: mode, user, origin and path of a good request, in hex digits, then LF' report $table "$work/text"
+[ "$(tail -n 1 "$work/written")" = 'line: 01' ] || fail "report: the bad line is not shown"
 
 # A byte of the record, which is the first 20 bytes of the first file of a rotation.
 put() { printf "$2" | dd of="${rotation[0]}" bs=1 seek="$1" conv=notrunc status=none; }

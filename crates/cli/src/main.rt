@@ -14,6 +14,7 @@ enum Command {
     Verdict,
     Tree,
     Explain,
+    Report,
     ReportSum,
     Rpc,
     Log,
@@ -26,7 +27,7 @@ enum Command {
 // The command of that name.
 fn named(word: &[u8]) -> Command {
     let place = cli_console::lines::place(
-        b"table\nshow\npack\npolicy\ngroups\npath\nverdict\ntree\nexplain\nreport-sum\nrpc\nlog\nrotate\nversion\n--version\nhelp\n--help\n-h\n",
+        b"table\nshow\npack\npolicy\ngroups\npath\nverdict\ntree\nexplain\nreport\nreport-sum\nrpc\nlog\nrotate\nversion\n--version\nhelp\n--help\n-h\n",
         word,
     );
     match place {
@@ -40,11 +41,12 @@ fn named(word: &[u8]) -> Command {
         7 => Command::Verdict,
         8 => Command::Tree,
         9 => Command::Explain,
-        10 => Command::ReportSum,
-        11 => Command::Rpc,
-        12 => Command::Log,
-        13 => Command::Rotate,
-        14 | 15 => Command::Version,
+        10 => Command::Report,
+        11 => Command::ReportSum,
+        12 => Command::Rpc,
+        13 => Command::Log,
+        14 => Command::Rotate,
+        15 | 16 => Command::Version,
         _ => Command::Help,
     }
 }
@@ -105,6 +107,20 @@ fn groups() {
     let n = got.count;
     if got.is_good {
         tables::groups(&text[..n], &user[..u]);
+    }
+}
+
+// burgee report TABLE LOG
+fn report() {
+    if input::is_standard(2) & input::is_standard(3) {
+        cli_console::say::usage(b"standard input can be read once only", b"", b"report");
+        return;
+    }
+    let mut text = io::large_buffer();
+    let got = input::file(2, &mut text);
+    let n = got.count;
+    if got.is_good {
+        cli_report::report(&text[..n], 3);
     }
 }
 
@@ -191,7 +207,7 @@ fn takes(command: Command, words: usize) -> bool {
     match command {
         Command::Table | Command::Show | Command::Policy => words == 3,
         Command::Pack => (words == 3) | (words == 4),
-        Command::Groups | Command::Path | Command::Log => words == 4,
+        Command::Groups | Command::Path | Command::Log | Command::Report => words == 4,
         Command::Verdict | Command::Tree | Command::Explain => words == 7,
         Command::Rpc => (words == 5) | (words == 6),
         Command::ReportSum | Command::Rotate => 2 < words,
@@ -208,6 +224,7 @@ fn run(command: Command, name: &[u8], words: usize) {
         Command::Groups => groups(),
         Command::Path => path(),
         Command::Verdict | Command::Tree | Command::Explain => verdict(command, name),
+        Command::Report => report(),
         Command::ReportSum => cli_season::sums::run(words),
         Command::Rpc => rpc(words),
         Command::Log => log(),

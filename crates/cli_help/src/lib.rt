@@ -101,6 +101,7 @@ fn all() {
         burgee verdict FILE USER read|write ORIGIN PATH    what a user may do at a path\n\
         burgee tree FILE USER read|write ORIGIN PATH       and at every path beneath it\n\
         burgee explain FILE USER read|write ORIGIN PATH    why: the rules that match, the best first\n\
+        burgee report TABLE LOG                            how often each rule decided over a log of requests\n\
         burgee report-sum REPORT ..                        the sum of season reports\n\
         burgee path read TEXT                              path text as path bytes\n\
         burgee path write BYTES                            path bytes as path text\n\
@@ -254,6 +255,27 @@ fn explain(command: &[u8], step: &[u8], part: Part) -> bool {
         deny\n\
         default\n\
         no rule matches\n",
+    )
+}
+
+fn report(command: &[u8], step: &[u8], part: Part) -> bool {
+    print(
+        command,
+        step,
+        part,
+        b"burgee report TABLE LOG\n\
+        \n\
+        The season report over a table and a log of requests (burgee log show and pack): 262 lines, each a decimal number. How often\n\
+        each of the rules 0 to 255 decided; then reads permitted, denied by a rule and denied by default; then writes likewise.\n\
+        A log has at most 1,000,000 lines, and is read in parts. The first line that is one too many or bad is refused.\n\
+        \n\
+        $ echo 'read [kim] origin [] /interfaces' | burgee log pack - | burgee report examples/files/yard.table - | sed -n '257,259p'\n\
+        0\n\
+        0\n\
+        1\n\
+        $ echo 01 | burgee report examples/files/yard.table -\n\
+        refused 51 at line 1: not a line of a log: mode, user, origin and path of a good request, in hex digits, then LF\n\
+        line: 01\n",
     )
 }
 
@@ -465,6 +487,7 @@ fn find(command: &[u8], step: &[u8], part: Part) -> bool {
         | verdict(command, step, part)
         | tree(command, step, part)
         | explain(command, step, part)
+        | report(command, step, part)
         | report_sum(command, step, part)
         | path(command, step, part)
         | policy(command, step, part)

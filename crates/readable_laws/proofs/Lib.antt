@@ -10,4 +10,5 @@ pub mod Accepted
 pub mod Longest
 pub mod Promise
 pub mod LogLines
+pub mod LogLengths
 pub mod Examples

@@ -9,7 +9,7 @@ use season::Reported;
 use season_count::lines::Ended;
 use table_load::Loaded;
 
-mod written;
+pub mod written;
 
 // A table's own refusal.
 fn refused(l: Loaded) -> Reported

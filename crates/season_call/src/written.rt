@@ -10,7 +10,7 @@ ghost use Rattle.season_call.specs.Written.{lineRoom, FiguresWritten, ce
 use season::Reported;
 
 // Room for the line of any number.
-const LINE_ROOM: usize = 21;
+pub const LINE_ROOM: usize = 21;
 
 // A number on a line of its own.
 fn write_number(n: u64, out: &mut [u8], at: usize) -> usize
@@ -35,7 +35,7 @@ fn write_counts(counts: &[u64], out: &mut [u8]) -> usize
 }
 
 // The whole text.
-fn write(counts: &[u64], grid: [[u64; 3]; 2], out: &mut [u8]) -> usize
+pub fn write(counts: &[u64], grid: [[u64; 3]; 2], out: &mut [u8]) -> usize
     requires { ⌜ (length (now counts) + 6) * lineRoom ≤ length (now out) ⌝ }
     ensures { λ r. ⌜ Added (now (out .entry)) 0 (joined figureLine (now (counts .entry) ++ cellsIn grid)) (now (out .exit)) r ⌝ }
 {
