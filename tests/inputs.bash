@@ -13,6 +13,11 @@ LONGEST=$(
     done
 )
 
+# reported LINES LINE ..: these lines, as sed takes them, of the season report on the table of examples E to K and a log of these lines; or its refusal.
+reported() {
+    burgee report <(echo "$EK") <(printf '%s\n' "${@:2}") 2>&1 | sed -n "$1"
+}
+
 # of ACTION SUBJECT ID PATH ..: a table with user u in group g, and these rules to read.
 of() {
     {

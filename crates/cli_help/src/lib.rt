@@ -269,9 +269,9 @@ fn report(command: &[u8], step: &[u8], part: Part) -> bool {
         each of the rules 0 to 255 decided; then reads permitted, denied by a rule and denied by default; then writes likewise.\n\
         A log has at most 1,000,000 lines, and is read in parts. The first line that is one too many or bad is refused.\n\
         \n\
-        $ echo 'read [kim] origin [] /interfaces' | burgee log pack - | burgee report examples/files/yard.table - | sed -n '257,259p'\n\
-        0\n\
-        0\n\
+        $ echo 'write [ann] origin [] /interfaces/interface[name=uplink]/config' | burgee log pack - >target/day.log\n\
+        $ burgee report examples/files/yard.table target/day.log | sed -n '3p;260p'\n\
+        1\n\
         1\n\
         $ echo 01 | burgee report examples/files/yard.table -\n\
         refused 51 at line 1: not a line of a log: mode, user, origin and path of a good request, in hex digits, then LF\n\

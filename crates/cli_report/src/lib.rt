@@ -23,14 +23,14 @@ fn lines_end(part: &[u8], to: usize) -> usize
     input::within(n, part)
 }
 
-// Tells why a log is refused, and prints the line, which stands in a text that comes after `before` lines.
+// Tells why a log is refused, and prints the line, which stands in a text that comes after `before` lines. Standard output is for the report alone.
 fn refuse(text: &[u8], before: usize, e: Ended) {
     let Ended::Refused { number, line } = e else {
         return;
     };
-    cli_console::refusal::at(number, line);
+    cli_console::refusal::to(2, number, line);
     if before < line {
-        cli_console::refusal::quote_line(1, text, line - before, true);
+        cli_console::refusal::quote_line(2, text, line - before, true);
     }
 }
 
@@ -158,7 +158,8 @@ fn refuse_table(table: &[u8], l: Loaded) {
     let Loaded::Refused { number, line } = l else {
         return;
     };
-    cli_console::refusal::of_text(table, number, line);
+    cli_console::refusal::to(2, number, line);
+    cli_console::refusal::quote_line(2, table, line, number == 2);
 }
 
 // The report on a table, and on the log that an argument names.
