@@ -1,5 +1,5 @@
 -- What counting the lines of a part tells.
-use Prim.Native.Nat.{ℕ, _+_, _≤_}
+use Prim.Native.Nat.{ℕ}
 use mathlib.Core.Path.{_≡_, subst}
 use mathlib.Core.List.{List}
 use Rattle.text.specs.String.{Str}

@@ -1,3 +1,4 @@
+-- `count_file` lends the arrays of a count.
 use native.Mathlib.Omega.{arith}
 use Rattle.season_call.proofs.Reporting.{nothing-remembered}
 use borrow.Author.Needs.{needs}

@@ -1,3 +1,4 @@
+-- `count_parts` counts part after part.
 use borrow.Author.Needs.{needs}
 use native.Mathlib.Omega.{arith}
 use Prim.Native.Nat.{_+_, _-_, _≤_}
@@ -11,6 +12,7 @@ use Rattle.cli_report.proofs.Counting.{counted}
 use Rattle.cli_report.proofs.count_parts.Statement.{statement}
 use Rattle.cli_report.proofs.count_parts.Tie as tie
 
+-- the lines before are counted, an unfinished one stands from `from` on, and the lent slices are as long as they were
 abbrev Inv-loop : tie.InvT-loop
 Inv-loop argument fd f users owners m starts holders n part₀ line₀ key₀ on₀ counts₀ grid₀ all₀ len₀ from₀ to₀ parts₀
     part line key on counts grid all len from to parts = Remembered f users owners m starts holders n key len on × UpTo

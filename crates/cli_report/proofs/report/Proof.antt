@@ -1,3 +1,4 @@
+-- `report` loads the table once, and lends it to the count.
 use native.Mathlib.Omega.{arith}
 use mathlib.Core.Path.{sym}
 use Rattle.table_check.proofs.Calls.{outcome-kept, front-is}
