@@ -10,6 +10,8 @@ permitted=0101750002016100016200 # u reads /a/b
 denied=0101760000                # v reads /
 written=0201750000               # u writes /
 
+# N LINE: the line so many times.
+repeat() { yes "$2" | head -n "$1"; }
 # LINE=COUNT ..: the report in which these lines have these numbers, and all others 0.
 figures() {
     for figure in "$@"; do echo "${figure%=*} ${figure#*=}"; done | awk '{ n[$1] = $2 } END { for (i = 1; i <= 262; i++) print n[i] + 0 }'
@@ -34,14 +36,14 @@ misused_as report "$work/table"
 
 # ---- parts: 65,536 bytes are read at once, and lines of 23 and 11 bytes end anywhere
 for lines in 2848 2849 2850 20000; do
-    { yes $permitted | head -n $lines && yes $denied | head -n 7 && yes $written | head -n $((lines / 2)) && echo "$LONGEST" && yes $permitted | head -n 3; } >"$work/log"
+    { repeat $lines $permitted; repeat 7 $denied; repeat $((lines / 2)) $written; echo "$LONGEST"; repeat 3 $permitted; } >"$work/log"
     answer_is report "$work/table" "$work/log" < <(figures 1=$((lines + 3)) 257=$((lines + 3)) 259=8 262=$((lines / 2)))
     echo 01 >>"$work/log"
     told "51 at line $((lines + 7 + lines / 2 + 5)): $bad" $'line: 01\n' "$work/table" "$work/log"
 done
 
 # ---- the longest log, and one line more, also where that is bad or has no LF
-yes $written | head -n 1000000 >"$work/log"
+repeat 1000000 $written >"$work/log"
 answer_is report "$work/table" "$work/log" < <(figures 262=1000000)
 for line in "$written"$'\n' $'\n' x; do
     { cat "$work/log" && printf %s "$line"; } >"$work/longer"
@@ -60,7 +62,7 @@ run 1 report "$work/table" "$work/log"
 grep -q "^refused 51 at line 1: $bad\$" "$work/complaint" && [ ! -s "$work/written" ] || fail "report: a line without an end"
 
 # ---- a table that is refused, and files that are not there
-sed '$s/.$/9/' "$work/table" >"$work/faulty"
+sed '$s/..$//' "$work/table" >"$work/faulty"
 run 1 report "$work/faulty" "$work/none"
 grep -q '^refused 3 at line 4: ' "$work/complaint" && [ ! -s "$work/written" ] || fail "report: a faulty table"
 complaint report "$work/none" "$work/log"
