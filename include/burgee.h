@@ -30,7 +30,7 @@ extern "C" {
 
 /* ---- The answer ---------------------------------------------------------------- */
 
-/* Refusal numbers. Those of a table, 1 to 9, carry a line; 1 has line 0. */
+/* Refusal numbers. Those of a table, 1 to 9, and 51 carry a line; 1 has line 0. */
 #define BURGEE_REFUSED_TABLE_LENGTH 1u   /* more than 32,768 bytes                        */
 #define BURGEE_REFUSED_TABLE_HEX 2u      /* not a line of hex digits with its LF          */
 #define BURGEE_REFUSED_TABLE_FRAME 3u    /* unknown kind or code, too short or too long   */
@@ -62,6 +62,8 @@ extern "C" {
 #define BURGEE_REFUSED_POLICY_RULE 38u   /* a rule name twice in a list                   */
 #define BURGEE_REFUSED_IDENTITY 40u      /* identity or path too long, or a byte in them  */
 #define BURGEE_REFUSED_HEADERS 41u       /* header lines ill-formed or too long           */
+#define BURGEE_REFUSED_LOG_LENGTH 50u    /* more than 1,000,000 lines                     */
+#define BURGEE_REFUSED_LOG_LINE 51u      /* a line that is no request, or 20 to 22 of it  */
 
 /* The refusal number, or 0 where the call was not refused. */
 static inline unsigned burgee_answer_refusal(uint64_t answer)
@@ -135,17 +137,22 @@ static inline const char *burgee_refusal_text(unsigned number)
         return "identity or path over 256 bytes, or a byte of it does not print";
     case BURGEE_REFUSED_HEADERS:
         return "header lines ill-formed, over 8,192 bytes together, or a byte of a value does not print";
+    case BURGEE_REFUSED_LOG_LENGTH:
+        return "the log has more than 1,000,000 lines";
+    case BURGEE_REFUSED_LOG_LINE:
+        return "not a line of a log: mode, user, origin and path of a good request, in hex digits, then LF";
     default:
         return "no refusal number of this version";
     }
 }
 
-/* The line that a refusal carries, counted from 1; 0 where there is none: with number 1,
- * with a number past 9, and where the call was not refused. */
+/* The line that a refusal carries, counted from 1, of the table with 2 to 9 and of the log
+ * with 51; 0 where there is none: with any other number, and where the call was not refused. */
 static inline uint32_t burgee_answer_line(uint64_t answer)
 {
     unsigned number = burgee_answer_refusal(answer);
-    return number != 0 && number <= BURGEE_REFUSED_TABLE_UNLISTED ? (uint32_t)(answer >> 8) : 0;
+    int is_table = number != 0 && number <= BURGEE_REFUSED_TABLE_UNLISTED;
+    return is_table || number == BURGEE_REFUSED_LOG_LINE ? (uint32_t)(answer >> 8) : 0;
 }
 
 /* Bits 8 to 63 of an answer; 0 of a refusal. For the readers below. */
@@ -154,7 +161,7 @@ static inline uint64_t burgee_answer_accepted(uint64_t answer)
     return burgee_answer_refusal(answer) == 0 ? answer >> 8 : 0;
 }
 
-/* Of burgee_path_read and burgee_path_write: how many bytes were filled. */
+/* Of burgee_path_read, burgee_path_write and burgee_season_report: how many bytes were filled. */
 static inline uint32_t burgee_answer_length(uint64_t answer)
 {
     return (uint32_t)burgee_answer_accepted(answer);
@@ -254,6 +261,23 @@ uint64_t burgee_path_verdict(const uint8_t *table, size_t table_len, const uint8
 uint64_t burgee_tree_verdict(const uint8_t *table, size_t table_len, const uint8_t *user, size_t user_len,
                              uint32_t mode, const uint8_t *origin, size_t origin_len, const uint8_t *path,
                              size_t path_len);
+
+/* A log has so many lines at most. A buffer of this length holds every report. */
+#define BURGEE_LOG_LINES_MAX 1000000u
+#define BURGEE_REPORT_MAX 2096u
+
+/*
+ * The season report: the requests of a log, each judged as burgee_path_verdict does, and
+ * counted. A log is hex lines as a table is, one request a line: a mode byte; the user and
+ * the origin, each after a length byte; path bytes. Fills the start of `out` with 262 lines,
+ * each a decimal number and LF: how often each of the rules 0 to 255 decided, then how many
+ * reads were permitted, denied by a rule and denied by default, then the writes likewise.
+ * Stores nothing beyond the length that the answer reports. An exact fit fits. Refused as
+ * burgee_table_check is; then at the first line of the log that is one too many (50) or no
+ * request that can be judged (51, with its line), with 50 where it is both; then with 23.
+ */
+uint64_t burgee_season_report(const uint8_t *table, size_t table_len, const uint8_t *log, size_t log_len, uint8_t *out,
+                              size_t out_len);
 
 /* ---- RPC policies -------------------------------------------------------------- */
 

@@ -34,6 +34,10 @@ printf 'site:north\n' >"$work/headers"
 takes 0 table $table
 takes 0 show $table
 misused_as pack "$work/readable" "$work/packed" more
+printf '0103616e6e0000\n' >"$work/log"
+printf 'read [ann] origin [] /\n' >"$work/requests"
+takes 0 log show "$work/log"
+takes 0 log pack "$work/requests"
 takes 0 policy $policy
 takes 0 groups $table ann
 takes 0 path read /
@@ -73,6 +77,7 @@ misused help "$long"
 misused_as verdict $table ann "$long" '' /
 misused_as rotate "$long" "$work/x"
 misused_as path "$long" /
+misused_as log "$long" "$work/log"
 complaint table "$long"
 refused groups $table "$long"
 refused_number() {
@@ -111,6 +116,8 @@ for file in "$work/none" "$work" "$long"; do
     for command in table show pack policy; do
         complaint $command "$file"
     done
+    complaint log show "$file"
+    complaint log pack "$file"
     complaint groups "$file" ann
     for command in verdict tree explain; do
         complaint $command "$file" ann read '' /
@@ -153,7 +160,12 @@ for input in /dev/null $table; do
 done
 input=/dev/null
 torn 2 pack "$work/readable"
+torn 2 log show "$work/log"
+torn 2 log pack "$work/requests"
 torn 2 policy $policy
+echo 0101750000 >"$work/log"
+torn 4 report $table "$work/log"
+torn 4 report-sum examples/files/week1.report examples/files/week2.report
 torn 2 rpc $policy '' /
 torn 4 rpc $policy '' / "$work/headers"
 
@@ -236,6 +248,8 @@ step start && says 11 'the store is shorter than 65,536 bytes' "${words[@]}"
 # 23 cannot come from here, where there is room for every result; its words stand with the others.
 grep -rqF '23 the result does not fit the buffer\n' crates/cli_refusal || fail 'refusal 23: other words'
 seen="$seen 23"
+# 50 and 51 are those of tests/season.sh, where they go to standard error.
+seen="$seen 50 51"
 numbers=$(sed -n 's/^#define BURGEE_REFUSED_[A-Z_]* \([0-9]*\)u.*/\1/p' include/burgee.h)
 [ "$(printf '%s\n' $seen | sort -nu)" = "$(printf '%s\n' $numbers | sort -n)" ] || fail "refusals: not those of the header are tried"
 

@@ -43,7 +43,7 @@ static const refusal refusals[] = {
     {BURGEE_REFUSED_USER_OR_MODE, 20},   /* user or mode not as a table allows */
     {BURGEE_REFUSED_ORIGIN, 21},         /* origin likewise */
     {BURGEE_REFUSED_PATH, 22},           /* path text, or path bytes given to the writer */
-    {BURGEE_REFUSED_BUFFER, 23},         /* the path result doesn't fit the lent buffer */
+    {BURGEE_REFUSED_BUFFER, 23},         /* the result doesn't fit the lent buffer */
     {BURGEE_REFUSED_POLICY_LENGTH, 30},  /* policy over 16,384 bytes */
     {BURGEE_REFUSED_POLICY_JSON, 31},    /* not one JSON value in our bytes and depth */
     {BURGEE_REFUSED_POLICY_TWICE, 32},   /* member name twice in one object */
@@ -55,6 +55,8 @@ static const refusal refusals[] = {
     {BURGEE_REFUSED_POLICY_RULE, 38},    /* rule name twice in a list */
     {BURGEE_REFUSED_IDENTITY, 40},       /* identity or path of an RPC: too long, or a byte */
     {BURGEE_REFUSED_HEADERS, 41},        /* header lines */
+    {BURGEE_REFUSED_LOG_LENGTH, 50},     /* log line number 1,000,001 */
+    {BURGEE_REFUSED_LOG_LINE, 51},       /* a log line that is not so framed, or gets 20 to 22 */
 };
 
 /* What the command line says, as header.sh finds it in its program. */
@@ -123,6 +125,8 @@ static void check_constants(void)
     SAME(BURGEE_POLICY_TEXT_MAX, 16384);
     SAME(BURGEE_PATH_BYTES_MAX, 9377);
     SAME(BURGEE_PATH_TEXT_MAX, 13520);
+    SAME(BURGEE_LOG_LINES_MAX, 1000000);
+    SAME(BURGEE_REPORT_MAX, 262 * 8);
 
     unsigned major = 0, minor = 0, patch = 0;
     char more = 0;
@@ -179,7 +183,7 @@ static void check_refused(int line_of_test, uint64_t answer, unsigned number, ui
 
 /* Words are put together by sums here. Bits 8 to 63 of a refusal: */
 static const uint64_t above_refusal[] = {
-    0, 1, 2, 3, 9, 11, 63, 64, 254, 255, 256, 257, 511, 512, 513, 4095, 4096, 4097, 65535, 65536, 65537, 0xFFFFFFFF, 0x100000000, 0x1000000FF, 0xFFFFFFFFFFFFFF,
+    0, 1, 2, 3, 9, 11, 63, 64, 254, 255, 256, 257, 511, 512, 513, 4095, 4096, 4097, 65535, 65536, 65537, 1000000, 0xFFFFFFFF, 0x100000000, 0x1000000FF, 0xFFFFFFFFFFFFFF,
 };
 
 static void check_refused_words(void)
@@ -187,7 +191,7 @@ static void check_refused_words(void)
     for (unsigned number = 1; number <= 255; number++) {
         for (size_t i = 0; i < COUNT(above_refusal); i++) {
             uint64_t above = above_refusal[i];
-            REFUSED(number + 256 * above, number, number <= 9 ? above % 0x100000000 : 0);
+            REFUSED(number + 256 * above, number, number <= 9 || number == 51 ? above % 0x100000000 : 0);
         }
     }
 }
@@ -497,6 +501,7 @@ static void check_table_refusals(void)
         REFUSED(burgee_group_count(TEXT(&table), SLICE("u")), BURGEE_REFUSED_TABLE_HEX, lines[i]);
         REFUSED(burgee_path_verdict(TEXT(&table), SLICE("u"), BURGEE_READ, SLICE(""), SLICE("/")), BURGEE_REFUSED_TABLE_HEX, lines[i]);
         REFUSED(burgee_tree_verdict(TEXT(&table), SLICE("u"), BURGEE_READ, SLICE(""), SLICE("/")), BURGEE_REFUSED_TABLE_HEX, lines[i]);
+        REFUSED(burgee_season_report(TEXT(&table), SLICE("z"), path_bytes, 0), BURGEE_REFUSED_TABLE_HEX, lines[i]);
     }
 }
 
@@ -547,6 +552,149 @@ static void check_table_verdicts(void)
     REFUSED(burgee_tree_verdict(TEXT(&table), SLICE("u"), BURGEE_READ, SLICE("\x1f"), SLICE("/")), BURGEE_REFUSED_ORIGIN, 0);
     REFUSED(burgee_path_verdict(TEXT(&table), SLICE("u"), BURGEE_READ, SLICE(""), SLICE("a")), BURGEE_REFUSED_PATH, 0);
     REFUSED(burgee_tree_verdict(TEXT(&table), SLICE("u"), BURGEE_READ, SLICE(""), SLICE("a")), BURGEE_REFUSED_PATH, 0);
+}
+
+/* ---- The season report ---------------------------------------------------------------------------------------------------------------- */
+
+static uint8_t report[BURGEE_REPORT_MAX + 1];
+
+/* Asks for a report in a buffer of so many bytes, each of which holds a mark. */
+static uint64_t report_of(const text *table, const uint8_t *log, size_t log_len, size_t room)
+{
+    memset(report, 'x', sizeof report);
+    return burgee_season_report(TEXT(table), log, log_len, report, room);
+}
+
+#define FIGURES 262u
+
+/* A line for each figure, and the mark behind them. */
+static void check_report(int line, uint64_t answer, const unsigned *figures)
+{
+    static text expected;
+    expected.len = 0;
+    for (unsigned i = 0; i < FIGURES; i++) {
+        char number[12];
+        snprintf(number, sizeof number, "%u\n", figures[i]);
+        put(&expected, number);
+    }
+    check_filled(line, answer, (uint32_t)expected.len);
+    check_equal(&checks, line, "the report is another", memcmp(report, expected.bytes, expected.len) != 0, false);
+    check_equal(&checks, line, "the byte after the report", report[expected.len], 'x');
+}
+
+#define REPORTED(answer, figures) check_report(__LINE__, answer, figures)
+
+/* And nothing was stored. */
+#define UNREPORTED(answer, number, line) \
+    do { \
+        REFUSED(answer, number, line); \
+        SAME(report[0], 'x'); \
+    } while (false)
+
+/* So many requests for a path of one element. */
+static void put_requests(text *log, unsigned times, unsigned mode, const char *user, const char *origin, name path)
+{
+    while (times-- > 0) {
+        put_byte(log, mode);
+        put_string(log, user);
+        put_string(log, origin);
+        put_byte(log, 1);
+        put_string(log, path.chars);
+        put(log, "00\n");
+    }
+}
+
+/* Each rule that is asked for decides another number of times; 300 reads and 1,000 writes are denied by default. */
+static void check_figures(unsigned smallest)
+{
+    static const unsigned asked[] = {0, 1, 2, 63, 64, 127, 128, 253, 254, 255};
+    static text table, log;
+    unsigned figures[FIGURES] = {0};
+    make_table(&table, smallest);
+    log.len = 0;
+    for (unsigned k = 0; k < COUNT(asked); k++) {
+        put_requests(&log, k + 1, BURGEE_READ, "u", "", numbered('r', asked[k]));
+        figures[asked[k]] += k + 1;
+        figures[(asked[k] + smallest) % 2 == 0 ? 256 : 257] += k + 1;
+    }
+    put_requests(&log, 11, BURGEE_READ, "u", "home", numbered('r', RULE_WITH_ORIGIN));
+    figures[RULE_WITH_ORIGIN] += 11;
+    figures[(RULE_WITH_ORIGIN + smallest) % 2 == 0 ? 256 : 257] += 11;
+    put_times(&log, 300, "0101630000\n");
+    figures[258] += 300;
+    put_requests(&log, 12, BURGEE_WRITE, "u", "", numbered('r', RULE_TO_WRITE));
+    figures[RULE_TO_WRITE] += 12;
+    figures[(RULE_TO_WRITE + smallest) % 2 == 0 ? 259 : 260] += 12;
+    put_times(&log, 1000, "0201750000\n");
+    figures[261] += 1000;
+
+    uint64_t answer = report_of(&table, TEXT(&log), BURGEE_REPORT_MAX);
+    REPORTED(answer, figures);
+    size_t len = burgee_answer_length(answer);
+    REPORTED(report_of(&table, TEXT(&log), len), figures);
+    UNREPORTED(report_of(&table, TEXT(&log), len - 1), BURGEE_REFUSED_BUFFER, 0);
+}
+
+static void check_log_refusals(void)
+{
+    static const char *const bad[] = {
+        "\n",               /* no digits */
+        "0101750000",       /* no LF */
+        "0101750000 \n",    /* a byte that is no digit */
+        "010175000\n",      /* half a byte */
+        "01017500\n",       /* no path */
+        "010175000000\n",   /* more than a path */
+        "0301750000\n",     /* 20: no mode */
+        "01000000\n",       /* 20: no user */
+        "010175011f00\n",   /* 21 */
+        "01017500010000\n", /* 22: an element without a name */
+    };
+    static const unsigned lines[] = {1, 2, 127, 128, 254, 255, 256, 257, 1000};
+    static text table, log;
+    table.len = 0;
+    put(&table, FIRST_LINES RULE_LINE);
+    for (size_t i = 0; i < COUNT(lines); i++) {
+        for (size_t k = 0; k < COUNT(bad); k++) {
+            log.len = 0;
+            put_times(&log, lines[i] - 1, "0101750000\n");
+            put(&log, bad[k]);
+            UNREPORTED(report_of(&table, TEXT(&log), 0), BURGEE_REFUSED_LOG_LINE, lines[i]);
+        }
+    }
+    table.bytes[table.len - 2] = 'z';
+    UNREPORTED(report_of(&table, TEXT(&log), 0), BURGEE_REFUSED_TABLE_HEX, 4);
+}
+
+/* As many lines as there may be, and one more, which is bad as well. */
+static void check_longest_log(void)
+{
+    static uint8_t lines[11 * 1000001];
+    static text table;
+    unsigned figures[FIGURES] = {0};
+    make_table(&table, 0);
+    for (size_t i = 0; i < sizeof lines; i += 11) {
+        memcpy(lines + i, "0201750000\n", 11);
+    }
+    lines[11 * 1000000] = 'z';
+    figures[261] = 1000000;
+    REPORTED(report_of(&table, lines, 11 * BURGEE_LOG_LINES_MAX, BURGEE_REPORT_MAX), figures);
+    UNREPORTED(report_of(&table, lines, sizeof lines, 0), BURGEE_REFUSED_LOG_LENGTH, 0);
+}
+
+static void check_season_reports(void)
+{
+    static text table, log;
+    unsigned figures[FIGURES] = {0};
+    put(&table, FIRST_LINES RULE_LINE);
+    REPORTED(report_of(&table, SLICE(""), 2 * FIGURES), figures);
+    put(&log, "0101750002016100016200\n");
+    figures[0] = 1;
+    figures[256] = 1;
+    REPORTED(report_of(&table, TEXT(&log), 2 * FIGURES), figures);
+    check_figures(0);
+    check_figures(1);
+    check_log_refusals();
+    check_longest_log();
 }
 
 /* ---- Policies ------------------------------------------------------------------------------------------------------------------------- */
@@ -814,6 +962,7 @@ int main(void)
     check_table_refusals();
     check_group_counts();
     check_table_verdicts();
+    check_season_reports();
     check_policies();
     check_rotation();
     check_probes_of_tables();

@@ -29,12 +29,16 @@ refusals 14 and 15 exchanged: s/CANDIDATE 14u/CANDIDATE 15u/; s/REFUSED_RECORD 1
 refusals 12 and 13 exchanged: s/REFUSED_ON 12u/REFUSED_ON 13u/; s/REFUSED_OFF 13u/REFUSED_OFF 12u/
 refusal 41 is 42: s/HEADERS 41u/HEADERS 42u/
 refusal 9 is 10: s/UNLISTED 9u/UNLISTED 10u/
+refusals 50 and 51 exchanged: s/LOG_LENGTH 50u/LOG_LENGTH 51u/; s/LOG_LINE 51u/LOG_LINE 50u/
 the refusal number cut to five bits: in answer_refusal s/0xFFu/0x1Fu/
 the line cut to a byte: in answer_line s/(uint32_t)(/(uint8_t)(/
 the line cut to two bytes: in answer_line s/(uint32_t)(/(uint16_t)(/
 a line with every number: in answer_line s/ && number <= [A-Z_]*//
 a line where nothing is refused: in answer_line s/number != 0 && //
 no line with 9: in answer_line s/<=/</
+no line with 51: in answer_line s/ || number == [A-Z_]*//
+a line with 50 too: in answer_line s/number == BURGEE_REFUSED_LOG_LINE/number >= BURGEE_REFUSED_LOG_LENGTH/
+a line with the number after 9: in answer_line s/<= [A-Z_]*;/<= BURGEE_REFUSED_STORE;/
 the rule cut to a byte: in answer_rule s/0xFFFFu/0xFFu/
 the rule as it is stored: in answer_rule s/ - 1;/;/
 the first group cut to five bits: in answer_first_group s/0xFFFFu/0x1Fu/
@@ -64,6 +68,8 @@ the kinds exchanged: s/KIND_POLICY 1u/KIND_POLICY 2u/; s/KIND_TABLE 2u/KIND_TABL
 none is 0: s/BURGEE_NONE 0xFFFFFFFFu/BURGEE_NONE 0u/
 a store too short: s/STORE_LEN 65536u/STORE_LEN 65535u/
 a buffer too short: s/PATH_TEXT_MAX 13520u/PATH_TEXT_MAX 13519u/
+a report too short: s/REPORT_MAX 2096u/REPORT_MAX 2095u/
+a log too long: s/LOG_LINES_MAX 1000000u/LOG_LINES_MAX 1000001u/
 another version number: s/BURGEE_VERSION 100/BURGEE_VERSION 101/
 two texts exchanged: s/case BURGEE_REFUSED_ON:/case BURGEE_REFUSED_OFF :/; s/case BURGEE_REFUSED_OFF:/case BURGEE_REFUSED_ON:/
 another word in a text: s/there is no candidate/there is a candidate/
@@ -86,6 +92,8 @@ the RPC probe exchanges identity and path: in record_probe_rpc s/identity, ident
 the RPC probe passes a kind: in record_probe_rpc s/record->kind/BURGEE_KIND_POLICY/
 the path probe is the tree's: in record_probe_path s/return burgee_probe_path/return burgee_probe_tree/
 parameters of a declaration exchanged: /^uint64_t burgee_tree_verdict/,/;/{s/origin/swap/g; s/\<path/origin/g; s/swap/path/g}
+table and log of a report exchanged: /^uint64_t burgee_season_report/,/;/{s/table/swap/g; s/\<log/table/g; s/swap/log/g}
+a report that is not to be stored to: /^uint64_t burgee_season_report/s/uint8_t \*out/const uint8_t *out/
 a store that is not to be stored to: /^uint64_t burgee_upload/s/uint8_t \*store/const uint8_t *store/
 END
 }

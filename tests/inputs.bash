@@ -2,6 +2,22 @@
 V=010276310000000000000001                                       # a table of its version line only
 EK=$V$'\n020167\n0301670175\n04010101016701720001016101016b012a' # the table of examples E to K
 
+# the longest line of a log that is good: every string as long as it may be
+LONGEST=$(
+    printf '0140%s20%s10' "$(printf 75%.0s {1..64})" "$(printf 6f%.0s {1..32})"
+    for _ in {1..16}; do
+        printf '40%s04' "$(printf 61%.0s {1..64})"
+        for last in 61 62 63 64; do
+            printf '40%s%s40%s' "$(printf 6b%.0s {1..63})" $last "$(printf 76%.0s {1..64})"
+        done
+    done
+)
+
+# reported LINES LINE ..: these lines, as sed takes them, of the season report on the table of examples E to K and a log of these lines; or its refusal.
+reported() {
+    burgee report <(echo "$EK") <(printf '%s\n' "${@:2}") 2>&1 | sed -n "$1"
+}
+
 # of ACTION SUBJECT ID PATH ..: a table with user u in group g, and these rules to read.
 of() {
     {

@@ -72,6 +72,12 @@ while read -r name value; do
     agree include/burgee.h "$name" "$value" "$to"
 done < <(sed -n 's/^#define BURGEE_\([A-Z_]*_\(MAX\|LEN\)\) \([0-9]*\)u.*/\1 \3/p' include/burgee.h)
 
+# Lines NAME VALUE, with a prefix while they are computed: GROUPS is a name of the shell's own.
+rust_limits() {
+    sed -n 's/\([0-9]\)_\([0-9]\)/\1\2/g; s/^pub const \([A-Z_]*\): usize = \(.*\);/\1 \2/p' rust/src/limits.rs |
+        sed 's/[A-Z][A-Z_]*/RUST_&/g' | computed | sed 's/^RUST_//'
+}
+
 while read -r name value; do
     case $name in
     LONG_STRING) to=MAX_STRING ;;
@@ -79,18 +85,20 @@ while read -r name value; do
     POLICY_RULES) to=MAX_LIST_RULES ;;
     POLICY_ENTRIES) to=MAX_ENTRIES ;;
     SLOT) to=SLOT_LENGTH ;;
+    REPORT_LINES) to=$name ;;
     *) to=MAX_$name ;;
     esac
-    agree rust/src/limits.rs "$name" "${value//_/}" "$to"
-done < <(sed -n 's/^pub const \([A-Z_]*\): usize = \([0-9_]*\);/\1 \2/p' rust/src/limits.rs)
+    agree rust/src/limits.rs "$name" "$value" "$to"
+done < <(rust_limits)
 
-[ $tried -ge 20 ] || fail "only $tried constants found in include/burgee.h and rust/src/limits.rs"
+expected=$(($(grep -c '^#define BURGEE_[A-Z_]*_\(MAX\|LEN\) ' include/burgee.h) + $(grep -c '^pub const ' rust/src/limits.rs)))
+[ $tried -ge 20 ] && [ $tried -eq $expected ] || fail "$tried constants of include/burgee.h and rust/src/limits.rs were compared, of $expected"
 
 # ---- sentences of documents and printed refusals, a limit's name in braces for its number
 
-# 32768 as 32,768
+# 32768 as 32,768, 1000000 as 1,000,000
 written() {
-    if [ "$1" -lt 1000 ]; then echo "$1"; else printf '%d,%03d\n' $(($1 / 1000)) $(($1 % 1000)); fi
+    if [ "$1" -lt 1000 ]; then echo "$1"; else printf '%s,%03d\n' "$(written $(($1 / 1000)))" $(($1 % 1000)); fi
 }
 
 # FILE: as one line, without what begins a line of a comment
@@ -135,10 +143,17 @@ identity or path over {MAX_REQUEST_STRING} bytes or a byte outside 0x20 to 0x7E
 or over {MAX_HEADER_LINES} bytes together |
 The store is two slots of {SLOT_LENGTH} bytes
 then the store's {STORE_LENGTH}.
+At most {MAX_LOG_LINES} lines, each a request
+a good line has at most {MAX_LOG_LINE} bytes
+{REPORT_LINES} lines, each a decimal number
+a report has at most {MAX_REPORT} bytes
+| 50 | a log of more than {MAX_LOG_LINES} lines
 END
 
 says docs/DAEMON.md <<'END'
 a store of {STORE_LENGTH} bytes for its policy
+`BURGEE_REPORT_MAX`, {MAX_REPORT} bytes
+with at most {MAX_LOG_LINES} lines
 END
 
 says docs/DECISIONS.md <<'END'
@@ -146,6 +161,7 @@ the longest path's {MAX_PATH_BYTES} otherwise
 no path result is longer than {MAX_PATH_TEXT}.
 The buffer has {MAX_HEADER_LINES} bytes
 {MAX_DEPTH} left at the policy
+longer than {MAX_LOG_LINE} bytes
 END
 
 says include/burgee.h <<'END'
@@ -154,6 +170,8 @@ _STORE 11u /* a store shorter than {STORE_LENGTH} bytes
 _POLICY_LENGTH 30u /* more than {MAX_POLICY_TEXT} bytes
 how many groups hold the user, 0 to {MAX_GROUPS}.
 the store is two slots of {SLOT_LENGTH} bytes
+_LOG_LENGTH 50u /* more than {MAX_LOG_LINES} lines
+with {REPORT_LINES} lines, each a decimal number
 END
 
 # the file of programs that has the refusals in words
@@ -168,6 +186,7 @@ it has at most {MAX_SHORT_STRING} bytes that print
 nested to depth {MAX_DEPTH} at most
 40 identity or path over {MAX_REQUEST_STRING} bytes
 over {MAX_HEADER_LINES} bytes together
+50 the log has more than {MAX_LOG_LINES} lines
 END
 
 # ---- every number that is written with a comma, in documents, comments and messages, is a limit, or one of these
@@ -186,6 +205,7 @@ others() {
 26,915          the bytes of a table that was timed
 1,553 1,438     lines of proofs
 65,240          measured: the stack of an upload (rust/tests/stack.rs)
+1,000,001       the first line of a log that is one too many, in the customer's words
 END
 }
 
@@ -240,6 +260,7 @@ f.len() < 4             a rule's kind, action, mode and subject
 (pathText p) ≡ 13520    the same
 (pathBytes p) ≤ 9377    the same
 (pathBytes p) ≡ 9377    the same
+zeros 255               lines of a report, in an example
 END
 }
 

@@ -7,12 +7,13 @@ misused
 misused no-such-command
 misused help no-such-command
 misused help table more
-for command in table show pack policy groups verdict tree explain path rpc rotate; do
+for command in table show pack policy groups verdict tree explain path rpc log rotate; do
     answer help $command
     misused_as $command
     misused_as $command 1 2 3 4 5 6 7 8
 done
 misused_as path $table /
+misused_as log neither $table
 misused_as path write 0
 misused_as path write zz
 for command in verdict tree explain; do
@@ -29,13 +30,15 @@ pack
 verdict
 path read
 path write
+log show
+log pack
 rotate new
 rotate upload
 rotate rpc
 END
 
 # The page of a command by its name, or by --help or -h as its one word; elsewhere that is a name.
-for command in table show pack policy groups verdict tree explain path rpc rotate version; do
+for command in table show pack policy groups verdict tree explain report report-sum path rpc log rotate version; do
     for word in --help -h; do
         answer_is $command $word < <(burgee help $command)
     done
@@ -73,8 +76,9 @@ lost() {
         fail "$2: status $got for an answer that cannot be written"
 }
 : >"$work/written"
+printf 'read [ann] origin [] /\n' >"$work/requests"
 if [ -w /dev/full ]; then
-    for command in "table $table" "table $policy" "show $table" "explain $table ann write x /" "path read /" "help" "help rotate" "version"; do
+    for command in "table $table" "table $policy" "show $table" "log pack $work/requests" "explain $table ann write x /" "path read /" "help" "help rotate" "version"; do
         # shellcheck disable=SC2086
         burgee $command >/dev/full 2>"$work/complaint"
         lost 'No space left on device' "$command"

@@ -56,6 +56,17 @@ lines cli_console/src/quote.rt bytes that do not print are printed: in add_byte 
 readable cli/src/main.rt a long readable text is cut: s/TEXT_ROOM: usize = 131073/TEXT_ROOM: usize = 40000/
 command_line cli/src/main.rt a long table is cut: s/TEXT_ROOM: usize = 131073/TEXT_ROOM: usize = 32768/
 rotation cli_readable/src/lib.rt pack saves nothing: in pack_table s/words == 4/false/
+log cli/src/main.rt log pack shows: in log s/convert(true, 3)/convert(false, 3)/
+log cli_readable/src/logs.rt a log of 1,000,000 lines is refused: in print_lines s/from < text.len()) \&/from <= text.len()) \&/
+log cli_readable/src/logs.rt one line too many is converted: in print_lines s/MAX_LOG_LINES + 1 - number/MAX_LOG_LINES + 2 - number/
+log cli_readable/src/logs.rt bytes after the last LF are passed over: in convert s/if from < to/if false/
+log cli_readable/src/logs.rt a line is numbered within its part: in convert s/\[..from\], number)/[..from], 1)/
+log cli_readable/src/logs.rt a line that is too long is kept: in convert s/longest(packing) <= to - from/false/
+log cli_readable/src/logs.rt a line that is too long is quoted: in quote s/if longest(packing) <= .* {/if false {/
+log cli_readable/src/logs.rt a refused line of a log is told as one of readable text: in refuse s/if packing {/if true {/
+log cli_readable/src/logs.rt one line too many is told as a bad one: in refuse s/limits::MAX_LOG_LINES < number/false/
+log cli_parts/src/lib.rt an unfinished line is lost: in more s/keep(buf, from, to)/keep(buf, to, to)/
+log cli_parts/src/lib.rt an unfinished line is used before it ends: in whole_length s/let mut n = text.len();/let mut n = text.len();\n    return n;/
 command_line cli_answers/src/rows.rt group 63 not listed: in group_lines s/g < n/g + 1 < n/
 command_line cli_explained/src/lib.rt two rules explained at most: in ranking s/while i < m/while (i < m) \& (i < 2)/
 command_line cli_explained/src/lib.rt 255 rules explained at most: in ranking s/while i < m/while (i < m) \& (i < 255)/
@@ -70,7 +81,7 @@ usage cli_show/src/marks.rt a complaint is marked as a refusal: s/b"2"/b"1"/
 usage cli_show/src/marks.rt the end is not marked: s/b"0"/b""/
 usage cli_console/src/refusal.rt a refusal is not marked: in at s/cli_show::marks::refusal();//
 usage cli_console/src/say.rt a file that cannot be read is not marked: in failure s/cli_show::marks::complaint();//
-usage cli_readable/src/lib.rt show and pack tell refusals on standard output: in refuse s/first_to(2/first_to(1/
+usage cli_readable/src/lib.rt show and pack tell refusals on standard output: in tell s/first_to(2/first_to(1/
 rotation cli_rotation/src/steps.rt a rotation in standard input: in run s/cli_console::input::is_standard(3)/false/
 rotation cli_readable/src/lib.rt a table saved as a file named -: in save s/cli_console::input::is_standard(i)/false/
 command_line cli_rotation/src/steps.rt start, finalize, close and show take more words: in takes s/words == 4/3 < words/
@@ -93,6 +104,18 @@ slips cli_table/src/tables.rt verdict says nothing of a user who is not named: i
 slips cli_table/src/tables.rt tree says nothing of a user who is not named: in tree s/cli_names::tell(text, user);//
 slips cli_table/src/explanation.rt explain says nothing of a user who is not named: in all s/cli_names::tell(text, user);//
 slips cli_probe/src/lib.rt the probes say nothing of a user who is not named: in answer_table s/cli_names::tell(text, user);//
+reports cli_season/src/sums.rt the last report is left out: in run s/while i < words/while i + 1 < words/
+reports cli_season/src/sums.rt a report that cannot be read is passed over: in add s/        return false;/        return true;/
+reports cli_season/src/sums.rt a report that is refused is passed over: in add s/    false$/    true/
+reports cli_season/src/sums.rt a longer text is cut to the longest report: s/TEXT_ROOM: usize = MAX_REPORT + 1/TEXT_ROOM: usize = MAX_REPORT/
+reports cli_season/src/sums.rt refusals on standard output: in refuse s/first_to(2/first_to(1/
+reports cli_season/src/sums.rt a refused report is not marked: in refuse s/cli_show::marks::refusal();//
+reports cli_season/src/sums.rt the line of a refused report is not shown: in add s/quote(.*);//
+reports cli_season/src/sums.rt a missing line is shown: in quote s/limits::REPORT_LINES < line/true/
+reports cli_season/src/sums.rt a missing LF is not told: in quote s/line, is_all/line, false/
+reports cli_season/src/sums.rt standard input read twice: in is_read_once s/is_named & is_standard/false/
+reports cli_season/src/refusals.rt reasons exchanged: in reason {s/Outcome::LineCount/Outcome::Swap/; s/Outcome::TooLarge/Outcome::LineCount/; s/Outcome::Swap/Outcome::TooLarge/}
+reports cli/src/main.rt report-sum without a report: in takes s/2 < words/1 < words/
 program bin/burgee a changed source is not noticed: s/ \[ -z "\$later" \] && / /
 program bin/burgee a source that looks old is not noticed: s/-cnewer/-newer/
 program bin/burgee an added or removed source is not noticed: s/sources -print0/sources -type f -print0/
@@ -122,6 +145,7 @@ usage bin/burgee a pipe that nobody reads is told as a fault: s/\[ \$ended -eq 1
 rotation bin/burgee the mode of a file is lost: s/&& umask .*$//
 END
     sed -n 's/^ *b*"*\([0-4][0-9]\) .*\\n.*/command_line cli_refusal\/s*\/* another text for \1: s|^\\( *b*"*\\)\1 |\\1\1 not |/p' crates/cli_refusal/src/lib.rt
+    sed -n 's/^ *b*"*\(5[0-9]\) .*\\n.*/log cli_refusal\/s*\/* another text for \1: s|^\\( *b*"*\\)\1 |\\1\1 not |/p' crates/cli_refusal/src/lib.rt
 }
 
 # What the command line is compiled of, but for its own crates.

@@ -1,7 +1,7 @@
 //! Each public call of the proved library on the same input as the Rust one: the answer
 //! and every lent byte are compared, with the slices lent at each edge of memory.
 
-use crate::boundary::{path, policy, rpc, table, verdict};
+use crate::boundary::{path, policy, rpc, season, table, verdict};
 use crate::lent::{lend, Lent, EDGES};
 use crate::path::{read_path_text, write_path_text};
 use crate::refusal::Refusal;
@@ -11,12 +11,12 @@ use crate::word;
 
 /// Path text to path bytes: the answer and what was filled.
 pub fn path_read(text: &[u8], room: usize) -> (u64, Vec<u8>) {
-    filled(text, room, read_path_text, path::path_read)
+    filled([text], room, |[text], out| read_path_text(text, out), |[text], out| path::path_read(text, out))
 }
 
 /// Path bytes to path text, likewise.
 pub fn path_write(bytes: &[u8], room: usize) -> (u64, Vec<u8>) {
-    filled(bytes, room, write_path_text, path::path_write)
+    filled([bytes], room, |[bytes], out| write_path_text(bytes, out), |[bytes], out| path::path_write(bytes, out))
 }
 
 pub fn table_check(table: &[u8]) -> u64 {
@@ -37,6 +37,16 @@ pub fn path_verdict(table: &[u8], request: &PathRequest) -> u64 {
 pub fn tree_verdict(table: &[u8], request: &PathRequest) -> u64 {
     let answer = word::tree_verdict(crate::verdict::tree_verdict(table, request));
     asked(table, request, answer, verdict::tree_verdict)
+}
+
+/// The season report: the answer and what was filled.
+pub fn season_report(table: &[u8], log: &[u8], room: usize) -> (u64, Vec<u8>) {
+    filled(
+        [table, log],
+        room,
+        |[table, log], out| crate::season::season_report(table, log, out),
+        |[table, log], out| season::season_report(table, log, out),
+    )
 }
 
 pub fn policy_check(policy: &[u8]) -> u64 {
@@ -67,21 +77,20 @@ fn answered<const N: usize>(inputs: [&[u8]; N], answer: u64, proved: impl Fn([&[
     answer
 }
 
-fn filled(
-    input: &[u8],
+/// Compares the answer of the proved call with the one written here, and what each filled of as much room.
+fn filled<const N: usize>(
+    inputs: [&[u8]; N],
     room: usize,
-    written: fn(&[u8], &mut [u8]) -> Result<usize, Refusal>,
-    proved: fn(&[u8], &mut [u8]) -> u64,
+    written: impl Fn([&[u8]; N], &mut [u8]) -> Result<usize, Refusal>,
+    proved: impl Fn([&[u8]; N], &mut [u8]) -> u64,
 ) -> (u64, Vec<u8>) {
     let mut ours = vec![0; room];
-    let answer = word::filled(written(input, &mut ours));
+    let answer = word::filled(written(inputs, &mut ours));
     ours.truncate(if word::refusal_number(answer) == 0 { word::length(answer) } else { 0 });
     for edge in EDGES {
-        let given = Lent::holding(input, edge);
         let mut lent = Lent::new(room, edge);
-        let theirs = proved(given.slice(), lent.slice_mut());
-        assert_eq!(theirs, answer, "answer {theirs:#x}, not {answer:#x}, with {room} bytes on\n{}", shown(&[input]));
-        given.assert_holds(input);
+        let theirs = lend(inputs, edge, |inputs| proved(inputs, lent.slice_mut()));
+        assert_eq!(theirs, answer, "answer {theirs:#x}, not {answer:#x}, with {room} bytes on\n{}", shown(&inputs));
         lent.assert_filled(&ours);
     }
     (answer, ours)

@@ -34,6 +34,11 @@ impl<'b> Taker<'b> {
         self.bytes(usize::from(len))
     }
 
+    /// What is left to take.
+    pub fn rest(&self) -> &'b [u8] {
+        self.rest
+    }
+
     pub fn is_at_end(&self) -> bool {
         self.rest.is_empty()
     }
@@ -100,6 +105,16 @@ impl<'b> Paths<'b> {
             self.elements.push(Element { name, keys: first_key..self.keys.len() as u32 });
         }
         PathAt(0..self.elements.len() as u32)
+    }
+
+    /// No paths, in the same memory, which may then hold those of other bytes.
+    pub fn emptied<'c>(mut self) -> Paths<'c> {
+        self.elements.clear();
+        self.keys.clear();
+        Paths {
+            elements: self.elements.into_iter().map(|_| unreachable!("no elements")).collect(),
+            keys: self.keys.into_iter().map(|_| unreachable!("no keys")).collect(),
+        }
     }
 
     pub fn elements(&self, path: &PathAt) -> &[Element<'b>] {

@@ -42,18 +42,11 @@ impl HexLines {
 
     /// Decodes one line; false where it is no hex line.
     fn push(&mut self, line: &[u8]) -> bool {
-        if line.is_empty() || !line.len().is_multiple_of(2) {
-            return false;
+        let is_hex = decode_line(line, &mut self.bytes);
+        if is_hex {
+            self.ends.push(self.bytes.len());
         }
-        for pair in line.chunks_exact(2) {
-            let (high, low) = (DIGITS[pair[0] as usize], DIGITS[pair[1] as usize]);
-            if high == NO_DIGIT || low == NO_DIGIT {
-                return false;
-            }
-            self.bytes.push(high << 4 | low);
-        }
-        self.ends.push(self.bytes.len());
-        true
+        is_hex
     }
 
     /// The frames, none of them empty.
@@ -66,6 +59,21 @@ impl HexLines {
     pub fn broken_after(&self) -> Option<usize> {
         (!self.whole).then_some(self.ends.len())
     }
+}
+
+/// Decodes one line, given without its LF, behind the bytes; false where it is no hex line.
+pub fn decode_line(line: &[u8], bytes: &mut Vec<u8>) -> bool {
+    if line.is_empty() || !line.len().is_multiple_of(2) {
+        return false;
+    }
+    for pair in line.chunks_exact(2) {
+        let (high, low) = (DIGITS[pair[0] as usize], DIGITS[pair[1] as usize]);
+        if high == NO_DIGIT || low == NO_DIGIT {
+            return false;
+        }
+        bytes.push(high << 4 | low);
+    }
+    true
 }
 
 #[cfg(test)]

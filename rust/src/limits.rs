@@ -1,4 +1,4 @@
-//! The limits of paper 01. `tests/limits.sh` of the repository compares them with those of the proved crates.
+//! The limits of papers 01 and 02. `tests/limits.sh` of the repository compares them with those of the proved crates.
 
 /// "Rule table text: at most 32,768 bytes."
 pub const TABLE_TEXT: usize = 32_768;
@@ -17,6 +17,15 @@ pub const LONG_STRING: usize = 64;
 /// "The longest path bytes are 9,377, the longest path text 13,520."
 pub const PATH_BYTES: usize = 9_377;
 pub const PATH_TEXT: usize = 13_520;
+
+/// 2026-01: "the earliest log line that is number 1,000,001".
+pub const LOG_LINES: usize = 1_000_000;
+/// The longest frame of a good log line: mode, S user, S origin, path.
+pub const LOG_FRAME: usize = 1 + (1 + LONG_STRING) + (1 + SHORT_STRING) + PATH_BYTES;
+/// 2026-01: "The report is 262 decimal lines": one for each rule, and the grid of two modes against three outcomes.
+pub const REPORT_LINES: usize = RULES + 2 * 3;
+/// A report that always fits: each number of as many digits as 1,000,000 has, and its LF.
+pub const REPORT: usize = REPORT_LINES * 8;
 
 /// "Text is at most 16,384 bytes", "objects and lists may nest to depth 16".
 pub const POLICY_TEXT: usize = 16_384;

@@ -6,6 +6,9 @@ use std::time::{Duration, Instant};
 const WARM_UP: Duration = Duration::from_millis(50);
 const SAMPLE: Duration = Duration::from_millis(3);
 const SAMPLES: usize = 25;
+/// Of a call that takes long fewer samples are taken, together about as long as this, but not fewer than that.
+const TOGETHER: Duration = Duration::from_secs(1);
+const FEWEST: usize = 3;
 
 /// Nanoseconds of one call.
 struct Timing {
@@ -28,10 +31,10 @@ impl Table {
     /// ratio is that of the best times, which other work on the machine disturbs least.
     pub fn row(&self, input: &str, mut rattle: impl FnMut() -> u64, mut rust: impl FnMut() -> u64) {
         assert_eq!(rattle(), rust(), "the answers differ on {input}");
-        let rattle_count = calls_in_a_sample(&mut rattle);
-        let rust_count = calls_in_a_sample(&mut rust);
+        let (rattle_count, rattle_samples) = calls_and_samples(&mut rattle);
+        let (rust_count, rust_samples) = calls_and_samples(&mut rust);
         let (mut rattle_times, mut rust_times) = (Vec::new(), Vec::new());
-        for _ in 0..SAMPLES {
+        for _ in 0..rattle_samples.min(rust_samples) {
             rattle_times.push(time(&mut rattle, rattle_count));
             rust_times.push(time(&mut rust, rust_count));
         }
@@ -49,12 +52,12 @@ impl Table {
 
 /// The best time of a call, in nanoseconds.
 pub fn best(mut call: impl FnMut() -> u64) -> f64 {
-    let count = calls_in_a_sample(&mut call);
-    summary((0..SAMPLES).map(|_| time(&mut call, count)).collect()).best
+    let (count, samples) = calls_and_samples(&mut call);
+    summary((0..samples).map(|_| time(&mut call, count)).collect()).best
 }
 
-/// Warms up, and finds how many calls fill a sample.
-fn calls_in_a_sample(call: &mut impl FnMut() -> u64) -> u32 {
+/// Warms up, and finds how many calls fill a sample, and how many samples are to be taken.
+fn calls_and_samples(call: &mut impl FnMut() -> u64) -> (u32, usize) {
     let start = Instant::now();
     let mut calls = 0u32;
     while start.elapsed() < WARM_UP {
@@ -62,7 +65,9 @@ fn calls_in_a_sample(call: &mut impl FnMut() -> u64) -> u32 {
         calls += 1;
     }
     let each = start.elapsed().as_secs_f64() / f64::from(calls);
-    ((SAMPLE.as_secs_f64() / each) as u32).max(1)
+    let count = ((SAMPLE.as_secs_f64() / each) as u32).max(1);
+    let samples = (TOGETHER.as_secs_f64() / (each * f64::from(count))) as usize;
+    (count, samples.clamp(FEWEST, SAMPLES))
 }
 
 fn time(call: &mut impl FnMut() -> u64, calls: u32) -> f64 {

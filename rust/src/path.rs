@@ -6,12 +6,12 @@
 use crate::charset::{is_name_byte, is_printable};
 use crate::frame::Taker;
 use crate::limits;
-use crate::refusal::{Refusal, PATH, PATH_BUFFER};
+use crate::refusal::{Refusal, BUFFER, PATH};
 
 /// Reads path text into the start of `out` as path bytes, and gives their length.
 pub fn read_path_text(text: &[u8], out: &mut [u8]) -> Result<usize, Refusal> {
     let len = measure_bytes_of(text).ok_or(PATH)?;
-    let out = out.get_mut(..len).ok_or(PATH_BUFFER)?;
+    let out = out.get_mut(..len).ok_or(BUFFER)?;
     fill_bytes(text, out);
     Ok(len)
 }
@@ -19,7 +19,7 @@ pub fn read_path_text(text: &[u8], out: &mut [u8]) -> Result<usize, Refusal> {
 /// Writes path bytes into the start of `out` as path text, and gives its length.
 pub fn write_path_text(bytes: &[u8], out: &mut [u8]) -> Result<usize, Refusal> {
     let len = measure_text_of(bytes).ok_or(PATH)?;
-    let out = out.get_mut(..len).ok_or(PATH_BUFFER)?;
+    let out = out.get_mut(..len).ok_or(BUFFER)?;
     fill_text(bytes, out);
     Ok(len)
 }
@@ -36,6 +36,11 @@ pub fn path_text(bytes: &[u8]) -> Result<Vec<u8>, Refusal> {
     let mut text = vec![0; measure_text_of(bytes).ok_or(PATH)?];
     fill_text(bytes, &mut text);
     Ok(text)
+}
+
+/// Whether these are the bytes of exactly one good path.
+pub fn is_path_bytes(bytes: &[u8]) -> bool {
+    measure_text_of(bytes).is_some()
 }
 
 /// "other strings 64; only origin may be empty".
@@ -421,9 +426,9 @@ mod tests {
     #[test]
     fn nothing_is_stored_unless_all_of_it_fits() {
         let mut out = *b"######";
-        assert_eq!(read_path_text(b"/a", &mut out[..3]), Err(PATH_BUFFER));
+        assert_eq!(read_path_text(b"/a", &mut out[..3]), Err(BUFFER));
         assert_eq!(read_path_text(b"/a/", &mut out[..0]), Err(PATH));
-        assert_eq!(write_path_text(b"\x01\x01a\x00", &mut out[..1]), Err(PATH_BUFFER));
+        assert_eq!(write_path_text(b"\x01\x01a\x00", &mut out[..1]), Err(BUFFER));
         assert_eq!(&out, b"######");
         assert_eq!(read_path_text(b"/a", &mut out), Ok(4));
         assert_eq!(&out, b"\x01\x01a\x00##");

@@ -1,9 +1,9 @@
-//! Refusals: a number of paper 01, and a line where the number carries one.
+//! Refusals: a number of papers 01 and 02, and a line where the number carries one.
 
 #[derive(Clone, Copy, PartialEq, Eq, Debug)]
 pub struct Refusal {
     pub number: u8,
-    /// The line for 1 to 9, counted from 1 (0 for number 1); else 0.
+    /// The line for 1 to 9 and 51, counted from 1 (0 for number 1); else 0.
     pub line: u32,
 }
 
@@ -16,8 +16,8 @@ impl Refusal {
 
 /// 22: "path text, or path bytes given to the writer".
 pub const PATH: Refusal = Refusal::plain(22);
-/// 23: "the path result doesn't fit the lent buffer".
-pub const PATH_BUFFER: Refusal = Refusal::plain(23);
+/// 23: a result, a path's or a report's, "doesn't fit the lent buffer".
+pub const BUFFER: Refusal = Refusal::plain(23);
 
 /// The numbers of a table line, 2 to 9.
 pub mod line {
@@ -72,6 +72,11 @@ pub mod policy {
 pub const IDENTITY_OR_PATH: Refusal = Refusal::plain(40);
 /// 41: "header lines ill-formed, a value byte outside that range, or over 8,192 bytes".
 pub const HEADERS: Refusal = Refusal::plain(41);
+
+/// 50: "the earliest log line that is number 1,000,001".
+pub const LOG_LONG: Refusal = Refusal::plain(50);
+/// 51: a log line that "isn't so framed or gets 20 to 22"; it carries its line.
+pub const LOG_LINE: u8 = 51;
 
 /// The numbers of the calls on the record, 11 to 16.
 pub mod rotation {

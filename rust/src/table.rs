@@ -112,6 +112,11 @@ impl<'t> Table<'t> {
         self.users.get(user).copied().unwrap_or_default()
     }
 
+    /// The users who are members of a group.
+    pub fn members(&self) -> impl Iterator<Item = &'t [u8]> + use<'_, 't> {
+        self.users.keys().copied()
+    }
+
     /// Whether a rule for this subject is about the user, whose memberships are given.
     pub fn is_about(subject: Subject, user: &[u8], memberships: Memberships) -> bool {
         match subject {

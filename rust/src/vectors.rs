@@ -1,4 +1,4 @@
-//! Tables and policies that the papers show, as text.
+//! Tables, policies and a log that the papers show, as text.
 
 /// A table with its 01 line only: "accepted and denies all".
 pub const VERSION_ONLY: &str = "010276310000000000000001\n";
@@ -10,6 +10,9 @@ pub const EXAMPLES_E_TO_K: &str = "\
 0301670175
 04010101016701720001016101016b012a
 ";
+
+/// The log line of 2026-01: `u` reads `/a/b`.
+pub const SEASON_LOG: &str = "0101750002016100016200\n";
 
 /// Examples A to D: stevie is in admin and in engineers; the rules are those that each
 /// example names, in its order.

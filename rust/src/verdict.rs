@@ -39,7 +39,8 @@ fn judge_path(table: &Table, asked: &Asked) -> PathVerdict {
     verdict(best)
 }
 
-fn verdict(best: Option<Numbered>) -> PathVerdict {
+/// The verdict by the best of the rules that match, if one does.
+pub fn verdict(best: Option<Numbered>) -> PathVerdict {
     match best {
         Some(best) => PathVerdict { action: best.rule.action, rule: Some(best.number) },
         None => PathVerdict { action: Action::Deny, rule: None },
@@ -76,26 +77,34 @@ fn judge_tree<'a>(table: &'a Table<'a>, asked: &'a Asked<'a>) -> TreeVerdict {
 
 /// A rule with its number.
 #[derive(Clone, Copy)]
-struct Numbered<'a> {
-    number: RuleNumber,
-    rule: &'a Rule<'a>,
+pub struct Numbered<'a> {
+    pub number: RuleNumber,
+    pub rule: &'a Rule<'a>,
+}
+
+/// The rules of a table, in its order.
+pub fn numbered<'a>(table: &'a Table<'a>) -> impl Iterator<Item = Numbered<'a>> {
+    table.rules.iter().enumerate().map(|(number, rule)| Numbered { number: RuleNumber(number as u8), rule })
 }
 
 /// The rules of the request's mode and origin whose "subject is the user or a group
 /// holding the user".
 fn rules_about<'a>(table: &'a Table<'a>, asked: &'a Asked<'a>) -> impl Iterator<Item = Numbered<'a>> {
     let memberships = table.memberships(asked.user);
-    let numbered = table.rules.iter().enumerate();
-    numbered.map(|(number, rule)| Numbered { number: RuleNumber(number as u8), rule }).filter(move |numbered| {
-        let rule = numbered.rule;
-        rule.mode == asked.mode && rule.origin == asked.origin && Table::is_about(rule.subject, asked.user, memberships)
+    numbered(table).filter(move |numbered| {
+        is_asked(numbered.rule, asked) && Table::is_about(numbered.rule.subject, asked.user, memberships)
     })
+}
+
+/// Whether the rule has the request's mode and origin.
+pub fn is_asked(rule: &Rule, asked: &Asked) -> bool {
+    rule.mode == asked.mode && rule.origin == asked.origin
 }
 
 /// "Best of the matching rules: more elements; then more definite keys, counted over
 /// the whole rule path; then user over group; then deny over permit; then the smaller
 /// id in byte order". The best rule has the greatest rank.
-fn rank<'a>(table: &Table<'a>, rule: &Rule<'a>) -> (usize, usize, bool, bool, Reverse<&'a [u8]>) {
+pub fn rank<'a>(table: &Table<'a>, rule: &Rule<'a>) -> (usize, usize, bool, bool, Reverse<&'a [u8]>) {
     let elements = table.paths.elements(&rule.path);
     let definite = elements.iter().map(|e| table.paths.definite_keys(e).count()).sum();
     let is_user = matches!(rule.subject, Subject::User(_));
@@ -105,7 +114,7 @@ fn rank<'a>(table: &Table<'a>, rule: &Rule<'a>) -> (usize, usize, bool, bool, Re
 /// Whether the rule's path matches the path at a place: "it has no more elements than
 /// the request, the names agree one by one, and each definite key of the rule is given
 /// in that element of the request with that value".
-fn matches(table: &Table, rule: &Rule, place: (&Paths, &PathAt)) -> bool {
+pub fn matches(table: &Table, rule: &Rule, place: (&Paths, &PathAt)) -> bool {
     let (rules, asked) = (table.paths.elements(&rule.path), place.0.elements(place.1));
     rules.len() <= asked.len()
         && rules.iter().zip(asked).all(|(rule, asked)| {

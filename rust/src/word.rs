@@ -16,7 +16,7 @@ pub fn refusal_number(word: u64) -> u8 {
     word as u8
 }
 
-/// The path calls: bits 8-39 are the length filled.
+/// The calls that fill a buffer: bits 8-39 are the length filled.
 pub fn filled(answer: Result<usize, Refusal>) -> u64 {
     match answer {
         Ok(length) => (length as u64) << 8,

@@ -13,16 +13,17 @@ use std::time::{Duration, Instant};
 use burgee_rust::boundary::declared_calls;
 use burgee_rust::compare;
 use burgee_rust::generate::any::{
-    any, any_mode, any_room, HEADERS, IDENTITY, ORIGIN, PATH_BYTES, PATH_TEXT, POLICY, RPC_PATH, TABLE, USER,
+    any, any_mode, any_room, HEADERS, IDENTITY, LOG, ORIGIN, PATH_BYTES, PATH_TEXT, POLICY, RPC_PATH, TABLE, USER,
 };
 use burgee_rust::generate::policy::Rpc;
 use burgee_rust::generate::rotation::{some_record, spoil_record, Ask, Call};
 use burgee_rust::hosts::Hosts;
 use burgee_rust::lent::EDGES;
-use burgee_rust::limits::SLOT;
+use burgee_rust::limits::{LOG_LINES, REPORT, SLOT};
 use burgee_rust::path::{path_bytes, path_text};
 use burgee_rust::random::Random;
 use burgee_rust::request::PathRequest;
+use burgee_rust::season;
 use burgee_rust::tally::Tally;
 
 /// The kinds of record, for a step, for a probe of a policy and for one of a table.
@@ -33,6 +34,9 @@ const MOSTLY_TABLE: &[u32] = &[2, 2, 2, 2, 2, 1];
 /// How often each call is made in the short run.
 const ROUNDS: usize = 6_000;
 
+/// The shortest good line of a log.
+const SHORT_LINE: &[u8] = b"0101750000\n";
+
 struct Target {
     name: &'static str,
     call: fn(&mut Random) -> u64,
@@ -40,7 +44,7 @@ struct Target {
     refusals: &'static [RangeInclusive<u8>],
 }
 
-const TARGETS: [Target; 15] = [
+const TARGETS: [Target; 16] = [
     Target { name: "path_read", call: path_read, refusals: &[22..=23] },
     Target { name: "path_write", call: path_write, refusals: &[22..=23] },
     Target { name: "table_check", call: |random| compare::table_check(&any(random, &TABLE)), refusals: &[1..=9] },
@@ -51,6 +55,7 @@ const TARGETS: [Target; 15] = [
     },
     Target { name: "path_verdict", call: |random| verdict(random, compare::path_verdict), refusals: &[1..=9, 20..=22] },
     Target { name: "tree_verdict", call: |random| verdict(random, compare::tree_verdict), refusals: &[1..=9, 20..=22] },
+    Target { name: "season_report", call: season_report, refusals: &[1..=9, 23..=23, 50..=51] },
     Target { name: "policy_check", call: |random| compare::policy_check(&any(random, &POLICY)), refusals: &[30..=38] },
     Target { name: "rpc_verdict", call: rpc_verdict, refusals: &[30..=38, 40..=41] },
     Target {
@@ -117,6 +122,15 @@ fn any_rpc(random: &mut Random) -> Rpc {
 
 fn verdict(random: &mut Random, compare: fn(&[u8], &PathRequest) -> u64) -> u64 {
     compare(&any(random, &TABLE), &any_ask(random).request())
+}
+
+/// Now and then with a line too many, each of them good.
+fn season_report(random: &mut Random) -> u64 {
+    let table = any(random, &TABLE);
+    let log = if random.one_in(1_500) { SHORT_LINE.repeat(LOG_LINES + 1) } else { any(random, &LOG) };
+    let mut out = [0; REPORT];
+    let report = season::season_report(&table, &log, &mut out);
+    compare::season_report(&table, &log, any_room(random, report.unwrap_or(REPORT))).0
 }
 
 fn rpc_verdict(random: &mut Random) -> u64 {

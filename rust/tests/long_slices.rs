@@ -1,12 +1,13 @@
 //! Slices of more than 4 GB: a call that kept only 32 bits of a length would take the good
 //! bytes at their start for all of them. No memory stands behind the rest, which reads as 0.
 
-use burgee_rust::boundary::{path, policy, rotation, rpc, table, verdict};
+use burgee_rust::boundary::{path, policy, rotation, rpc, season, table, verdict};
+use burgee_rust::limits;
 use burgee_rust::pages;
 use burgee_rust::request::PathRequest;
 use burgee_rust::rotation::Record;
 use burgee_rust::rpc::RpcRequest;
-use burgee_rust::vectors::{EXAMPLES_E_TO_K, POLICY_OF_NOBODY};
+use burgee_rust::vectors::{EXAMPLES_E_TO_K, POLICY_OF_NOBODY, SEASON_LOG};
 use burgee_rust::word;
 
 fn long(bytes: &[u8]) -> &'static mut [u8] {
@@ -38,6 +39,25 @@ fn tables() {
         assert_eq!(call(table, &PathRequest { origin: long(b""), ..good }), 21);
         assert_eq!(call(table, &PathRequest { path: long(b"/a"), ..good }), 22);
     }
+}
+
+/// The zeros behind a log are its next line, which is bad at its first byte or where it gets too long: a call that
+/// looked for the end of the line first would read all 4 GB.
+#[test]
+fn logs() {
+    let (table, log, mut out) = (EXAMPLES_E_TO_K.as_bytes(), SEASON_LOG.as_bytes(), [0; limits::REPORT]);
+    let bad = |line: u64| 51 | line << 8;
+    let report = season::season_report(table, log, &mut out);
+    assert_eq!(word::refusal_number(report), 0);
+    assert_eq!(season::season_report(long(table), log, &mut out), 1);
+    assert_eq!(season::season_report(table, long(b""), &mut out), bad(1));
+    assert_eq!(season::season_report(table, long(log), &mut out), bad(2));
+    assert_eq!(season::season_report(table, long(&log.repeat(2_000)), &mut out), bad(2_001));
+    assert_eq!(season::season_report(table, long(&log[..log.len() - 1]), &mut out), bad(1));
+    assert_eq!(season::season_report(table, long(&[b'0'; 60_000]), &mut out), bad(1));
+    let room = long(b"");
+    assert_eq!(season::season_report(table, log, room), report);
+    assert_eq!(room[..word::length(report)], out[..word::length(report)]);
 }
 
 #[test]

@@ -4,9 +4,9 @@
 
 use std::fmt;
 
-use burgee_rust::boundary::{declared_calls, path, policy, rotation as proved, rpc, table, verdict};
+use burgee_rust::boundary::{declared_calls, path, policy, rotation as proved, rpc, season, table, verdict};
 use burgee_rust::generate::any::{
-    any, any_mode, any_room, Kind, HEADERS, IDENTITY, ORIGIN, PATH_BYTES, PATH_TEXT, POLICY, RPC_PATH, TABLE, USER,
+    any, any_mode, any_room, Kind, HEADERS, IDENTITY, LOG, ORIGIN, PATH_BYTES, PATH_TEXT, POLICY, RPC_PATH, TABLE, USER,
 };
 use burgee_rust::generate::rotation::spoil_record;
 use burgee_rust::hosts::{bytes_of, record_in};
@@ -18,18 +18,21 @@ use burgee_rust::random::Random;
 use burgee_rust::request::PathRequest;
 use burgee_rust::rotation::{self, Record};
 use burgee_rust::rpc::{rpc_verdict, RpcRequest};
+use burgee_rust::season::season_report;
 use burgee_rust::table::{check_table, group_count};
 use burgee_rust::verdict::{path_verdict, tree_verdict};
 use burgee_rust::word;
 
 const CALLS: usize = 1_000_000;
-const KINDS_OF_CALL: usize = 15;
+const KINDS_OF_CALL: usize = 16;
 
 /// What is lent for reading: a buffer for each.
-const INPUTS: [Kind; 9] = [TABLE, USER, ORIGIN, PATH_TEXT, PATH_BYTES, POLICY, IDENTITY, RPC_PATH, HEADERS];
-/// Where the path text and the path bytes stand among them.
+const INPUTS: [Kind; 10] = [TABLE, USER, ORIGIN, PATH_TEXT, PATH_BYTES, LOG, POLICY, IDENTITY, RPC_PATH, HEADERS];
+/// Where those stand among them of which a buffer is filled.
+const TABLE_TEXT: usize = 0;
 const TEXT: usize = 3;
 const BYTES: usize = 4;
+const LOG_TEXT: usize = 5;
 
 /// A buffer, what it may hold, and what it holds.
 struct Input {
@@ -119,18 +122,22 @@ impl Buffers {
         }
     }
 
-    /// Room for what is read or for what is written, or not.
+    /// Room for what is read, written or reported, or not.
     fn change_room(&mut self, random: &mut Random) {
-        let (text, bytes) = (&self.inputs[TEXT].held, &self.inputs[BYTES].held);
-        let result = if random.one_in(2) { path_bytes(text) } else { path_text(bytes) };
-        self.room = any_room(random, result.map_or(text.len(), |result| result.len()));
+        let [table, text, bytes, log] = [TABLE_TEXT, TEXT, BYTES, LOG_TEXT].map(|at| &self.inputs[at].held);
+        let result = match random.below(3) {
+            0 => path_bytes(text).map(|bytes| bytes.len()),
+            1 => path_text(bytes).map(|text| text.len()),
+            _ => season_report(table, log, &mut [0; limits::REPORT]),
+        };
+        self.room = any_room(random, result.unwrap_or(text.len()));
         self.room = self.room.min(self.ours.output.len());
         self.theirs.output.hold(&self.ours.output[..self.room]);
     }
 
     /// One call, of both; gives the proved answer and the Rust one.
     fn call(&mut self, number: usize) -> (u64, u64) {
-        let [table, user, origin, text, bytes, policy, identity, rpc_path, headers] =
+        let [table, user, origin, text, bytes, log, policy, identity, rpc_path, headers] =
             self.inputs.each_ref().map(|input| input.lent.slice());
         let request = PathRequest { user, mode: self.mode, origin, path: text };
         let rpc = RpcRequest { identity, path: rpc_path, headers };
@@ -162,10 +169,11 @@ impl Buffers {
                 proved::probe_tree(record, store, &request),
                 word::tree_verdict(rotation::probe_tree(our_record, our_store, &request)),
             ),
-            _ => (
+            14 => (
                 proved::probe_rpc(record, store, &rpc),
                 word::rpc_verdict(rotation::probe_rpc(our_record, our_store, &rpc)),
             ),
+            _ => (season::season_report(table, log, outputs.0), word::filled(season_report(table, log, outputs.1))),
         }
     }
 

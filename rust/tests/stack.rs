@@ -4,6 +4,7 @@
 use std::collections::BTreeMap;
 
 use burgee_rust::boundary::declared_calls;
+use burgee_rust::generate::log::LogLine;
 use burgee_rust::generate::path::longest_path;
 use burgee_rust::generate::policy::{
     list_of_objects, many_header_lines, nested_object, object_of_members, policy_of_headers, policy_of_length, Names,
@@ -11,7 +12,9 @@ use burgee_rust::generate::policy::{
 use burgee_rust::generate::table::{
     table_of_colliding_groups, table_of_colliding_ids, table_of_colliding_members, table_of_length, table_of_members,
 };
+use burgee_rust::generate::worst_log::worst_logs;
 use burgee_rust::generate::worst_tree::worst_trees;
+use burgee_rust::generate::yard::{log_of_strangers, yard_log, yard_table};
 use burgee_rust::limits;
 use burgee_rust::painted_stack::{Function, PaintedStack};
 use burgee_rust::random::Random;
@@ -30,7 +33,7 @@ macro_rules! exported {
 exported! {
     burgee_path_read burgee_path_write burgee_table_check burgee_group_count burgee_path_verdict burgee_tree_verdict
     burgee_policy_check burgee_rpc_verdict burgee_start burgee_upload burgee_finalize burgee_close burgee_probe_path
-    burgee_probe_tree burgee_probe_rpc
+    burgee_probe_tree burgee_probe_rpc burgee_season_report
 }
 
 /// What is to be left for a thread and its functions, in KB, where a call takes its whole budget.
@@ -135,6 +138,23 @@ fn on_tables(to: &mut Peaks, store: &mut [u8]) {
     }
 }
 
+/// A log with the longest line, with lines that are to be compared with every rule, and with those of a yard; then with
+/// one more that is bad.
+fn on_logs(to: &mut Peaks) {
+    let (mut random, mut out) = (Random::new(0x82), vec![0; limits::REPORT]);
+    let mut log: Vec<u8> = worst_logs().into_iter().flat_map(|worst| worst.line).collect();
+    log.extend(LogLine::read("u", longest_path()).text());
+    log.extend(yard_log(&mut random, 100, 5));
+    log.extend(log_of_strangers(&mut random, 10));
+    for table in tables().into_iter().chain([yard_table()]) {
+        let answer = to.call("burgee_season_report", &[&slice(&table), &slice(&log), &buffer(&mut out)]);
+        assert_eq!(refusal_number(answer), 0);
+        let log = [&log[..], b"\n"].concat();
+        let answer = to.call("burgee_season_report", &[&slice(&table), &slice(&log), &buffer(&mut out)]);
+        assert_eq!(refusal_number(answer), 51);
+    }
+}
+
 fn on_policies(to: &mut Peaks, store: &mut [u8]) {
     let headers = many_header_lines();
     for policy in policies() {
@@ -190,6 +210,7 @@ fn the_stack_of_each_call() {
     let mut store = vec![0; 2 * limits::SLOT];
     on_paths(&mut to);
     on_tables(&mut to, &mut store);
+    on_logs(&mut to);
     on_policies(&mut to, &mut store);
 
     let mut declared: Vec<String> = declared_calls().iter().map(|name| format!("burgee_{name}")).collect();

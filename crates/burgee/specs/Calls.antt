@@ -9,6 +9,7 @@ use Rattle.path_read.specs.Calls.{bytesFor, textFor, answer, lent}
 use Rattle.table.specs.Text.{check}
 use Rattle.table.specs.Group.{groupCount}
 use Rattle.verdict_request.specs.Calls.{pathVerdict, treeVerdict}
+use Rattle.season.specs.Calls.{seasonAnswer, seasonLent}
 use Rattle.policy.specs.Policy.{policyRefusal}
 use Rattle.policy_check.specs.Answer.{checkOf}
 use Rattle.rpc.specs.Call.{rpcVerdict}
@@ -18,7 +19,7 @@ use Rattle.rotation.specs.declared.Stepped.{Stepped}
 use Rattle.rotation_upload.specs.Offered.{offeredCheck}
 use Rattle.rotation_probe.specs.Probe.{probePath, probeTree}
 use Rattle.rotation_probe.specs.Rpc.{probeRpc}
-use Rattle.burgee.specs.Word.{filledWord, checkedWord, countedWord, pathWord, treeWord, policyWord, rpcWord, rpcProbeWord}
+use Rattle.burgee.specs.Word.{filledWord, checkedWord, countedWord, pathWord, treeWord, reportedWord, policyWord, rpcWord, rpcProbeWord}
 
 -- every public call, with what it is given
 pub data PublicCall : Type 0 where
@@ -28,6 +29,7 @@ pub data PublicCall : Type 0 where
   GroupCount : (table user : Str) → PublicCall
   PathVerdict : (table user : Str) (mode : ℕ) (origin path : Str) → PublicCall
   TreeVerdict : (table user : Str) (mode : ℕ) (origin path : Str) → PublicCall
+  SeasonReport : (table log out : Str) → PublicCall
   PolicyCheck : (policy : Str) → PublicCall
   RpcVerdict : (policy identity path headers : Str) → PublicCall
   Start : (rec : Record) (store : Str) → PublicCall
@@ -81,6 +83,8 @@ outcome (TableCheck table) = reading (checkedWord (check table))
 outcome (GroupCount table user) = reading (countedWord (groupCount table user))
 outcome (PathVerdict table user mode origin path) = reading (pathWord (pathVerdict table user mode origin path))
 outcome (TreeVerdict table user mode origin path) = reading (treeWord (treeVerdict table user mode origin path))
+outcome (SeasonReport table log out) =
+    record { word = reportedWord (seasonAnswer table log out); before = buffer out; after = buffer (seasonLent table log out) }
 outcome (PolicyCheck policy) = reading (policyWord (checkOf (policyRefusal policy)))
 outcome (RpcVerdict policy identity path headers) = reading (rpcWord (rpcVerdict policy identity path headers))
 outcome (Start rec store) = stepping rec store (start rec (length store)) store

@@ -10,6 +10,8 @@ use Rattle.verdict_request.specs.declared.PathAnswer.{PathAnswer}
 use Rattle.verdict_request.specs.declared.PathAnswer.the-variants as path
 use Rattle.verdict_request.specs.declared.TreeAnswer.{TreeAnswer}
 use Rattle.verdict_request.specs.declared.TreeAnswer.the-variants as trees
+use Rattle.season.specs.declared.Reported.{Reported}
+use Rattle.season.specs.declared.Reported.the-variants as reported
 use Rattle.policy_check.specs.declared.check.Check.{Check}
 use Rattle.policy_check.specs.declared.check.Check.the-variants as policy
 use Rattle.rpc.specs.declared.verdict.Verdict.{Verdict}
@@ -37,6 +39,11 @@ refusalWord number line = number + upper line
 unfoldable pub filledWord : Filled → ℕ
 filledWord (filled.Length n) = upper n
 filledWord (filled.Refused number) = refusalWord number 0
+
+-- a season report: bits 8 to 39 its length
+unfoldable pub reportedWord : Reported → ℕ
+reportedWord (reported.Length n) = upper n
+reportedWord (reported.Refused number line) = refusalWord number line
 
 -- a table check, and each call on the record
 unfoldable pub checkedWord : Checked → ℕ

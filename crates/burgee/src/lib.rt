@@ -5,7 +5,7 @@ mod records;
 mod word;
 
 ghost use mathlib.Core.Path.{_≡_};
-ghost use Rattle.burgee.specs.Calls.{PathRead, PathWrite, TableCheck, GroupCount, PathVerdict, TreeVerdict, buffer, word, after};
+ghost use Rattle.burgee.specs.Calls.{PathRead, PathWrite, TableCheck, GroupCount, PathVerdict, TreeVerdict, SeasonReport, buffer, word, after};
 
 // Path text to path bytes.
 #[no_mangle]
@@ -67,4 +67,13 @@ pub extern "C" fn burgee_tree_verdict(
     ensures { λ r. ⌜ r ≡ word (TreeVerdict (now (table .entry)) (now (user .entry)) mode (now (origin .entry)) (now (path .entry))) ⌝ }
 {
     word::of_tree(verdict_call::tree_verdict(table, user, mode, origin, path))
+}
+
+// How often each rule decided over a log of requests, and a grid of modes against outcomes: the report's lines.
+#[no_mangle]
+pub extern "C" fn burgee_season_report(table: &[u8], log: &[u8], out: &mut [u8]) -> u64
+    ensures { λ r. ⌜ (r ≡ word (SeasonReport (now (table .entry)) (now (log .entry)) (now (out .entry))))
+        × (buffer (now (out .exit)) ≡ after (SeasonReport (now (table .entry)) (now (log .entry)) (now (out .entry)))) ⌝ }
+{
+    word::of_reported(season_call::season_report(table, log, out))
 }

@@ -1,11 +1,13 @@
 // Answers as words: bits 0 to 7 the refusal number; from bit 8 on the line or the length; or from bit 8 on the action or the count, and from bit 16 on the
 // number of the rule or the group, plus 1.
 ghost use mathlib.Core.Path.{_≡_};
-ghost use Rattle.burgee.specs.Word.{refusalWord, filledWord, checkedWord, countedWord, pathWord, treeWord, policyWord, rpcWord, rpcProbeWord};
+ghost use Rattle.burgee.specs.Word.{refusalWord, filledWord, checkedWord, countedWord, pathWord, treeWord, reportedWord};
+ghost use Rattle.burgee.specs.Word.{policyWord, rpcWord, rpcProbeWord};
 use path_read::Filled;
 use policy_check::check::Check;
 use rotation_probe::rpcs::RpcAnswer;
 use rpc::verdict::Verdict;
+use season::Reported;
 use table::Checked;
 use table::Counted;
 use verdict_request::PathAnswer;
@@ -67,6 +69,15 @@ pub fn of_tree(a: TreeAnswer) -> u64
         TreeAnswer::None => 0,
         TreeAnswer::Mixed(rule) => 512 + (rule.0 as u64 + 1) * 65536,
         TreeAnswer::Refused { number, line } => of_refusal(number, line),
+    }
+}
+
+pub fn of_reported(a: Reported) -> u64
+    ensures { λ r. ⌜ r ≡ reportedWord a ⌝ }
+{
+    match a {
+        Reported::Length(n) => (n % 4294967296) as u64 * 256,
+        Reported::Refused { number, line } => of_refusal(number, line),
     }
 }
 

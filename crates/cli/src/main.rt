@@ -14,7 +14,10 @@ enum Command {
     Verdict,
     Tree,
     Explain,
+    Report,
+    ReportSum,
     Rpc,
+    Log,
     Rotate,
     Version,
     Help,
@@ -24,7 +27,7 @@ enum Command {
 // The command of that name.
 fn named(word: &[u8]) -> Command {
     let place = cli_console::lines::place(
-        b"table\nshow\npack\npolicy\ngroups\npath\nverdict\ntree\nexplain\nrpc\nrotate\nversion\n--version\nhelp\n--help\n-h\n",
+        b"table\nshow\npack\npolicy\ngroups\npath\nverdict\ntree\nexplain\nreport\nreport-sum\nrpc\nlog\nrotate\nversion\n--version\nhelp\n--help\n-h\n",
         word,
     );
     match place {
@@ -38,9 +41,12 @@ fn named(word: &[u8]) -> Command {
         7 => Command::Verdict,
         8 => Command::Tree,
         9 => Command::Explain,
-        10 => Command::Rpc,
-        11 => Command::Rotate,
-        12 | 13 => Command::Version,
+        10 => Command::Report,
+        11 => Command::ReportSum,
+        12 => Command::Rpc,
+        13 => Command::Log,
+        14 => Command::Rotate,
+        15 | 16 => Command::Version,
         _ => Command::Help,
     }
 }
@@ -104,6 +110,20 @@ fn groups() {
     }
 }
 
+// burgee report TABLE LOG
+fn report() {
+    if input::is_standard(2) & input::is_standard(3) {
+        cli_console::say::usage(b"standard input can be read once only", b"", b"report");
+        return;
+    }
+    let mut text = io::large_buffer();
+    let got = input::file(2, &mut text);
+    let n = got.count;
+    if got.is_good {
+        cli_report::report(&text[..n], 3);
+    }
+}
+
 fn judge(command: Command, text: &mut [u8], user: &[u8], mode: u32, origin: &[u8], path: &[u8]) {
     match command {
         Command::Verdict => tables::verdict(text, user, mode, origin, path),
@@ -153,6 +173,19 @@ fn path() {
     }
 }
 
+// burgee log show FILE
+// burgee log pack FILE
+fn log() {
+    let mut step = io::buffer();
+    let s = input::word(2, &mut step);
+    let direction = cli_console::lines::place(b"show\npack\n", &step[..s]);
+    match direction {
+        1 => cli_readable::logs::convert(false, 3),
+        2 => cli_readable::logs::convert(true, 3),
+        _ => cli_console::say::usage(b"neither show nor pack: ", &step[..s], b"log"),
+    }
+}
+
 // burgee rotate STEP FILE ..
 fn rotate(words: usize) {
     let mut step = io::buffer();
@@ -169,15 +202,15 @@ fn explain_use() {
     }
 }
 
-// Whether a command takes that many words; how many a rotation takes, its step says.
+// Whether a command takes that many words; how many a rotation takes, its step says, and a sum takes any number of reports.
 fn takes(command: Command, words: usize) -> bool {
     match command {
         Command::Table | Command::Show | Command::Policy => words == 3,
         Command::Pack => (words == 3) | (words == 4),
-        Command::Groups | Command::Path => words == 4,
+        Command::Groups | Command::Path | Command::Log | Command::Report => words == 4,
         Command::Verdict | Command::Tree | Command::Explain => words == 7,
         Command::Rpc => (words == 5) | (words == 6),
-        Command::Rotate => 2 < words,
+        Command::ReportSum | Command::Rotate => 2 < words,
         Command::Version => words == 2,
         _ => words < 4,
     }
@@ -191,7 +224,10 @@ fn run(command: Command, name: &[u8], words: usize) {
         Command::Groups => groups(),
         Command::Path => path(),
         Command::Verdict | Command::Tree | Command::Explain => verdict(command, name),
+        Command::Report => report(),
+        Command::ReportSum => cli_season::sums::run(words),
         Command::Rpc => rpc(words),
+        Command::Log => log(),
         Command::Rotate => rotate(words),
         Command::Version => cli_help::version(),
         Command::Help => explain_use(),

@@ -13,8 +13,8 @@ use Rattle.table.specs.Group.{numbered}
 use Rattle.table.specs.declared.GroupNumber.{GroupNumber}
 use Rattle.table_membership.specs.Set.{hasOf, numbersIn}
 use Rattle.table_membership.proofs.Numbers.{numbers-more}
-use Rattle.cli_show.specs.Added.{Added, AddedUpTo}
-use Rattle.cli_show.proofs.Adding.{_then_, nothing-added}
+use Rattle.text_make.specs.Added.{Added, AddedUpTo}
+use Rattle.text_make.proofs.Adding.{_then_, nothing-added}
 use Rattle.cli_answers.specs.Rows.{groupLine, groupLines, maxGroupLine}
 
 lines-append : (text : Str) (ns ms : List ℕ) → groupLines text (ns ++ ms) ≡ groupLines text ns ++ groupLines text ms

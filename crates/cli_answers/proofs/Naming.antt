@@ -17,8 +17,8 @@ use Rattle.readable_parts.proofs.Stored.{front}
 use Rattle.table_facts.specs.Facts.{nameOf, storedOf}
 use Rattle.table_facts.specs.declared.Row.{Row}
 use Rattle.table.specs.Text.{check, tableOf}
-use Rattle.cli_show.specs.Added.{Added, AddedUpTo}
-use Rattle.cli_show.specs.Text.{upTo}
+use Rattle.text_make.specs.Added.{Added, AddedUpTo}
+use Rattle.text_make.specs.Text.{upTo}
 use Rattle.cli_answers.specs.Lines.{nameIn}
 
 short-fits : (d : List ℕ) (s : Str) → length d ≡ maxString → storedOf d s ≡ upTo maxString s

@@ -22,8 +22,8 @@ use Rattle.path_read.proofs.Longest.{bytes-bound, text-bound}
 use Rattle.readable_parts.specs.Parts.{hexText}
 use Rattle.readable_parts.proofs.Digits.{hex-length}
 use Rattle.readable_parts.proofs.Stored.{front}
-use Rattle.cli_show.specs.Added.{Added}
-use Rattle.cli_show.proofs.Adding.{_then_}
+use Rattle.text_make.specs.Added.{Added}
+use Rattle.text_make.proofs.Adding.{_then_}
 use Rattle.cli_answers.specs.Paths.{hexLine, plainLine, bytesLine, textLine, Made, made, nothing}
 
 -- ---- where there is room for the result

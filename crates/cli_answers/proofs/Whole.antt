@@ -25,7 +25,7 @@ use Rattle.table.proofs.Numbers.{refusal-clear}
 use Rattle.table_facts.specs.Facts.{nameOf}
 use Rattle.table_facts.specs.declared.Row.{Row}
 use Rattle.table_facts.specs.declared.Row.the-variants as row
-use Rattle.cli_show.specs.Text.{upTo}
+use Rattle.text_make.specs.Text.{upTo}
 use Rattle.cli_answers.specs.Lines.{nameIn}
 use Rattle.cli_answers.specs.Whole.{WholeNames}
 

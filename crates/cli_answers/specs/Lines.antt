@@ -11,7 +11,7 @@ use Rattle.verdict_request.specs.declared.PathAnswer.{PathAnswer}
 use Rattle.verdict_request.specs.declared.PathAnswer.the-variants as path
 use Rattle.verdict_request.specs.declared.TreeAnswer.{TreeAnswer}
 use Rattle.verdict_request.specs.declared.TreeAnswer.the-variants as trees
-use Rattle.cli_show.specs.Text.{upTo, fact}
+use Rattle.text_make.specs.Text.{upTo, fact}
 use Rattle.cli_answers.specs.declared.lines.Fallback.{Fallback}
 use Rattle.cli_answers.specs.declared.lines.Fallback.the-variants as fallback
 

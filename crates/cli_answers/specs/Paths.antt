@@ -7,7 +7,7 @@ use Rattle.path_read.specs.Calls.{bytesFor, textFor}
 use Rattle.path_read.specs.declared.Filled.{Filled}
 use Rattle.path_read.specs.declared.Filled.the-variants.{Length, Refused}
 use Rattle.readable_parts.specs.Parts.{hexText}
-use Rattle.cli_show.specs.Added.{Added}
+use Rattle.text_make.specs.Added.{Added}
 
 unfoldable pub hexLine : Str → Str
 hexLine f = hexText f ++ bytes "\n"

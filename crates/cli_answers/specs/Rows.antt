@@ -9,7 +9,8 @@ use Rattle.table.specs.declared.Counted.{Counted}
 use Rattle.table.specs.declared.Counted.the-variants as counted
 use Rattle.table.specs.declared.GroupNumber.{GroupNumber}
 use Rattle.table_facts.specs.declared.Row.the-variants.{Group}
-use Rattle.cli_show.specs.Text.{decimal, fact}
+use Rattle.text_make.specs.Decimal.{decimal}
+use Rattle.text_make.specs.Text.{fact}
 use Rattle.cli_answers.specs.Lines.{nameIn}
 
 -- how many rows of each kind an accepted table has

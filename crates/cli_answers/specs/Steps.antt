@@ -6,7 +6,7 @@ use Rattle.text.specs.String.{Str}
 use Rattle.table.specs.Text.{check, tableOf}
 use Rattle.table.specs.Group.{groupsOf}
 use Rattle.table.specs.declared.Checked.the-variants.{Accepted}
-use Rattle.cli_show.specs.Added.{Added}
+use Rattle.text_make.specs.Added.{Added}
 use Rattle.cli_answers.specs.Rows.{groupLines}
 
 -- a line for each of them was added to d, if the table is accepted

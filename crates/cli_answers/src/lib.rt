@@ -9,7 +9,7 @@ use verdict_request::TreeAnswer;
 
 // The action and the deciding rule, or the refusal.
 pub fn path(text: &[u8], a: PathAnswer, f: Fallback) {
-    let mut out = [0u8; cli_show::add::MAX_LINES];
+    let mut out = [0u8; cli_show::MAX_LINES];
     let n = lines::path(text, f, a, &mut out);
     cli_show::first(&out, n);
     if let PathAnswer::Refused { number, line } = a {
@@ -19,7 +19,7 @@ pub fn path(text: &[u8], a: PathAnswer, f: Fallback) {
 
 // The tree answer, and the rule that MIXED names; or the refusal.
 pub fn tree(text: &[u8], a: TreeAnswer, f: Fallback) {
-    let mut out = [0u8; cli_show::add::MAX_LINES];
+    let mut out = [0u8; cli_show::MAX_LINES];
     let n = lines::tree(text, f, a, &mut out);
     cli_show::first(&out, n);
     if let TreeAnswer::Refused { number, line } = a {

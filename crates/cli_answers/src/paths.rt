@@ -3,7 +3,6 @@ ghost use Prim.Native.Nat.{_+_, _*_, _≤_};
 ghost use lib.ListN.{length};
 ghost use Rattle.limits.specs.Sizes.{maxPathBytes, maxPathText};
 ghost use Rattle.cli_answers.specs.Paths.{bytesLine, textLine, Made};
-use cli_show::add;
 use path_read::Filled;
 
 // Room for the lines: two digits a byte, or the text, and the LF.
@@ -21,7 +20,7 @@ pub fn bytes_line(text: &[u8], out: &mut [u8]) -> Filled
     match r {
         Filled::Length(n) => {
             let end = readable_parts::hex::write_hex(&bytes[..n], out, 0);
-            Filled::Length(add::string(b"\n", out, end))
+            Filled::Length(text_make::string(b"\n", out, end))
         }
         Filled::Refused(number) => Filled::Refused(number),
     }
@@ -34,7 +33,7 @@ pub fn text_line(bytes: &[u8], out: &mut [u8]) -> Filled
 {
     let r = path_write::write_text(bytes, out);
     match r {
-        Filled::Length(n) => Filled::Length(add::string(b"\n", out, n)),
+        Filled::Length(n) => Filled::Length(text_make::string(b"\n", out, n)),
         Filled::Refused(number) => Filled::Refused(number),
     }
 }

@@ -5,9 +5,8 @@ ghost use lib.ListN.{length};
 ghost use Rattle.limits.specs.Limits.{maxGroups};
 ghost use Rattle.table.specs.Group.{numbered};
 ghost use Rattle.table_membership.specs.Set.{hasOf, numbersIn};
-ghost use Rattle.cli_show.specs.Added.{Added, AddedUpTo};
+ghost use Rattle.text_make.specs.Added.{Added, AddedUpTo};
 ghost use Rattle.cli_answers.specs.Rows.{rowLines, groupsLine, groupLine, groupLines, maxCountLine, maxGroupLine};
-use cli_show::add;
 use table::Counted;
 use table::GroupNumber;
 use table_facts::Row;
@@ -22,9 +21,9 @@ pub fn counts(groups: usize, members: usize, rules: usize, out: &mut [u8]) -> us
     requires { ⌜ 96 ≤ length (now out) ⌝ }
     ensures { λ n. ⌜ Added (now (out .entry)) 0 (rowLines groups members rules) (now (out .exit)) n ⌝ }
 {
-    let a = add::fact(b"accepted\ngroups ", groups as u64, out, 0);
-    let b = add::fact(b"members ", members as u64, out, a);
-    add::fact(b"rules ", rules as u64, out, b)
+    let a = text_make::fact(b"accepted\ngroups ", groups as u64, out, 0);
+    let b = text_make::fact(b"members ", members as u64, out, a);
+    text_make::fact(b"rules ", rules as u64, out, b)
 }
 
 // How many groups list a user; nothing for a refusal.
@@ -33,8 +32,8 @@ pub fn groups(c: Counted, out: &mut [u8]) -> usize
     ensures { λ n. ⌜ AddedUpTo maxCountLine (now (out .entry)) 0 (groupsLine c) (now (out .exit)) n ⌝ }
 {
     match c {
-        Counted::Count { count, first } => add::fact(b"groups ", count as u64, out, 0),
-        Counted::NoGroup => add::string(b"groups 0\n", out, 0),
+        Counted::Count { count, first } => text_make::fact(b"groups ", count as u64, out, 0),
+        Counted::NoGroup => text_make::string(b"groups 0\n", out, 0),
         Counted::Declined { number, line } => 0,
     }
 }
@@ -44,11 +43,11 @@ fn group(text: &[u8], number: GroupNumber, out: &mut [u8], at: usize) -> usize
     requires { ⌜ at + maxGroupLine ≤ length (now out) ⌝ }
     ensures { λ n. ⌜ AddedUpTo maxGroupLine (now (out .entry)) at (groupLine (now (text .entry)) number) (now (out .exit)) n ⌝ }
 {
-    let a = add::string(b"group ", out, at);
-    let b = add::decimal(number.0 as u64, out, a);
-    let c = add::string(b" ", out, b);
+    let a = text_make::string(b"group ", out, at);
+    let b = text_make::decimal(number.0 as u64, out, a);
+    let c = text_make::string(b" ", out, b);
     let d = crate::lines::name(text, Row::Group(number), out, c);
-    add::string(b"\n", out, d)
+    text_make::string(b"\n", out, d)
 }
 
 // The same of a group that the set has; nothing of another.

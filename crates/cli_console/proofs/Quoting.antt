@@ -13,8 +13,8 @@ use Rattle.text.specs.String.{Str, bytes, joined}
 use Rattle.text.specs.Steps.{Wrote}
 use Rattle.text.proofs.Filling.{wrote-long}
 use Rattle.readable_parts.specs.Parts.{hexPair, hexText}
-use Rattle.cli_show.specs.Added.{Added, AddedUpTo}
-use Rattle.cli_show.proofs.Adding.{_then_, nothing-added}
+use Rattle.text_make.specs.Added.{Added, AddedUpTo}
+use Rattle.text_make.proofs.Adding.{_then_, nothing-added}
 use Rattle.cli_console.specs.Quoted.{shown, quoted}
 use Rattle.cli_console.specs.Steps.{maxPart}
 

@@ -1,10 +1,9 @@
 // A line of a file as it is shown, made in a buffer part by part.
 ghost use Prim.Native.Nat.{_+_, _*_, _≤_, _<_};
 ghost use lib.ListN.{length};
-ghost use Rattle.cli_show.specs.Added.{Added, AddedUpTo};
+ghost use Rattle.text_make.specs.Added.{Added, AddedUpTo};
 ghost use Rattle.cli_console.specs.Quoted.{shown, quoted};
 ghost use Rattle.cli_console.specs.Steps.{maxPart};
-use cli_show::add;
 
 // As many bytes of a line as are made at once, and room for them: one that does not print takes four.
 const PART: usize = 1024;
@@ -18,9 +17,9 @@ fn add_byte(b: u8, out: &mut [u8], at: usize) -> usize
 {
     let byte = [b];
     if text::byte::is_print(b) {
-        return add::string(&byte, out, at);
+        return text_make::string(&byte, out, at);
     }
-    let digits = add::string(b"\\x", out, at);
+    let digits = text_make::string(b"\\x", out, at);
     readable_parts::hex::write_hex(&byte, out, digits)
 }
 

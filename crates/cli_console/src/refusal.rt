@@ -1,11 +1,17 @@
 // Refusals, printed.
 
-// `refused N: what it means`, or `refused N at line L: what it means` where the refusal carries a line.
-pub fn at(number: u8, line: usize) {
+// `refused N: what it means`, or `refused N at line L: what it means` where the refusal carries a line. To descriptor 1; to 2 where standard output
+// is for a text.
+pub fn to(to: i32, number: u8, line: usize) {
     let mut out = [0u8; cli_refusal::MAX_LINE];
     let n = cli_refusal::line(number, line, &mut out);
-    cli_show::first(&out, n);
+    cli_show::first_to(to, &out, n);
     cli_show::marks::refusal();
+}
+
+// The same to standard output.
+pub fn at(number: u8, line: usize) {
+    to(1, number, line);
 }
 
 // Prints the line of a text that a refusal is about; there is no line 0. Where its end may be the fault, since a line that looks right may lack its LF, that is

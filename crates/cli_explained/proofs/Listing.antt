@@ -10,8 +10,8 @@ use Rattle.text.proofs.Filling.{wrote-long}
 use Rattle.table.specs.Table.{Rule}
 use Rattle.table_rows.specs.Rules.{ruleIn, rulesIn}
 use Rattle.table_rows.proofs.Grow.{rows-at}
-use Rattle.cli_show.specs.Added.{Added, AddedUpTo}
-use Rattle.cli_show.proofs.Adding.{_then_, nothing-added}
+use Rattle.text_make.specs.Added.{Added, AddedUpTo}
+use Rattle.text_make.proofs.Adding.{_then_, nothing-added}
 use Rattle.cli_explained.specs.Explained.{rankedLine, noRule, ruleOf, linesFrom, rankingLines}
 use Rattle.cli_explained.specs.Steps.{maxRankedLine}
 

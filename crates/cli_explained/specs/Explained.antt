@@ -18,7 +18,8 @@ use Rattle.verdict_explain.specs.Standing.{standing, stepOf}
 use Rattle.verdict_explain.specs.declared.Standing.{Standing}
 use Rattle.verdict_explain.specs.declared.Step.{Step}
 use Rattle.verdict_explain.specs.declared.Step.the-variants as step
-use Rattle.cli_show.specs.Text.{decimal, upTo}
+use Rattle.text_make.specs.Decimal.{decimal}
+use Rattle.text_make.specs.Text.{upTo}
 
 unfoldable pub stepName : Step → Str
 stepName step.Elements = bytes "elements"

@@ -13,7 +13,7 @@ use Rattle.table.specs.declared.Checked.the-variants.{Accepted}
 use Rattle.verdict_judge.specs.Rules.{Placed}
 use Rattle.verdict_request.specs.Calls.{asked}
 use Rattle.verdict_explain.specs.Ranking.{RuleNumbers}
-use Rattle.cli_show.specs.Added.{Added}
+use Rattle.text_make.specs.Added.{Added}
 use Rattle.cli_explained.specs.Explained.{matchLines}
 
 -- the longest line

@@ -5,7 +5,7 @@ use Rattle.limits.specs.Limits.{maxString}
 use Rattle.text.specs.String.{Str}
 use Rattle.table.specs.Text.{check, tableOf}
 use Rattle.table.specs.declared.Checked.the-variants.{Accepted}
-use Rattle.cli_show.specs.Text.{upTo}
+use Rattle.text_make.specs.Text.{upTo}
 use Rattle.cli_explained.specs.Explained.{ruleOf}
 
 -- the rule of any number, in an accepted table

@@ -3,12 +3,11 @@ ghost use Prim.Native.Nat.{_+_, _≤_};
 ghost use lib.ListN.{length, take};
 ghost use Rattle.limits.specs.Limits.{maxString};
 ghost use Rattle.table_rows.specs.Rules.{ruleIn, ruleEnd, rulesIn};
-ghost use Rattle.cli_show.specs.Added.{Added, AddedUpTo};
-ghost use Rattle.cli_show.specs.Text.{upTo};
+ghost use Rattle.text_make.specs.Added.{Added, AddedUpTo};
+ghost use Rattle.text_make.specs.Text.{upTo};
 ghost use Rattle.cli_explained.specs.Explained.{stepName, fate, actionText, subjectText, standingText, rankedLine, rankingLines};
 ghost use Rattle.cli_explained.specs.Explained.{ranked as Explained·ranked};
 ghost use Rattle.cli_explained.specs.Steps.{maxRankedLine, Rankable};
-use cli_show::add;
 use table::RuleNumber;
 use verdict_explain::Standing;
 use verdict_explain::Step;
@@ -21,11 +20,11 @@ fn step_name(s: Step, out: &mut [u8], at: usize) -> usize
     ensures { λ r. ⌜ AddedUpTo 17 (now (out .entry)) at (stepName s) (now (out .exit)) r ⌝ }
 {
     match s {
-        Step::Elements => add::string(b"elements", out, at),
-        Step::Keys => add::string(b"definite keys", out, at),
-        Step::Subject => add::string(b"user over group", out, at),
-        Step::Action => add::string(b"deny over permit", out, at),
-        Step::Id => add::string(b"smaller id", out, at),
+        Step::Elements => text_make::string(b"elements", out, at),
+        Step::Keys => text_make::string(b"definite keys", out, at),
+        Step::Subject => text_make::string(b"user over group", out, at),
+        Step::Action => text_make::string(b"deny over permit", out, at),
+        Step::Id => text_make::string(b"smaller id", out, at),
     }
 }
 
@@ -35,11 +34,11 @@ fn add_fate(place: usize, s: Step, out: &mut [u8], at: usize) -> usize
     ensures { λ r. ⌜ AddedUpTo 33 (now (out .entry)) at (fate place s) (now (out .exit)) r ⌝ }
 {
     if place == 1 {
-        return add::string(b" decides: rule ", out, at);
+        return text_make::string(b" decides: rule ", out, at);
     }
-    let a = add::string(b" lost at ", out, at);
+    let a = text_make::string(b" lost at ", out, at);
     let b = step_name(s, out, a);
-    add::string(b": rule ", out, b)
+    text_make::string(b": rule ", out, b)
 }
 
 fn action(s: Standing, out: &mut [u8], at: usize) -> usize
@@ -47,9 +46,9 @@ fn action(s: Standing, out: &mut [u8], at: usize) -> usize
     ensures { λ r. ⌜ AddedUpTo 19 (now (out .entry)) at (actionText s) (now (out .exit)) r ⌝ }
 {
     if s.permit {
-        return add::string(b", permit, elements ", out, at);
+        return text_make::string(b", permit, elements ", out, at);
     }
-    add::string(b", deny, elements ", out, at)
+    text_make::string(b", deny, elements ", out, at)
 }
 
 fn subject(s: Standing, out: &mut [u8], at: usize) -> usize
@@ -57,9 +56,9 @@ fn subject(s: Standing, out: &mut [u8], at: usize) -> usize
     ensures { λ r. ⌜ AddedUpTo 12 (now (out .entry)) at (subjectText s) (now (out .exit)) r ⌝ }
 {
     if s.group {
-        return add::string(b", group, id ", out, at);
+        return text_make::string(b", group, id ", out, at);
     }
-    add::string(b", user, id ", out, at)
+    text_make::string(b", user, id ", out, at)
 }
 
 // What the ranking looks at in a rule.
@@ -68,9 +67,9 @@ fn standing(s: Standing, out: &mut [u8], at: usize) -> usize
     ensures { λ r. ⌜ AddedUpTo 87 (now (out .entry)) at (standingText s) (now (out .exit)) r ⌝ }
 {
     let a = action(s, out, at);
-    let b = add::decimal(s.elements as u64, out, a);
-    let c = add::string(b", definite keys ", out, b);
-    let d = add::decimal(s.keys as u64, out, c);
+    let b = text_make::decimal(s.elements as u64, out, a);
+    let c = text_make::string(b", definite keys ", out, b);
+    let d = text_make::decimal(s.keys as u64, out, c);
     subject(s, out, d)
 }
 
@@ -86,9 +85,9 @@ fn ranked(
     requires { ⌜ at + 160 ≤ length (now out) ⌝ }
     ensures { λ r. ⌜ AddedUpTo 160 (now (out .entry)) at (Explained·ranked place (rule .0) own s) (now (out .exit)) r ⌝ }
 {
-    let a = add::decimal(place as u64, out, at);
+    let a = text_make::decimal(place as u64, out, at);
     let b = add_fate(place, s, out, a);
-    let c = add::decimal(rule.0 as u64, out, b);
+    let c = text_make::decimal(rule.0 as u64, out, b);
     standing(own, out, c)
 }
 
@@ -100,7 +99,7 @@ fn id(f: &[u8], s: usize, out: &mut [u8], at: usize) -> usize
     let i = verdict_judge::rule::id_at(f, s);
     let a = i + 1;
     let e = table_place::str_end(f, i);
-    add::string_up_to(limits::MAX_STRING, &f[a..e], out, at)
+    text_make::string_up_to(limits::MAX_STRING, &f[a..e], out, at)
 }
 
 // The rule at s of that number, at its place of the ranking, whose first rule stands at `best`.
@@ -123,7 +122,7 @@ fn line(
     let step = verdict_explain::lost_at(own, first);
     let a = ranked(place, rule, own, step, out, at);
     let b = id(f, s, out, a);
-    add::string(b"\n", out, b)
+    text_make::string(b"\n", out, b)
 }
 
 // The lines of a ranking: the first m of `order` are the numbers of its rules, of n in all.

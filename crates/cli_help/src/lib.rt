@@ -101,10 +101,14 @@ fn all() {
         burgee verdict FILE USER read|write ORIGIN PATH    what a user may do at a path\n\
         burgee tree FILE USER read|write ORIGIN PATH       and at every path beneath it\n\
         burgee explain FILE USER read|write ORIGIN PATH    why: the rules that match, the best first\n\
+        burgee report TABLE LOG                            how often each rule decided over a log of requests\n\
+        burgee report-sum REPORT ..                        the sum of season reports\n\
         burgee path read TEXT                              path text as path bytes\n\
         burgee path write BYTES                            path bytes as path text\n\
         burgee policy FILE                                 checks an RPC policy\n\
         burgee rpc FILE IDENTITY PATH [HEADERS-FILE]       whether a client may make a call\n\
+        burgee log show FILE                               a log of requests as readable text\n\
+        burgee log pack FILE                               readable text as a log\n\
         burgee rotate STEP FILE ..                         a rotation, tried by hand\n\
         burgee help [COMMAND]                              this page, or one command's; also burgee COMMAND --help\n\
         burgee version                                     the version of this program\n\
@@ -254,6 +258,48 @@ fn explain(command: &[u8], step: &[u8], part: Part) -> bool {
     )
 }
 
+fn report(command: &[u8], step: &[u8], part: Part) -> bool {
+    print(
+        command,
+        step,
+        part,
+        b"burgee report TABLE LOG\n\
+        \n\
+        The season report over a table and a log of requests (burgee log show and pack): 262 lines, each a decimal number. How often\n\
+        each of the rules 0 to 255 decided; then reads permitted, denied by a rule and denied by default; then writes likewise.\n\
+        A log has at most 1,000,000 lines, and is read in parts. The first line that is one too many or bad is refused.\n\
+        \n\
+        $ echo 'write [ann] origin [] /interfaces/interface[name=uplink]/config' | burgee log pack - >target/day.log\n\
+        $ burgee report examples/files/yard.table target/day.log | sed -n '3p;260p'\n\
+        1\n\
+        1\n\
+        $ echo 01 | burgee report examples/files/yard.table -\n\
+        refused 51 at line 1: not a line of a log: mode, user, origin and path of a good request, in hex digits, then LF\n\
+        line: 01\n",
+    )
+}
+
+fn report_sum(command: &[u8], step: &[u8], part: Part) -> bool {
+    print(
+        command,
+        step,
+        part,
+        b"burgee report-sum REPORT ..\n\
+        \n\
+        The sum of season reports, line by line, as a report. A report is 262 lines, each a decimal number without leading zeros\n\
+        of 64 bits at most. The first file that is none, or with which a sum has more than 64 bits, is refused by its line,\n\
+        on standard error, and nothing is printed.\n\
+        \n\
+        $ burgee report-sum examples/files/week1.report examples/files/week2.report | head -n 3\n\
+        218\n\
+        97\n\
+        58\n\
+        $ sed '2s/^/0/' examples/files/week1.report | burgee report-sum examples/files/week2.report -\n\
+        refused at line 2 of -: not a decimal number of 64 bits at most, without leading zeros\n\
+        line: 045\n",
+    )
+}
+
 fn path(command: &[u8], step: &[u8], part: Part) -> bool {
     print(
         command,
@@ -324,6 +370,36 @@ fn rpc(command: &[u8], step: &[u8], part: Part) -> bool {
         $ burgee rpc examples/files/yard.json '' /gnmi.gNMI/Set\n\
         deny\n\
         default\n",
+    )
+}
+
+fn log(command: &[u8], step: &[u8], part: Part) -> bool {
+    print(
+        command,
+        step,
+        part,
+        b"burgee log show FILE\n\
+        burgee log pack FILE\n\
+        \n\
+        A log of path requests as readable text, a request a line, and that text back as the log: the two undo each other, line by line.\n\
+        A line of the readable text is this, and ends with LF:\n\
+        \n\
+        read|write [USER] origin [ORIGIN] PATH\n\
+        \n\
+        In brackets \\ stands before ] and \\. USER, ORIGIN and PATH are as a verdict takes them.\n\
+        A log can be long, and is converted in parts: what was made before the line that is refused is printed.\n\
+        Refusals go to standard error: of a log by number and line, of readable text by the line, as burgee pack does.\n\
+        \n\
+        $ printf 'read [ann] origin [] /system\\nwrite [ann] origin [] /interfaces/interface[name=uplink]\\n' | burgee log pack - | tee target/help.log\n\
+        0103616e6e00010673797374656d00\n\
+        0203616e6e00020a696e74657266616365730009696e7465726661636501046e616d650675706c696e6b\n\
+        $ burgee log show target/help.log\n\
+        read [ann] origin [] /system\n\
+        write [ann] origin [] /interfaces/interface[name=uplink]\n\
+        $ sed s/^02/03/ target/help.log | burgee log show -\n\
+        read [ann] origin [] /system\n\
+        refused 51 at line 2: not a line of a log: mode, user, origin and path of a good request, in hex digits, then LF\n\
+        line: 0303616e6e00020a696e74657266616365730009696e7465726661636501046e616d650675706c696e6b\n",
     )
 }
 
@@ -411,9 +487,12 @@ fn find(command: &[u8], step: &[u8], part: Part) -> bool {
         | verdict(command, step, part)
         | tree(command, step, part)
         | explain(command, step, part)
+        | report(command, step, part)
+        | report_sum(command, step, part)
         | path(command, step, part)
         | policy(command, step, part)
         | rpc(command, step, part)
+        | log(command, step, part)
         | rotate(command, step, part)
         | about_version(command, step, part)
 }

@@ -10,7 +10,7 @@ use lib.ListN.{length, getD, length-append}
 use Rattle.limits.specs.Limits.{maxString}
 use Rattle.text.specs.Test.{if_then_else_, any, only}
 use Rattle.text.specs.String.{Str, same}
-use Rattle.cli_show.specs.Added.{Added}
+use Rattle.text_make.specs.Added.{Added}
 use Rattle.text.proofs.Tests.{by}
 use Rattle.text.proofs.Filling.{Pending, fill-start, fill-put, fill-room, wrote}
 use Rattle.table_place.specs.Place.{strIn}

@@ -11,8 +11,8 @@ use Rattle.limits.specs.Limits.{maxString, maxMembers, maxRules}
 use Rattle.text.specs.Test.{_or_, if_then_else_, any, only}
 use Rattle.text.specs.String.{Str, same}
 use Rattle.text.proofs.Tests.{by, or-assoc, or-l, or-r, or-false-l, or-false-r, neither}
-use Rattle.cli_show.specs.Added.{Added}
-use Rattle.cli_show.proofs.Adding.{nothing-added}
+use Rattle.text_make.specs.Added.{Added}
+use Rattle.text_make.proofs.Adding.{nothing-added}
 use Rattle.path.specs.Refusal.{unsized}
 use Rattle.table.specs.Table.{Member, Rule}
 use Rattle.table.specs.Text.{check, tableOf}

@@ -6,13 +6,12 @@ ghost use lib.ListN.{length};
 ghost use Rattle.limits.specs.Limits.{maxString};
 ghost use Rattle.text.specs.Test.{_and_, any};
 ghost use Rattle.text.specs.String.{same};
-ghost use Rattle.cli_show.specs.Added.{Added};
+ghost use Rattle.text_make.specs.Added.{Added};
 ghost use Rattle.table.specs.Text.{check, tableOf};
 ghost use Rattle.table_place.specs.Place.{strEnd, strIn};
 ghost use Rattle.table_rows.specs.Strings.{stringsIn, Listed};
 ghost use Rattle.cli_names.specs.Names.{small, alike, led, leadOf, listed, grouping, sentence, told, slip, maxLine};
 ghost use Rattle.cli_names.specs.Positions.{subjectsIn, usersIn, Pushed, Stand, RulesReady, GatherReady, Gathered, TableReady};
-use cli_show::add;
 use table_load::Loaded;
 
 // As many users as a table can name, and the longest line.
@@ -114,9 +113,9 @@ fn add_lead(first: bool, out: &mut [u8], at: usize) -> usize
     ensures { λ r. ⌜ Added (now (out .entry)) at (leadOf first) (now (out .exit)) r ⌝ }
 {
     if first {
-        return add::string(b"; it names ", out, at);
+        return text_make::string(b"; it names ", out, at);
     }
-    add::string(b", ", out, at)
+    text_make::string(b", ", out, at)
 }
 
 // Adds the name at p of f, after these words.
@@ -127,7 +126,7 @@ fn add_name(f: &[u8], p: usize, first: bool, out: &mut [u8], at: usize) -> usize
     let to = add_lead(first, out, at);
     let start = p + 1;
     let end = table_place::str_end(f, p);
-    add::string(&f[start..end], out, to)
+    text_make::string(&f[start..end], out, to)
 }
 
 // Adds the names at n places.
@@ -151,7 +150,7 @@ fn add_grouping(grouped: bool, out: &mut [u8], at: usize) -> usize
     ensures { λ r. ⌜ Added (now (out .entry)) at (grouping grouped) (now (out .exit)) r ⌝ }
 {
     if grouped {
-        return add::string(b"; a group has that name", out, at);
+        return text_make::string(b"; a group has that name", out, at);
     }
     at
 }
@@ -169,11 +168,11 @@ fn make_sentence(
     ensures { λ r. ⌜ Added (now (out .entry)) 0 (sentence grouped (now (user .entry)) (stringsIn (now (f .entry)) (now (places .entry)) n 0))
         (now (out .exit)) r ⌝ }
 {
-    let a = add::string(b"burgee: the table names no user ", out, 0);
-    let b = add::string(user, out, a);
+    let a = text_make::string(b"burgee: the table names no user ", out, 0);
+    let b = text_make::string(user, out, a);
     let c = add_grouping(grouped, out, b);
     let d = add_names(f, places, n, out, c);
-    add::string(b"\n", out, d)
+    text_make::string(b"\n", out, d)
 }
 
 // What is told of a user, at the start of out.

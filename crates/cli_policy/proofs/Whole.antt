@@ -31,7 +31,7 @@ use Rattle.policy.specs.Policy.{Policy, find, member, items, text, ruleIn, poli
 use Rattle.policy_facts.specs.Facts.{nameIn, listedName}
 use Rattle.policy_facts.specs.declared.name.Listed.{Listed}
 use Rattle.policy_facts.specs.declared.name.Listed.the-variants.{Deny, Allow}
-use Rattle.cli_show.specs.Text.{upTo}
+use Rattle.text_make.specs.Text.{upTo}
 use Rattle.cli_policy.specs.Whole.{WholeNames}
 
 -- ---- numbers: no part of what gets no number gets one

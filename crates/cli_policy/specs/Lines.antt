@@ -11,7 +11,7 @@ use Rattle.policy_facts.specs.declared.name.Listed.{Listed}
 use Rattle.policy_facts.specs.declared.name.Listed.the-variants.{Deny, Allow}
 use Rattle.rpc.specs.declared.verdict.Verdict.{Verdict}
 use Rattle.rpc.specs.declared.verdict.Verdict.the-variants as verdict
-use Rattle.cli_show.specs.Text.{upTo, fact}
+use Rattle.text_make.specs.Text.{upTo, fact}
 
 -- how many rules each list has; a refusal has words of its own
 unfoldable pub countLines : Rules → Str

@@ -5,7 +5,7 @@ use Rattle.text.specs.String.{Str}
 use Rattle.policy.specs.Policy.{policyOf}
 use Rattle.policy_facts.specs.Facts.{listedName}
 use Rattle.policy_facts.specs.declared.name.Listed.{Listed}
-use Rattle.cli_show.specs.Text.{upTo}
+use Rattle.text_make.specs.Text.{upTo}
 
 -- of any text, the name of a rule in either list
 pub record WholeNames : Type 0 where

@@ -2,9 +2,8 @@
 ghost use Prim.Native.Nat.{_+_, _≤_};
 ghost use lib.ListN.{length};
 ghost use Rattle.limits.specs.Limits.{maxPolicyString};
-ghost use Rattle.cli_show.specs.Added.{Added};
+ghost use Rattle.text_make.specs.Added.{Added};
 ghost use Rattle.cli_policy.specs.Lines.{countLines, byRule, rpcLines};
-use cli_show::add;
 use policy_facts::Rules;
 use policy_facts::name::Listed;
 use rpc::verdict::Verdict;
@@ -16,8 +15,8 @@ pub fn counts(r: Rules, out: &mut [u8]) -> usize
 {
     match r {
         Rules::Count { deny, allow } => {
-            let at = add::fact(b"accepted\ndeny_rules ", deny as u64, out, 0);
-            add::fact(b"allow_rules ", allow as u64, out, at)
+            let at = text_make::fact(b"accepted\ndeny_rules ", deny as u64, out, 0);
+            text_make::fact(b"allow_rules ", allow as u64, out, at)
         }
         Rules::Refused(number) => 0,
     }
@@ -31,10 +30,10 @@ fn by_rule(policy: &[u8], answer: &[u8], number: usize, rule: Listed, out: &mut 
     let n = policy_facts::name::rule_name(policy, rule);
     let from = n.from;
     let to = n.to;
-    let a = add::fact(answer, number as u64, out, 0);
-    let b = add::string(b"name ", out, a);
-    let c = add::string_up_to(limits::MAX_POLICY_STRING, &policy[from..to], out, b);
-    add::string(b"\n", out, c)
+    let a = text_make::fact(answer, number as u64, out, 0);
+    let b = text_make::string(b"name ", out, a);
+    let c = text_make::string_up_to(limits::MAX_POLICY_STRING, &policy[from..to], out, b);
+    text_make::string(b"\n", out, c)
 }
 
 // The action, and the list, the number and the name of the deciding rule; nothing for a refusal.
@@ -57,7 +56,7 @@ pub fn rpc(policy: &[u8], v: Verdict, out: &mut [u8]) -> usize
             Listed::Deny(n),
             out,
         ),
-        Verdict::Default => add::string(b"deny\ndefault\n", out, 0),
+        Verdict::Default => text_make::string(b"deny\ndefault\n", out, 0),
         Verdict::Refused(number) => 0,
     }
 }

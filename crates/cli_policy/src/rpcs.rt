@@ -5,7 +5,7 @@ use rpc::verdict::Verdict;
 
 // Prints the action, and the list, the number and the name of the deciding rule; or the refusal.
 pub fn answer(policy: &[u8], v: Verdict) {
-    let mut out = [0u8; cli_show::add::MAX_LINES];
+    let mut out = [0u8; cli_show::MAX_LINES];
     let n = crate::lines::rpc(policy, v, &mut out);
     cli_show::first(&out, n);
     if let Verdict::Refused(number) = v {

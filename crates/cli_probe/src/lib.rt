@@ -91,7 +91,7 @@ pub fn table(r: Record, store: &[u8], is_tree: bool) {
 
 // A probe's answer; `policy` names the rules.
 fn tell_rpc(policy: &[u8], a: RpcAnswer) {
-    let mut out = [0u8; cli_show::add::MAX_LINES];
+    let mut out = [0u8; cli_show::MAX_LINES];
     let n = lines::rpc(policy, a, &mut out);
     cli_show::first(&out, n);
     if let RpcAnswer::Judged(v) = a {

@@ -1,5 +1,7 @@
-// A rule table as readable text, and back. Standard output holds the text that is made, and nothing else: what is refused is told on standard error.
+// A rule table as readable text, and back, and so a log. Standard output holds the text that is made, and nothing else: what is refused is told on
+// standard error.
 pub mod lines;
+pub mod logs;
 
 use readable::Converted;
 
@@ -12,18 +14,23 @@ fn save(i: usize, table: &[u8]) {
     let begun = cli_saving::begin(i, true);
     let written = cli_saving::add(begun, table);
     if cli_saving::finish(written) {
-        let mut out = [0u8; cli_show::add::MAX_LINES];
-        let n = cli_show::add::fact(b"bytes ", table.len() as u64, &mut out, 0);
+        let mut out = [0u8; cli_show::MAX_LINES];
+        let n = text_make::fact(b"bytes ", table.len() as u64, &mut out, 0);
         cli_show::first(&out, n);
     }
 }
 
-// Tells why nothing was made of a text, and the line that it is about.
-fn refuse(c: Converted, text: &[u8]) {
+// Tells why nothing was made of a text.
+fn tell(c: Converted) {
     let mut out = [0u8; cli_refusal::MAX_LINE];
     let n = lines::refusal(c, &mut out);
     cli_show::first_to(2, &out, n);
     cli_show::marks::refusal();
+}
+
+// The same, and the line that it is about.
+fn refuse(c: Converted, text: &[u8]) {
+    tell(c);
     match c {
         Converted::Length(_) => {}
         Converted::Refused { number, line } => {

@@ -6,7 +6,7 @@ use Rattle.text.specs.Test.{if_then_else_}
 use Rattle.text.specs.String.{Str, bytes}
 use Rattle.rotation.specs.State.{noLength}
 use Rattle.rotation.specs.declared.Record.{Record}
-use Rattle.cli_show.specs.Text.{fact}
+use Rattle.text_make.specs.Text.{fact}
 
 unfoldable pub kindLine : ℕ → Str
 kindLine k = if eqb k 1 then bytes "kind policy\n" else bytes "kind table\n"

@@ -94,7 +94,7 @@ pub fn tell(r: Record, n: usize) {
 
 // Prints what a record says.
 pub fn print(r: Record) {
-    let mut out = [0u8; cli_show::add::MAX_LINES];
+    let mut out = [0u8; cli_show::MAX_LINES];
     let n = crate::lines::record(r, &mut out);
     cli_show::first(&out, n);
 }

@@ -14,7 +14,7 @@ use Rattle.text.proofs.Tests.{by}
 use Rattle.text_search.specs.Search.{until, is}
 use Rattle.text_search.proofs.Searching.{until-fits}
 use Rattle.text_affix.specs.Affix.{begins}
-use Rattle.cli_show.specs.Added.{Added, AddedUpTo}
+use Rattle.text_make.specs.Added.{Added, AddedUpTo}
 use Rattle.cli_refusal.specs.Entry.{upToLine, entry}
 use Rattle.cli_refusal.specs.Steps.{Next, EntryAt}
 

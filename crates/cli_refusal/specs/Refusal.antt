@@ -5,7 +5,7 @@ use mathlib.Core.List.{[], _∷_, _++_}
 use lib.Dec.{eqb}
 use Rattle.text.specs.Test.{if_then_else_}
 use Rattle.text.specs.String.{Str, bytes, joined}
-use Rattle.cli_show.specs.Text.{decimal}
+use Rattle.text_make.specs.Decimal.{decimal}
 use Rattle.cli_refusal.specs.Entry.{entry}
 use mathlib.Core.Bool.{true}
 
@@ -46,6 +46,8 @@ meanings =
     "38 a rule name twice in a list" ∷
     "40 identity or path over 256 bytes, or a byte of it does not print" ∷
     "41 header lines ill-formed, over 8,192 bytes together, or a byte of a value does not print" ∷
+    "50 the log has more than 1,000,000 lines" ∷
+    "51 not a line of a log: mode, user, origin and path of a good request, in hex digits, then LF" ∷
     []
     )
 

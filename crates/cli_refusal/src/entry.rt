@@ -2,7 +2,7 @@
 ghost use mathlib.Core.Bool.{true};
 ghost use Prim.Native.Nat.{_+_, _≤_, _<_};
 ghost use lib.ListN.{length};
-ghost use Rattle.cli_show.specs.Added.{AddedUpTo};
+ghost use Rattle.text_make.specs.Added.{AddedUpTo};
 ghost use Rattle.cli_refusal.specs.Entry.{entry};
 ghost use Rattle.cli_refusal.specs.Steps.{Next, EntryAt};
 
@@ -37,5 +37,5 @@ pub fn add_entry(text: &[u8], key: &[u8], out: &mut [u8], at: usize) -> usize
 {
     let from = find_entry(text, key);
     let end = text_search::find(text, from, b'\n');
-    cli_show::add::string(&text[from..end], out, at)
+    text_make::string(&text[from..end], out, at)
 }

@@ -3,17 +3,16 @@ pub mod entry;
 
 ghost use Prim.Native.Nat.{_+_, _≤_};
 ghost use lib.ListN.{length};
-ghost use Rattle.cli_show.specs.Added.{Added, AddedUpTo};
+ghost use Rattle.text_make.specs.Added.{Added, AddedUpTo};
 ghost use Rattle.cli_refusal.specs.Refusal.{meaning, place, refusal as Refusal·refusal};
-use cli_show::add;
 
 // Room for the line: words are looked up in their table, and no longer than it.
-pub const MAX_LINE: usize = 1660;
+pub const MAX_LINE: usize = 1780;
 
 // Adds what a number means.
 fn add_meaning(number: u8, out: &mut [u8], at: usize) -> usize
-    requires { ⌜ at + 1600 ≤ length (now out) ⌝ }
-    ensures { λ r. ⌜ AddedUpTo 1600 (now (out .entry)) at (meaning number) (now (out .exit)) r ⌝ }
+    requires { ⌜ at + 1720 ≤ length (now out) ⌝ }
+    ensures { λ r. ⌜ AddedUpTo 1720 (now (out .entry)) at (meaning number) (now (out .exit)) r ⌝ }
 {
     let key = [48 + number / 10 % 10, 48 + number % 10, b' '];
     entry::add_entry(
@@ -46,7 +45,9 @@ fn add_meaning(number: u8, out: &mut [u8], at: usize) -> usize
         37 a barred or ill-spelt header key\n\
         38 a rule name twice in a list\n\
         40 identity or path over 256 bytes, or a byte of it does not print\n\
-        41 header lines ill-formed, over 8,192 bytes together, or a byte of a value does not print\n",
+        41 header lines ill-formed, over 8,192 bytes together, or a byte of a value does not print\n\
+        50 the log has more than 1,000,000 lines\n\
+        51 not a line of a log: mode, user, origin and path of a good request, in hex digits, then LF\n",
         &key,
         out,
         at,
@@ -61,19 +62,19 @@ pub fn add_place(line: usize, out: &mut [u8], at: usize) -> usize
     if line == 0 {
         return at;
     }
-    let number = add::string(b" at line ", out, at);
-    add::decimal(line as u64, out, number)
+    let number = text_make::string(b" at line ", out, at);
+    text_make::decimal(line as u64, out, number)
 }
 
 // Makes the line of a refusal.
 pub fn line(number: u8, line: usize, out: &mut [u8]) -> usize
-    requires { ⌜ 1660 ≤ length (now out) ⌝ }
+    requires { ⌜ 1780 ≤ length (now out) ⌝ }
     ensures { λ r. ⌜ Added (now (out .entry)) 0 (Refusal·refusal number line) (now (out .exit)) r ⌝ }
 {
-    let digits = add::string(b"refused ", out, 0);
-    let place = add::decimal(number as u64, out, digits);
+    let digits = text_make::string(b"refused ", out, 0);
+    let place = text_make::decimal(number as u64, out, digits);
     let colon = add_place(line, out, place);
-    let words = add::string(b": ", out, colon);
+    let words = text_make::string(b": ", out, colon);
     let end = add_meaning(number, out, words);
-    add::string(b"\n", out, end)
+    text_make::string(b"\n", out, end)
 }

@@ -1,9 +1,11 @@
 // Printing to standard output.
-pub mod add;
 pub mod marks;
 
 ghost use Prim.Native.Nat.{_≤_};
 ghost use lib.ListN.{length};
+
+// Room for the lines of any answer, but for a refusal.
+pub const MAX_LINES: usize = 320;
 
 // Complains where a write to standard output failed. From then on standard output is /dev/null: what was written stays a beginning of the
 // answer, and one complaint is enough.

@@ -16,8 +16,8 @@ use Rattle.table_load.specs.declared.row.Counts.{Counts}
 use Rattle.table_membership.specs.Set.{numbersIn}
 use Rattle.table_membership.proofs.Numbers.{numbers-are}
 use Rattle.table_check.specs.Look.{TableTold}
-use Rattle.cli_show.specs.Added.{Added}
-use Rattle.cli_show.proofs.Adding.{_then_}
+use Rattle.text_make.specs.Added.{Added}
+use Rattle.text_make.proofs.Adding.{_then_}
 use Rattle.cli_answers.specs.Rows.{groupsLine, groupLines, belowCount, groupsText}
 use Rattle.cli_answers.specs.Steps.{ListsGroups}
 

@@ -33,8 +33,8 @@ use Rattle.verdict_call.specs.Holding.{OfTable}
 use Rattle.verdict_call.proofs.Spelled.{Read, path-bytes, spelled-is}
 use Rattle.verdict_call.proofs.Holding.{holding}
 use Rattle.verdict_explain.specs.Ranking.{ranking}
-use Rattle.cli_show.specs.Added.{Added}
-use Rattle.cli_show.proofs.Adding.{nothing-added}
+use Rattle.text_make.specs.Added.{Added}
+use Rattle.text_make.proofs.Adding.{nothing-added}
 use Rattle.cli_explained.specs.Explained.{rankingLines, matchLines, below, explanation}
 use Rattle.cli_explained.specs.Steps.{ListsMatches}
 

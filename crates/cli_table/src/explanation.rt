@@ -4,7 +4,7 @@ ghost use Prim.Native.Nat.{_*_, _≤_};
 ghost use lib.ListN.{length};
 ghost use Rattle.limits.specs.Limits.{maxRules};
 ghost use Rattle.verdict_request.specs.Calls.{pathVerdict};
-ghost use Rattle.cli_show.specs.Added.{Added};
+ghost use Rattle.text_make.specs.Added.{Added};
 ghost use Rattle.cli_explained.specs.Explained.{explanation};
 ghost use Rattle.cli_explained.specs.Steps.{maxRankedLine, ListsMatches};
 use cli_answers::lines::Fallback;

@@ -4,7 +4,7 @@ ghost use Prim.Native.Nat.{_+_, _*_, _≤_};
 ghost use lib.ListN.{length};
 ghost use Rattle.limits.specs.Limits.{maxGroups};
 ghost use Rattle.table.specs.Group.{groupCount};
-ghost use Rattle.cli_show.specs.Added.{Added};
+ghost use Rattle.text_make.specs.Added.{Added};
 ghost use Rattle.cli_answers.specs.Rows.{maxCountLine, maxGroupLine, groupsText};
 ghost use Rattle.cli_answers.specs.Steps.{ListsGroups};
 use cli_answers::lines::Fallback;
@@ -20,7 +20,7 @@ pub fn check(text: &[u8]) {
     let s = table_check::look(text, b"");
     match s {
         Seen::Table { counts, set } => {
-            let mut out = [0u8; cli_show::add::MAX_LINES];
+            let mut out = [0u8; cli_show::MAX_LINES];
             let n = cli_answers::rows::counts(
                 counts.groups,
                 counts.members,

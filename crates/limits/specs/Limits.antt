@@ -69,3 +69,9 @@ slotLength = 32768
 
 abbrev pub storeLength : ℕ
 storeLength = 2 * slotLength
+
+-- ---- logs
+
+-- 50: the log line "that is number 1,000,001"
+abbrev pub maxLogLines : ℕ
+maxLogLines = 1000000

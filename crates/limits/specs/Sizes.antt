@@ -3,7 +3,7 @@ use Prim.Native.Nat.{ℕ, _+_, _*_, _/_}
 use mathlib.Core.List.{List, [], _∷_}
 use Rattle.limits.specs.Limits.{maxTableText, maxGroups, maxMembers, maxRules, maxElements, maxKeys, maxShortString, maxString}
 use Rattle.limits.specs.Limits.{maxPolicyText, maxDepth, maxListRules, maxEntries, maxPolicyString, maxRequestString, maxHeaderLines}
-use Rattle.limits.specs.Limits.{slotLength, storeLength}
+use Rattle.limits.specs.Limits.{slotLength, storeLength, maxLogLines}
 
 -- ---- rule table text
 
@@ -63,6 +63,27 @@ maxReadableLine = maxPathText + 480
 abbrev pub maxReadableText : ℕ
 maxReadableText = maxTableText + (12 + 4 * maxGroups + 6 * maxMembers + 29 * maxRules)
 
+-- ---- logs
+
+-- the frame of a good line: mode, user and origin, and the path after them
+abbrev pub maxHeading : ℕ
+maxHeading = 1 + maxStringBytes + (1 + maxShortString)
+
+abbrev pub maxLogFrame : ℕ
+maxLogFrame = maxHeading + maxPathBytes
+
+-- its digits, and LF
+abbrev pub maxLogLine : ℕ
+maxLogLine = 2 * maxLogFrame + 1
+
+-- a count for each rule, and six for the grid
+abbrev pub reportLines : ℕ
+reportLines = maxRules + 6
+
+-- each of at most 1,000,000, with LF
+abbrev pub maxReport : ℕ
+maxReport = reportLines * 8
+
 -- ---- the definitions' side of `constants`: the limits, then the sizes, in the same order
 
 abbrev pub all : List ℕ
@@ -70,8 +91,9 @@ all =
     maxTableText ∷ maxGroups ∷ maxMembers ∷ maxRules ∷ maxElements ∷ maxKeys ∷ maxShortString ∷ maxString
     ∷ maxPolicyText ∷ maxDepth ∷ maxListRules ∷ maxEntries ∷ maxPolicyString
     ∷ maxRequestString ∷ maxHeaderLines
-    ∷ slotLength ∷ storeLength
+    ∷ slotLength ∷ storeLength ∷ maxLogLines
     ∷ maxTableBytes
     ∷ maxStringBytes ∷ maxKeyBytes ∷ maxKeysBytes ∷ maxElemBytes ∷ maxPathBytes
     ∷ maxValueText ∷ maxKeyText ∷ maxElemText ∷ maxPathText
-    ∷ maxQuoted ∷ maxReadableLine ∷ maxReadableText ∷ []
+    ∷ maxQuoted ∷ maxReadableLine ∷ maxReadableText
+    ∷ maxHeading ∷ maxLogFrame ∷ maxLogLine ∷ reportLines ∷ maxReport ∷ []

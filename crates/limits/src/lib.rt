@@ -41,6 +41,9 @@ pub const SLOT_LENGTH: usize = 32768;
 
 pub const STORE_LENGTH: usize = 2 * SLOT_LENGTH;
 
+// Logs.
+pub const MAX_LOG_LINES: usize = 1000000;
+
 // The sizes that follow from them: the lines of a table decoded.
 pub const MAX_TABLE_BYTES: usize = MAX_TABLE_TEXT / 2;
 
@@ -75,11 +78,22 @@ pub const MAX_READABLE_TEXT: usize = MAX_TABLE_TEXT
     + 6 * MAX_MEMBERS
     + 29 * MAX_RULES;
 
+// Logs: the frame of a good line, the line, and the report over them.
+pub const MAX_HEADING: usize = 1 + MAX_STRING_BYTES + 1 + MAX_SHORT_STRING;
+
+pub const MAX_LOG_FRAME: usize = MAX_HEADING + MAX_PATH_BYTES;
+
+pub const MAX_LOG_LINE: usize = 2 * MAX_LOG_FRAME + 1;
+
+pub const REPORT_LINES: usize = MAX_RULES + 6;
+
+pub const MAX_REPORT: usize = REPORT_LINES * 8;
+
 // No refusal number: `clear` of the definitions, which the functions that answer a number give where nothing is to be refused.
 pub const CLEAR: u8 = 255;
 
 // Every limit and every size, in the order of the definitions.
-pub fn constants() -> [usize; 30]
+pub fn constants() -> [usize; 36]
     ensures { λ r. ⌜ r ≡ all ⌝ }
 {
     [
@@ -100,6 +114,7 @@ pub fn constants() -> [usize; 30]
         MAX_HEADER_LINES,
         SLOT_LENGTH,
         STORE_LENGTH,
+        MAX_LOG_LINES,
         MAX_TABLE_BYTES,
         MAX_STRING_BYTES,
         MAX_KEY_BYTES,
@@ -113,5 +128,10 @@ pub fn constants() -> [usize; 30]
         MAX_QUOTED,
         MAX_READABLE_LINE,
         MAX_READABLE_TEXT,
+        MAX_HEADING,
+        MAX_LOG_FRAME,
+        MAX_LOG_LINE,
+        REPORT_LINES,
+        MAX_REPORT,
     ]
 }

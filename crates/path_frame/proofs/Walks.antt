@@ -20,7 +20,7 @@ use Rattle.text.proofs.Tests.{or-none}
 use Rattle.text.proofs.Frames.{byte-got, byte-unread, string-ends, string-misses, times-turn, times-unread, times-done, times-length}
 use Rattle.path.specs.Path.{Key, Elem, Path}
 use Rattle.path.specs.Bytes.{key, element, path}
-use Rattle.path.specs.Walk.{keyRefusal, keysRefusal, elemNameRefusal, elemRefusal, elemsRefusal, hasName, twiceIn, isPath, isPathIn, leastRefusal, pathRefusal}
+use Rattle.path.specs.Walk.{keyRefusal, keysRefusal, elemNameRefusal, elemRefusal, elemsRefusal, hasName, twiceIn, isPathIn, leastRefusal, pathRefusal}
 use Rattle.path_frame.specs.Walked.{walked}
 use Rattle.path_frame.specs.declared.Walk.{Walk}
 use Rattle.path_frame.specs.declared.Walk.the-variants.{To, Unread}
@@ -250,16 +250,16 @@ module _ (f : List ℕ) (at : ℕ) (h : at < length f) (w : Walk) (e : w ≡ wal
       let x = walked-to elemsRefusal _ n t (sym g ∙ e) in
       rw v (numbered n (x .0) t (x .1) (x .2))
 
-module _ (f : List ℕ) (w : Walk) (e : w ≡ walked pathRefusal (path f 0)) where
-  pub no-path : w ≡ Unread → isPath f ≡ false
-  unfolding isPath isPathIn
+module _ (f : List ℕ) (at : ℕ) (w : Walk) (e : w ≡ walked pathRefusal (path f at)) where
+  pub no-path : w ≡ Unread → isPathIn f (path f at) ≡ false
+  unfolding isPathIn
   no-path g = rw (walked-not pathRefusal _ (sym g ∙ e))
 
-  good-path : (n t : ℕ) (p : Path) → path f 0 ≡ got p t → n ≡ pathRefusal p → isPath f ≡ (eqb t (length f) and eqb n clear)
-  unfolding isPath isPathIn
+  good-path : (n t : ℕ) (p : Path) → path f at ≡ got p t → n ≡ pathRefusal p → isPathIn f (path f at) ≡ (eqb t (length f) and eqb n clear)
+  unfolding isPathIn
   good-path n t p g i = rw (g, i, path-clear p)
 
-  pub a-path : (n t : ℕ) → w ≡ To n t → isPath f ≡ (eqb t (length f) and eqb n clear)
+  pub a-path : (n t : ℕ) → w ≡ To n t → isPathIn f (path f at) ≡ (eqb t (length f) and eqb n clear)
   a-path n t g =
       let x = walked-to pathRefusal _ n t (sym g ∙ e) in
       good-path n t (x .0) (x .1) (x .2)

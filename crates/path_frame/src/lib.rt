@@ -3,7 +3,7 @@ ghost use mathlib.Core.Path.{_≡_};
 ghost use mathlib.Core.Bool.{false};
 ghost use Rattle.text.specs.Frame.{times};
 ghost use Rattle.path.specs.Bytes.{key, element, path};
-ghost use Rattle.path.specs.Walk.{keysRefusal, elemRefusal, elemsRefusal, hasName, twiceIn, isPath, pathRefusal};
+ghost use Rattle.path.specs.Walk.{keysRefusal, elemRefusal, elemsRefusal, hasName, twiceIn, isPathIn, isPath, pathRefusal};
 ghost use Rattle.path_frame.specs.Walked.{walked};
 use text::frame::End;
 
@@ -170,13 +170,20 @@ pub fn read_path(f: &[u8], at: usize) -> Walk
     }
 }
 
-// The bytes are those of one good path, and nothing more.
-pub fn is_path(f: &[u8]) -> bool
-    ensures { λ r. ⌜ r ≡ isPath (now (f .entry)) ⌝ }
+// The bytes from `at` on are those of one good path, and nothing more.
+pub fn is_path_from(f: &[u8], at: usize) -> bool
+    ensures { λ r. ⌜ r ≡ isPathIn (now (f .entry)) (path (now (f .entry)) at) ⌝ }
 {
-    let w = read_path(f, 0);
+    let w = read_path(f, at);
     let Walk::To { refusal, next } = w else {
         return false;
     };
     (next == f.len()) & (refusal == limits::CLEAR)
+}
+
+// All the bytes are.
+pub fn is_path(f: &[u8]) -> bool
+    ensures { λ r. ⌜ r ≡ isPath (now (f .entry)) ⌝ }
+{
+    is_path_from(f, 0)
 }

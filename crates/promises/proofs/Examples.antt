@@ -1,8 +1,9 @@
--- The marked examples A to L, by computation.
+-- The marked examples, by computation.
 use mathlib.Core.Path.{refl}
 use mathlib.Core.Bool.{xor}
+use mathlib.Core.Option.{bind}
 use Rattle.text.specs.Test.{_and_, _or_, if_then_else_, all, any, only, twice, absent, orNothing}
-use Rattle.text.specs.String.{same, more, before}
+use Rattle.text.specs.String.{same, more, before, joined}
 use Rattle.text.specs.Frame.{_>>=_, ret, byte, run, string, times}
 use Rattle.text_search.specs.Search.{until}
 use Rattle.path.specs.Bytes.{key, element, path}
@@ -24,6 +25,12 @@ use Rattle.verdict.specs.Verdict.{concerns, applies, matches, decider, action, 
 use Rattle.verdict_request.specs.Calls.{badMode, badOrigin, requestRefusal, request, decidedBy, pathAnswer, pathVerdict, spread, treeAnswer, treeVerdict}
 use Rattle.text_affix.specs.Affix.{empty, begins, ends}
 use Rattle.rpc.specs.Pattern as pattern
+use Rattle.text_make.specs.Decimal.{digits, decimal}
+use Rattle.log.specs.Request.{requestBody, framedRequest, framedRefusal, unrefused, goodRequest, requestOf}
+use Rattle.log.specs.Log.{judgeLog, checkLog, before as put-before, requestsOf, logOf}
+use Rattle.season.specs.Report.{answerTo, decides, permitted, deniedByRule, deniedByDefault}
+use Rattle.season.specs.Report.{count, forEach, ruleCount, ruleCounts, cell, row, figures, figureLine, report}
+use Rattle.season.specs.Calls.{firstFault, fault, reportOf}
 use Rattle.promises.specs.Examples.{examples, Examples}
 
 pub marked : Examples
@@ -36,5 +43,8 @@ unfolding xor _and_ _or_ if_then_else_ all any only twice same more before _>>=_
     unless judge check allTold table tableOf lists
     badUser wild definite holds meets covers conflict clashes agrees agree meld join definites better earlier prefer
     candidate choose concerns applies matches decider action permits fits opposes word answer tree badMode badOrigin
-    absent requestRefusal orNothing request decidedBy pathAnswer pathVerdict spread treeAnswer treeVerdict empty begins ends pattern.matches examples
+    absent requestRefusal orNothing request decidedBy pathAnswer pathVerdict spread treeAnswer treeVerdict empty begins ends pattern.matches
+    digits decimal requestBody framedRequest framedRefusal unrefused goodRequest bind requestOf judgeLog checkLog
+    put-before requestsOf logOf answerTo decides permitted deniedByRule deniedByDefault count forEach ruleCount
+    ruleCounts cell row figures figureLine joined report firstFault fault reportOf examples
 marked = refl

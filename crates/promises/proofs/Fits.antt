@@ -1,6 +1,6 @@
--- What a call answers fits its word: a refusal number is one byte and not 0, a line has 32 bits and comes with numbers 1 to 9 alone, the number of a rule
+-- What a call answers fits its word: a refusal number is one byte and not 0, a line has 32 bits and comes with numbers 1 to 9 and 51 alone, the number of a rule
 -- or a group has 16 bits with 1 added, a count is one byte, a length has 32 bits.
-use Prim.Native.Nat.{ℕ, zero, suc, _+_, _<_, _≤_, _^_}
+use Prim.Native.Nat.{ℕ, suc, _+_, _<_, _≤_, _^_}
 use mathlib.Core.Path.{_≡_, refl, ap}
 use mathlib.Core.Logic.{_⊎_, inl, inr}
 use mathlib.Core.Bool.{Bool, true, false}
@@ -9,9 +9,9 @@ use mathlib.Core.Option.{Option, none, some, Option·elim, Option·map}
 use native.Mathlib.Omega.{arith}
 use borrow.Author.Tests.{ltb-false, eqb-true, eqb-false}
 use lib.Dec.{eqb, ltb, leb}
-use lib.ListN.{length, getElem?}
-use Rattle.limits.specs.Limits.{maxTableText, maxGroups, maxListRules, maxPolicyText}
-use Rattle.text.specs.Test.{_and_, if_then_else_}
+use lib.ListN.{length}
+use Rattle.limits.specs.Limits.{maxTableText, maxGroups, maxListRules, maxPolicyText, maxLogLines}
+use Rattle.text.specs.Test.{_and_, if_then_else_, absent}
 use Rattle.text.specs.String.{Str, bytes, same}
 use Rattle.text.specs.Refusal.{_when_else_, clear}
 use Rattle.text.proofs.Tests.{by, same→≡}
@@ -38,6 +38,13 @@ use Rattle.verdict_request.specs.declared.PathAnswer.{PathAnswer}
 use Rattle.verdict_request.specs.declared.PathAnswer.the-variants as path
 use Rattle.verdict_request.specs.declared.TreeAnswer.{TreeAnswer}
 use Rattle.verdict_request.specs.declared.TreeAnswer.the-variants as trees
+use Rattle.log.specs.Request.{requestOf}
+use Rattle.log.specs.Log.{judgeLog, checkLog, logOf}
+use Rattle.season.specs.Calls.{firstFault, fault, reportOf, answered, seasonAnswer}
+use Rattle.season.proofs.Figures.{report-short}
+use Rattle.season.proofs.Asked.{log-few}
+use Rattle.season.specs.declared.Reported.{Reported}
+use Rattle.season.specs.declared.Reported.the-variants as reported
 use Rattle.json_grammar.specs.Json.{Json, jnull, jtrue, jfalse, jnumber, jstring, jlist, jobject, Values, vnil, vcons, Members, mnil, mcons, listOf}
 use Rattle.json_grammar.specs.Parser.{parse}
 use Rattle.json_tree.specs.Names.{repeats}
@@ -73,6 +80,7 @@ use Rattle.rotation.specs.declared.InForce.the-variants as force
 use Rattle.rotation_upload.specs.Offered.{ofPolicy, offeredCheck}
 use Rattle.rotation_probe.specs.Probe.{probed, pathOn, pathRefused, probePath, treeOn, treeRefused, probeTree}
 use Rattle.rotation_probe.specs.Rpc.{factoryRpc, rpcOn, rpcRefused, probeRpc}
+use Rattle.season.proofs.Totals.{below}
 use Rattle.rotation_probe.specs.declared.rpcs.RpcAnswer.{RpcAnswer}
 use Rattle.rotation_probe.specs.declared.rpcs.RpcAnswer.the-variants as probe
 
@@ -83,7 +91,7 @@ pub record Refusal (n l : ℕ) : Type 0 where
   pub number : 0 < n
   pub byte : n < 2 ^ 8
   pub bits : l < 2 ^ 32
-  pub lineless : 9 < n → l ≡ 0
+  pub lineless : 9 < n → (n ≡ 51 → ⊥) → l ≡ 0
 
 -- a rule's or a group's number
 abbrev pub Number : ℕ → Type 0
@@ -114,6 +122,10 @@ TreeFits trees.None = Unit {0}
 TreeFits (trees.Mixed r) = Number (r .0)
 TreeFits (trees.Refused n l) = Refusal n l
 
+abbrev pub ReportedFits : Reported → Type 0
+ReportedFits (reported.Length n) = n < 2 ^ 32
+ReportedFits (reported.Refused n l) = Refusal n l
+
 abbrev pub PolicyFits : Check → Type 0
 PolicyFits policy.Accepted = Unit {0}
 PolicyFits (policy.Refused n) = Refusal n 0
@@ -131,7 +143,7 @@ ProbeFits (probe.Judged v) = RpcFits v
 -- ---- refusal numbers
 
 bare : (n : ℕ) → 0 < n → n < 2 ^ 8 → Refusal n 0
-bare n p b = record { number = p; byte = b; bits = omega arith; lineless = λ h. refl }
+bare n p b = record { number = p; byte = b; bits = omega arith; lineless = λ h k. refl }
 
 none-at-all : Refusal clear 0
 none-at-all = bare clear (omega arith) (omega arith)
@@ -193,7 +205,7 @@ line-number b (reads e) =
     (line-when _ 7 _ (omega arith) (omega arith) (line-when _ 8 _ (omega arith) (omega arith) (line-when _ 9 _ (omega arith) (omega arith) (omega arith, inr refl))))))
 
 at-line : (n line : ℕ) → OfLine n → line < 2 ^ 32 → (n ≡ clear → ⊥) → Refusal n line
-at-line n line (p, inl q) b bad = record { number = p; byte = omega arith; bits = b; lineless = λ h. absurd (omega arith) }
+at-line n line (p, inl q) b bad = record { number = p; byte = omega arith; bits = b; lineless = λ h k. absurd (omega arith) }
 at-line n line (p, inr q) b bad = absurd (bad q)
 
 judge-fits : (number : ℕ) (b : Earlier) (ls : List Str) → number + length ls < 2 ^ 32 → CheckedFits (judge number b ls)
@@ -210,7 +222,7 @@ check-fits x =
     by (ltb maxTableText (length x))
     (λ t. rw t (bare 1 (omega arith) (omega arith)))
     (λ t. rw t (by (eqb (length x) 0)
-    (λ u. rw u (record { number = omega arith; byte = omega arith; bits = omega arith; lineless = λ h. absurd (omega arith) }))
+    (λ u. rw u (record { number = omega arith; byte = omega arith; bits = omega arith; lineless = λ h k. absurd (omega arith) }))
     (λ u. rw u (let k = ltb-false maxTableText (length x) t in let m = lines-few x in judge-fits 1 first (lines x) (omega arith)))))
 
 -- ---- a user's groups
@@ -261,11 +273,6 @@ unfolding requestRefusal
 request-fits user mode origin text =
     or-else _ 20 _ (omega arith) (omega arith) (or-else _ 21 _ (omega arith) (omega arith) (or-else _ 22 clear (omega arith) (omega arith) none-at-all))
 
-below : {A : Type 0} (xs : List A) (i : ℕ) (x : A) → getElem? xs i ≡ some x → i < length xs
-below [] i x e = let z : _≡_ {A = ℕ} 0 1 = cc in absurd (omega arith)
-below (y ∷ xs) zero x e = omega arith
-below (y ∷ xs) (suc i) x e = let h = below xs i x e in omega arith
-
 -- an accepted table has at most 256 rules
 rule-number : (x : Str) → check x ≡ checked.Accepted → (over : table.Rule → table.Rule → Bool) (test : table.Rule → Bool) (n : Numbered)
     → choose over test 0 (tableOf x .rules) ≡ some n → Number (n .number)
@@ -309,6 +316,35 @@ tree-fits x user mode origin text =
     tree-answer-fits (check x) _ _ (check-fits x) (request-fits user mode origin text)
     (λ ok. spread-fits (permits (tableOf x) (request user mode origin text)) _
     (λ n e. rule-number x ok earlier (opposes (tableOf x) (request user mode origin text)) n e))
+
+-- ---- the season report
+
+-- the number of a bad line is that of a line of a log
+log-line : (k : ℕ) → 0 < k → k ≤ maxLogLines → Refusal 51 k
+log-line k p h = record { number = omega arith; byte = omega arith; bits = omega arith; lineless = λ a b. absurd (b refl) }
+
+log-fits : (k : ℕ) (ls : List Str) → 0 < k → CheckedFits (judgeLog k ls)
+unfolding judgeLog if_then_else_
+log-fits k [] p = tt
+log-fits k (l ∷ ls) p =
+    by (ltb maxLogLines k)
+    (λ t. rw t (bare 50 (omega arith) (omega arith)))
+    (λ t. rw t (by (absent (requestOf l)) (λ u. rw u (log-line k p (ltb-false maxLogLines k t))) (λ u. rw u (log-fits (k + 1) ls (omega arith)))))
+
+filled-fits : (text out : Str) → length text < 2 ^ 32 → ReportedFits (answered checked.Accepted text out)
+unfolding answered if_then_else_
+filled-fits text out h = by (leb (length text) (length out)) (λ t. rw t h) (λ t. rw t (bare 23 (omega arith) (omega arith)))
+
+module _ (x log out : Str) where
+  fault-fits : (c d : Checked) → check x ≡ c → checkLog log ≡ d → CheckedFits c → CheckedFits d → ReportedFits (answered (firstFault c d) (reportOf x log) out)
+  unfolding answered firstFault reportOf
+  fault-fits (checked.Refused n l) d e i h k = h
+  fault-fits checked.Accepted (checked.Refused n l) e i h k = k
+  fault-fits checked.Accepted checked.Accepted e i h k = filled-fits (reportOf x log) out (omega (arith, report-short (tableOf x) (logOf log) (log-few log i)))
+
+  pub season-fits : ReportedFits (seasonAnswer x log out)
+  unfolding seasonAnswer fault checkLog
+  season-fits = fault-fits (check x) (checkLog log) refl refl (check-fits x) (log-fits 1 (lines log) (omega arith))
 
 -- ---- policies
 

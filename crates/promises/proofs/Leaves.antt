@@ -26,6 +26,8 @@ left = record {
   read-after = λ text out. refl;
   write-before = λ bytes out. refl;
   write-after = λ bytes out. refl;
+  report-before = λ table log out. refl;
+  report-after = λ table log out. refl;
   step-before = was-lent;
   step-after = is-left;
 }

@@ -5,6 +5,7 @@ pub mod Leaves
 pub mod PathReturn
 pub mod Groups
 pub mod Verdicts
+pub mod Season
 pub mod Json
 pub mod Rpc
 pub mod Rotation

@@ -3,10 +3,10 @@ use Prim.Native.Nat.{ℕ, zero, suc, _+_, _*_, _/_, _%_, _<_, _^_}
 use mathlib.Core.Path.{_≡_, refl, sym, ap, _∙_}
 use mathlib.Core.Option.{Option, none, some}
 use native.Mathlib.Omega.{arith}
-use borrow.Author.Tests.{eq-eqb, ne-eqb, le-leb, leb-false}
+use borrow.Author.Tests.{eq-eqb, ne-eqb, eqb-false, le-leb, leb-false}
 use lib.Dec.{eqb, leb}
 use lib.ListN.{length}
-use Rattle.text.specs.Test.{_and_, if_then_else_}
+use Rattle.text.specs.Test.{_and_, _or_, if_then_else_}
 use Rattle.text.proofs.Tests.{by}
 use Rattle.path_read.specs.declared.Filled.{Filled}
 use Rattle.path_read.specs.declared.Filled.the-variants as filled
@@ -18,6 +18,8 @@ use Rattle.verdict_request.specs.declared.PathAnswer.{PathAnswer}
 use Rattle.verdict_request.specs.declared.PathAnswer.the-variants as path
 use Rattle.verdict_request.specs.declared.TreeAnswer.{TreeAnswer}
 use Rattle.verdict_request.specs.declared.TreeAnswer.the-variants as trees
+use Rattle.season.specs.declared.Reported.{Reported}
+use Rattle.season.specs.declared.Reported.the-variants as reported
 use Rattle.policy_check.specs.declared.check.Check.{Check}
 use Rattle.policy_check.specs.declared.check.Check.the-variants as policy
 use Rattle.rpc.specs.declared.verdict.Verdict.{Verdict}
@@ -26,14 +28,14 @@ use Rattle.rotation_probe.specs.declared.rpcs.RpcAnswer.{RpcAnswer}
 use Rattle.rotation_probe.specs.declared.rpcs.RpcAnswer.the-variants as probe
 use Rattle.rotation.specs.Machine as step
 use Rattle.rotation_upload.specs.Offered.{offeredCheck}
-use Rattle.burgee.specs.Word.{upper, refusalWord, filledWord, checkedWord, countedWord, pathWord, treeWord, policyWord, rpcWord, rpcProbeWord}
+use Rattle.burgee.specs.Word.{upper, refusalWord, filledWord, checkedWord, countedWord, pathWord, treeWord, reportedWord, policyWord, rpcWord, rpcProbeWord}
 use Rattle.burgee.specs.Calls.{outcome, word}
 use Rattle.burgee.specs.Calls.{Start, Upload, Finalize, Close}
 use Rattle.promises.specs.Words.{refusal, line, accepted, tree, lessOne, number, filledLength, Words, Safe}
-use Rattle.promises.specs.Words.{toldFilled, toldChecked, onlyIf, beside, countedBy, toldCounted, pathBy, toldPath, treeBy, toldTree, toldPolicy, rpcBy, toldRpc, probeBy, toldProbe}
+use Rattle.promises.specs.Words.{toldFilled, toldChecked, onlyIf, beside, countedBy, toldCounted, pathBy, toldPath, treeBy, toldTree, toldReported, toldPolicy, rpcBy, toldRpc, probeBy, toldProbe}
 use Rattle.promises.specs.Leaves.{publicly}
-use Rattle.promises.proofs.Fits.{Refusal, FilledFits, CheckedFits, CountedFits, PathFits, TreeFits, PolicyFits, RpcFits, ProbeFits}
-use Rattle.promises.proofs.Fits.{read-fits, write-fits, check-fits, count-fits, path-fits, tree-fits, policy-fits, rpc-fits}
+use Rattle.promises.proofs.Fits.{Refusal, FilledFits, CheckedFits, CountedFits, PathFits, TreeFits, ReportedFits, PolicyFits, RpcFits, ProbeFits}
+use Rattle.promises.proofs.Fits.{read-fits, write-fits, check-fits, count-fits, path-fits, tree-fits, season-fits, policy-fits, rpc-fits}
 use Rattle.promises.proofs.Fits.{start-fits, upload-fits, finalize-fits, close-fits, probe-path-fits, probe-tree-fits, probe-rpc-fits}
 
 -- ---- a refusal's word
@@ -49,12 +51,14 @@ line-bits n l b c =
     rw (d, e) d
 
 line-read : (n l : ℕ) → Refusal n l → line (refusalWord n l) ≡ l
-unfolding line if_then_else_ _and_ refusalWord
+unfolding line if_then_else_ _and_ _or_ refusalWord
 line-read n l h =
     let r = number-read n l h in
     by (leb n 9)
     (λ t. rw (r, le-leb 1 n (h .number), t) (line-bits n l (h .byte) (h .bits)))
-    (λ t. rw (r, le-leb 1 n (h .number), t) (sym (h .lineless (leb-false n 9 t))))
+    (λ t. by (eqb n 51)
+    (λ u. rw (r, le-leb 1 n (h .number), t, u) (line-bits n l (h .byte) (h .bits)))
+    (λ u. rw (r, le-leb 1 n (h .number), t, u) (sym (h .lineless (leb-false n 9 t) (eqb-false n 51 u)))))
 
 word-whole : (n l : ℕ) → Refusal n l → refusalWord n l ≡ n + l * 2 ^ 8
 unfolding refusalWord
@@ -116,13 +120,18 @@ upper-read n h =
     let u : n * 2 ^ 8 / 2 ^ 8 ≡ n = omega arith in
     rw (upper-bits (upper n) z, d, u) d
 
-filled-told : (f : Filled) → FilledFits f → toldFilled (filledWord f) ≡ some f
-unfolding filledWord
-filled-told (filled.Length n) h =
+-- a length alone
+length-told : {A : Type 0} (f : ℕ → A) (n : ℕ) → n < 2 ^ 32 → (x : Option A)
+    → (if eqb (refusal (upper n)) 0 then onlyIf (eqb (accepted (upper n)) (filledLength (upper n))) (some (f (filledLength (upper n)))) else x) ≡ some (f n)
+length-told f n h x =
     let z : upper n % 2 ^ 8 ≡ 0 = omega arith in
     let d : n % 2 ^ 32 ≡ n = omega arith in
     let u : accepted (upper n) ≡ n = upper-bits (upper n) z ∙ omega arith in
-    given (upper n) _ _ z ∙ kept (accepted (upper n)) (filledLength (upper n)) _ (u ∙ sym (upper-read n h)) ∙ ap (λ (m : ℕ). some (filled.Length m)) (upper-read n h)
+    given (upper n) _ _ z ∙ kept (accepted (upper n)) (filledLength (upper n)) _ (u ∙ sym (upper-read n h)) ∙ ap (λ (m : ℕ). some (f m)) (upper-read n h)
+
+filled-told : (f : Filled) → FilledFits f → toldFilled (filledWord f) ≡ some f
+unfolding filledWord
+filled-told (filled.Length n) h = length-told filled.Length n h _
 filled-told (filled.Refused n) h = refused n 0 _ _ h ∙ rw (number-read n 0 h)
 
 checked-told : (c : Checked) → CheckedFits c → toldChecked (checkedWord c) ≡ some c
@@ -152,6 +161,11 @@ tree-told trees.None h = by-fields (λ (a : ℕ). treeBy (read-tree a)) read-tre
 tree-told (trees.Mixed r) h =
     by-fields (λ (a : ℕ). treeBy (read-tree a)) read-tree _ (2 * 2 ^ 8 + (r .0 + 1) * 2 ^ 16) 2 (suc (r .0)) (omega arith) (omega arith) (omega arith) refl
 tree-told (trees.Refused n l) h = refused n l _ _ h ∙ rw (number-read n l h, line-read n l h)
+
+reported-told : (a : Reported) → ReportedFits a → toldReported (reportedWord a) ≡ some a
+unfolding reportedWord
+reported-told (reported.Length n) h = length-told reported.Length n h _
+reported-told (reported.Refused n l) h = refused n l _ _ h ∙ rw (number-read n l h, line-read n l h)
 
 policy-told : (c : Check) → PolicyFits c → toldPolicy (policyWord c) ≡ some c
 unfolding policyWord onlyIf accepted if_then_else_
@@ -193,6 +207,7 @@ words = record {
   group-count = λ table user. counted-told _ (count-fits table user);
   path-verdict = λ table user mode origin path. path-told _ (path-fits table user mode origin path);
   tree-verdict = λ table user mode origin path. tree-told _ (tree-fits table user mode origin path);
+  season-report = λ table log out. reported-told _ (season-fits table log out);
   policy-check = λ policy. policy-told _ (policy-fits policy);
   rpc-verdict = λ policy identity path headers. rpc-told _ (rpc-fits policy identity path headers);
   stepped = step-told;

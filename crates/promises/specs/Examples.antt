@@ -1,13 +1,16 @@
 -- The marked examples A to L of the rules: what is asked, and what is answered. A to D are asked of tables as values, E to K of the table's hex text
--- itself through the definitions that the public calls' contracts name, L of a pattern.
+-- itself through the definitions that the public calls' contracts name, L of a pattern. After them the season report's.
 use Prim.Native.Nat.{ℕ}
 use Prim.Native.String.{String}
 use mathlib.Core.Bool.{Bool, true, false}
 use mathlib.Core.Path.{_≡_}
 use mathlib.Core.List.{List, [], _∷_, _++_, map}
-use Rattle.text.specs.String.{Str, bytes}
+use lib.ListN.{replicate}
+use Rattle.text.specs.String.{Str, bytes, joined}
 use Rattle.path.specs.Path.{Key, Elem, Path}
 use Rattle.table.specs.Table.{Member, Rule, Table}
+use Rattle.table.specs.declared.Checked.{Checked}
+use Rattle.table.specs.declared.Checked.the-variants.{Accepted}
 use Rattle.verdict.specs.Verdict.{decider}
 use Rattle.verdict_request.specs.Calls.{decidedBy, pathVerdict, treeVerdict}
 use Rattle.verdict_request.specs.declared.PathAnswer.{PathAnswer}
@@ -15,6 +18,7 @@ use Rattle.verdict_request.specs.declared.PathAnswer.the-variants.{Permit, Deny
 use Rattle.verdict_request.specs.declared.TreeAnswer.{TreeAnswer}
 use Rattle.verdict_request.specs.declared.TreeAnswer.the-variants.{All, None, Mixed}
 use Rattle.rpc.specs.Pattern.{matches}
+use Rattle.season.specs.Calls.{fault, reportOf}
 
 -- ---- questions and answers
 
@@ -22,6 +26,7 @@ pub data Answer : Type 0 where
   verdict : PathAnswer → Answer
   tree : TreeAnswer → Answer
   matched : Bool → Answer
+  reported : Checked → Str → Answer
 
 -- by the rule of this number
 abbrev permitBy : ℕ → Answer
@@ -86,11 +91,21 @@ pathOf user mode text = verdict (pathVerdict small (bytes user) mode [] (bytes t
 treeOf : String → ℕ → String → Answer
 treeOf user mode text = tree (treeVerdict small (bytes user) mode [] (bytes text))
 
+-- ---- the season report of that table
+
+-- of a log of one line
+reportOn : String → Answer
+reportOn l = reported (fault small (line l)) (reportOf small (line l))
+
+-- so many lines with 0
+zeros : ℕ → Str
+zeros n = joined line (replicate n "0")
+
 -- ---- the table
 
 -- what is asked, and the answer of the rules
 unfoldable pub examples : List (Answer × Answer)
-unfolding key elem nq rule user group permits denies member twoRules stevie line small pathOf treeOf
+unfolding key elem nq rule user group permits denies member twoRules stevie line small pathOf treeOf reportOn zeros
 examples =
     -- A: admin permits; stevie denied on N[name=*]Q[identifier=BGP]
     (stevie (rule permits group "admin" "1" (nq "DEFAULT" "BGP")) (rule denies user "stevie" "2" (nq "*" "BGP")), permitBy 0)
@@ -119,6 +134,8 @@ examples =
     ∷ (matched (matches (bytes "*abc") (bytes "abc")), matched true)
     ∷ (matched (matches (bytes "*abc") (bytes "xabc")), matched true)
     ∷ (matched (matches (bytes "*abc") (bytes "abcx")), matched false)
+    -- "lines 1 and 257 are 1 and all others 0"
+    ∷ (reportOn "0101750002016100016200", reported Accepted (line "1" ++ zeros 255 ++ line "1" ++ zeros 5))
     ∷ []
 
 -- the one statement: the first of each pair is the second

@@ -5,6 +5,7 @@ pub mod PathReturn
 pub mod First
 pub mod Groups
 pub mod Verdicts
+pub mod Season
 pub mod Json
 pub mod Rpc
 pub mod Rotation

@@ -5,7 +5,7 @@ use mathlib.Core.Path.{_≡_}
 use mathlib.Core.Bool.{Bool, false}
 use mathlib.Core.Option.{Option, none, some}
 use lib.Dec.{eqb, leb}
-use Rattle.text.specs.Test.{_and_, if_then_else_}
+use Rattle.text.specs.Test.{_and_, _or_, if_then_else_}
 use Rattle.text.specs.String.{Str}
 use Rattle.path_read.specs.Calls.{bytesFor, textFor, answer}
 use Rattle.path_read.specs.declared.Filled.{Filled}
@@ -21,6 +21,9 @@ use Rattle.verdict_request.specs.declared.PathAnswer.{PathAnswer}
 use Rattle.verdict_request.specs.declared.PathAnswer.the-variants as path
 use Rattle.verdict_request.specs.declared.TreeAnswer.{TreeAnswer}
 use Rattle.verdict_request.specs.declared.TreeAnswer.the-variants as trees
+use Rattle.season.specs.Calls.{seasonAnswer}
+use Rattle.season.specs.declared.Reported.{Reported}
+use Rattle.season.specs.declared.Reported.the-variants as reported
 use Rattle.policy.specs.Policy.{policyRefusal}
 use Rattle.policy_check.specs.Answer.{checkOf}
 use Rattle.policy_check.specs.declared.check.Check.{Check}
@@ -35,7 +38,7 @@ use Rattle.rotation_probe.specs.Probe.{probePath, probeTree}
 use Rattle.rotation_probe.specs.Rpc.{probeRpc}
 use Rattle.rotation_probe.specs.declared.rpcs.RpcAnswer.{RpcAnswer}
 use Rattle.rotation_probe.specs.declared.rpcs.RpcAnswer.the-variants as probe
-use Rattle.burgee.specs.Calls.{PathRead, PathWrite, TableCheck, GroupCount, PathVerdict, TreeVerdict, PolicyCheck, RpcVerdict, word}
+use Rattle.burgee.specs.Calls.{PathRead, PathWrite, TableCheck, GroupCount, PathVerdict, TreeVerdict, SeasonReport, PolicyCheck, RpcVerdict, word}
 use Rattle.burgee.specs.Calls.{ProbePath, ProbeTree, ProbeRpc}
 use Rattle.promises.specs.Leaves.{publicly}
 
@@ -45,9 +48,9 @@ use Rattle.promises.specs.Leaves.{publicly}
 abbrev pub refusal : ℕ → ℕ
 refusal w = w % 2 ^ 8
 
--- burgee_answer_line: with numbers 1 to 9
+-- burgee_answer_line: with numbers 1 to 9, and 51
 unfoldable pub line : ℕ → ℕ
-line w = if leb 1 (refusal w) and leb (refusal w) 9 then w / 2 ^ 8 % 2 ^ 32 else 0
+line w = if leb 1 (refusal w) and leb (refusal w) 9 or eqb (refusal w) 51 then w / 2 ^ 8 % 2 ^ 32 else 0
 
 -- burgee_answer_accepted: the bits from 8 on; 0 of a refusal
 unfoldable pub accepted : ℕ → ℕ
@@ -124,6 +127,9 @@ treeBy n (some r) = if eqb n 2 then some (trees.Mixed (record { 0 = r })) else n
 abbrev pub toldTree : ℕ → Option TreeAnswer
 toldTree w = told (trees.Refused (refusal w) (line w)) (treeBy (tree w) (number w)) (beside (tree w) (number w)) w
 
+abbrev pub toldReported : ℕ → Option Reported
+toldReported w = told (reported.Refused (refusal w) (line w)) (some (reported.Length (filledLength w))) (filledLength w) w
+
 abbrev pub toldPolicy : ℕ → Option Check
 toldPolicy w = told (policy.Refused (refusal w)) (some policy.Accepted) 0 w
 
@@ -157,6 +163,7 @@ pub record Words : Type 0 where
       → toldPath (word (PathVerdict table user mode origin path)) ≡ some (pathVerdict table user mode origin path)
   pub tree-verdict : (table user : Str) (mode : ℕ) (origin path : Str)
       → toldTree (word (TreeVerdict table user mode origin path)) ≡ some (treeVerdict table user mode origin path)
+  pub season-report : (table log out : Str) → toldReported (word (SeasonReport table log out)) ≡ some (seasonAnswer table log out)
   pub policy-check : (policy : Str) → toldPolicy (word (PolicyCheck policy)) ≡ some (checkOf (policyRefusal policy))
   pub rpc-verdict : (policy identity path headers : Str)
       → toldRpc (word (RpcVerdict policy identity path headers)) ≡ some (rpcVerdict policy identity path headers)

@@ -17,7 +17,7 @@ use Rattle.table_line.specs.Lines.{lines}
 use Rattle.table.specs.Text.{check}
 use Rattle.table.specs.declared.Checked.{Checked}
 use Rattle.table.specs.declared.Checked.the-variants as checked
-use Rattle.readable_lines.specs.Lines.{lineBy}
+use Rattle.readable_lines.specs.Lines.{shownLine, packedLine, shownFor, packedFor, lineBy}
 use Rattle.readable.specs.Texts.{onward, ending, storing, stored, shownAs, showAnswer, showLent, madeAnswer, madeLent, packAnswer, packLent, packedEnd, packedTable}
 use Rattle.readable.specs.declared.Converted.{Converted}
 use Rattle.readable.specs.declared.Converted.the-variants as converted
@@ -39,9 +39,9 @@ module _ (t : Str) (out : List ℕ) (c : Checked) (i : c ≡ check t) where
   unfolding showAnswer showLent
   show-refused n l g = let h : check t ≡ checked.Refused n l = sym i ∙ g in (rw h, rw h)
 
-  module _ (g : c ≡ checked.Accepted) (out′ : List ℕ) (e : Ended) (x : e ≡ ending (lineBy false) (length out) 1 0 (lines t)) (y : out′ ≡ put out 0 (stored (lineBy false) (length out) 0 (lines t))) where
+  module _ (g : c ≡ checked.Accepted) (out′ : List ℕ) (e : Ended) (x : e ≡ ending (lineBy false false) (length out) 1 0 (lines t)) (y : out′ ≡ put out 0 (stored (lineBy false false) (length out) 0 (lines t))) where
     pub show-ended : (r : Converted) → r ≡ shownAs e → (r ≡ showAnswer (check t) t out) × (out′ ≡ showLent (check t) t out)
-    unfolding showAnswer showLent lineBy if_then_else_
+    unfolding showAnswer showLent lineBy shownFor shownLine if_then_else_
     show-ended r k = let h : check t ≡ checked.Accepted = sym i ∙ g in (k ∙ rw (h, x), rw h y)
 
     pub show-all : (n : ℕ) → e ≡ ended.All n → (converted.Length n ≡ showAnswer (check t) t out) × (out′ ≡ showLent (check t) t out)
@@ -93,9 +93,9 @@ module _ (g : Str → Option Str) (room : ℕ) where
           rw (j, u) (omega (arith, r .0, length-append w (stored g room (at + length w) ls)), r .1))
           (λ u. let k′ : ended.Full ≡ ended.All m = rw u at k in let z : _≡_ {A = ℕ} 0 1 = cc in absurd (omega arith))
 
-module _ (text : Str) (out z table : List ℕ) (e : Ended) (x : e ≡ ending (lineBy true) (length z) 1 0 (lines text)) (y : table ≡ put z 0 (stored (lineBy true) (length z) 0 (lines text))) (l : length z ≡ maxTableText) where
+module _ (text : Str) (out z table : List ℕ) (e : Ended) (x : e ≡ ending (lineBy false true) (length z) 1 0 (lines text)) (y : table ≡ put z 0 (stored (lineBy false true) (length z) 0 (lines text))) (l : length z ≡ maxTableText) where
   end-is : packedEnd text ≡ e
-  unfolding packedEnd lineBy if_then_else_
+  unfolding packedEnd lineBy packedFor packedLine if_then_else_
   end-is = sym (rw l at x)
 
   pub pack-unread : (n : ℕ) → e ≡ ended.Unread n → (converted.Unread n ≡ packAnswer (packedEnd text) (packedTable text) out) × (out ≡ packLent (packedEnd text) (packedTable text) out)
@@ -107,14 +107,14 @@ module _ (text : Str) (out z table : List ℕ) (e : Ended) (x : e ≡ ending (li
   pack-full g = (rw (end-is, g), rw (end-is, g))
 
   module _ (n : ℕ) (g : e ≡ ended.All n) where
-    sizes : (n ≡ 0 + length (stored (lineBy true) (length z) 0 (lines text))) × (n ≤ length z)
-    sizes = stored-length (lineBy true) (length z) (lines text) 1 0 n (omega arith) (sym x ∙ g)
+    sizes : (n ≡ 0 + length (stored (lineBy false true) (length z) 0 (lines text))) × (n ≤ length z)
+    sizes = stored-length (lineBy false true) (length z) (lines text) 1 0 n (omega arith) (sym x ∙ g)
 
     pub pack-size : n ≤ maxTableText
     pack-size = omega (arith, sizes .1)
 
     table-is : take n table ≡ packedTable text
-    unfolding packedTable lineBy if_then_else_
+    unfolding packedTable lineBy packedFor packedLine if_then_else_
     table-is = rw l at (front z _ table n (record { ends = sizes .0; same = y }))
 
     pub pack-made : (r : Converted) (out′ : List ℕ) → (r ≡ madeAnswer (check (take n table)) (take n table) out) × (out′ ≡ madeLent (check (take n table)) (take n table) out)

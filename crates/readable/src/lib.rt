@@ -33,14 +33,14 @@ pub enum Ended {
 // Converts the lines one after another into out.
 fn convert_lines(packing: bool, text: &[u8], out: &mut [u8]) -> Ended
     requires { ⌜ (packing ≡ false → length (now text) ≤ maxTableText) ⌝ }
-    ensures { λ r. ⌜ Converts (lineBy packing) (now (text .entry)) (now (out .entry)) (now (out .exit)) r ⌝ }
+    ensures { λ r. ⌜ Converts (lineBy false packing) (now (text .entry)) (now (out .entry)) (now (out .exit)) r ⌝ }
 {
     let mut piece = [0u8; readable_lines::MAX_MADE_LINE];
     let mut from = 0;
     let mut at = 0;
     let mut number = 1;
     while from < text.len() {
-        let s = readable_lines::convert_line(packing, text, from, &mut piece);
+        let s = readable_lines::convert_line(false, packing, text, from, &mut piece);
         let Stored::To { next, end } = s else {
             return Ended::Unread { line: number };
         };

@@ -17,7 +17,7 @@ use Rattle.text.proofs.Tests.{by, clash}
 use Rattle.text.proofs.Codec.{never-got, then-got, got-move, Took}
 use Rattle.table.specs.Frame.{whole}
 use Rattle.readable_parts.specs.Parts.{Parts, partOf, shownTime, shownPlain, shown, packed}
-use Rattle.readable_lines.specs.Form.{parts, formBy, printed, shownFrame, kindBy, packedFrame}
+use Rattle.readable_lines.specs.Form.{parts, formBy, printed, shownBy, shownFrame, kindBy, packedBy, packedFrame}
 use Rattle.readable_parts.proofs.Showing.{is-string, is-time, is-path, is-action, is-mode, is-subject, is-plain}
 use Rattle.readable_lines.proofs.Converting.{kind-version, kind-group, kind-member, kind-rule, kind-none}
 use Rattle.readable_laws.proofs.Inverse.{Back, BackLast, isLast, proper, parts-back, parts-inside}
@@ -71,7 +71,7 @@ module _ (c : ℕ) (l : isLast c ≡ true) where
       by (eqb c 84) (λ u. rw (is-time packed c (eqb-true _ _ u) .0, is-time shown c (eqb-true _ _ u) .0) time-shown)
       (λ u. rw (is-path packed c (the-path u) .0, is-path shown c (the-path u) .0) (path-shown Small))
 
--- ---- every kind
+-- ---- every form
 
 time-inside : (f : Str) (at : ℕ) (w : Str) (t : ℕ) → shownTime f at ≡ got w t → t ≤ length f
 unfolding shownTime if_then_else_
@@ -89,37 +89,50 @@ shown-stays c s at b t l e =
 packed-stays : (c : ℕ) (s : Str) (at : ℕ) (b : Str) (t : ℕ) → at ≤ length s → partOf packed c s at ≡ got b t → t ≤ length s
 packed-stays c s at b t l e = by (isLast c) (λ u. packed-last c u Any s at b t _ l e .1 .fits) (λ u. packed-each c u Any s at b t _ l e .1 .fits)
 
-abbrev Returns : (Str → Type 0) → Parts → Parts → ℕ → Type 0
-Returns P p q k = (s : Str) (at : ℕ) (b : Str) (t : ℕ) → P s → at ≤ length s → formBy p k s at ≡ got b t
-    → (w : Str) × Took s at w t × ((f : Str) (j : ℕ) → j ≤ length f → drop j f ≡ b → formBy q k f j ≡ got w (length f))
+-- what r reads, at an end of a source that passes P, is read back by r′ where it stands last
+abbrev pub Returns : (Str → Type 0) → Reader Str → Reader Str → Type 0
+Returns P r r′ = (s : Str) (at : ℕ) (b : Str) (t : ℕ) → P s → at ≤ length s → r s at ≡ got b t
+    → (w : Str) × Took s at w t × ((f : Str) (j : ℕ) → j ≤ length f → drop j f ≡ b → r′ f j ≡ got w (length f))
 
 module _ (P : Str → Type 0) (p q : Parts) (each : (c : ℕ) → isLast c ≡ false → Back P (partOf p c) (partOf q c)) (last : (c : ℕ) → isLast c ≡ true → BackLast P (partOf p c) (partOf q c))
-    (stays : (c : ℕ) (s : Str) (at : ℕ) (b : Str) (t : ℕ) → at ≤ length s → partOf q c s at ≡ got b t → t ≤ length s) (k : ℕ) where
-  by-form : (form : Str) → proper form ≡ true → ((r : Parts) (s : Str) (at : ℕ) → formBy r k s at ≡ parts r form s at) → Returns P p q k
-  by-form form h i s at b t x l e =
-      let m = parts-back P p q each last form h s at b t x l (sym (i p s at) ∙ e) in (
+    (stays : (c : ℕ) (s : Str) (at : ℕ) (b : Str) (t : ℕ) → at ≤ length s → partOf q c s at ≡ got b t → t ≤ length s) where
+  form-back : (form : Str) → proper form ≡ true → Returns P (parts p form) (parts q form)
+  form-back form h s at b t x l e =
+      let m = parts-back P p q each last form h s at b t x l e in (
         m .0,
         m .1,
         λ f j o g. let n = m .2 f j g in
             let u = parts-inside q stays form f j (m .0) (n .0) o (n .1) in
             let v : length f - n .0 ≡ 0 = sym (length-drop (n .0) f) ∙ ap length (n .2) in
             let y : n .0 ≡ length f = omega arith in
-            i q f j ∙ n .1 ∙ ap (got (m .0)) y,
+            n .1 ∙ ap (got (m .0)) y,
       )
 
-  forms-back : Returns P p q k
-  forms-back s at b t x l e =
-      by (eqb k 1) (λ u. by-form (bytes "version S time T") (unfold proper _and_ in refl) (λ r s at. kind-version r k s at (eqb-true _ _ u)) s at b t x l e)
-      (λ u₁. by (eqb k 2) (λ u. by-form (bytes "group S") (unfold proper _and_ in refl) (λ r s at. kind-group r k s at (eqb-true _ _ u)) s at b t x l e)
-      (λ u₂. by (eqb k 3) (λ u. by-form (bytes "member S S") (unfold proper _and_ in refl) (λ r s at. kind-member r k s at (eqb-true _ _ u)) s at b t x l e)
-      (λ u₃. by (eqb k 4) (λ u. by-form (bytes "rule A M K S id S origin S P") (unfold proper _and_ in refl) (λ r s at. kind-rule r k s at (eqb-true _ _ u)) s at b t x l e)
-      (λ u₄. never-got (kind-none p k s at (eqb-false _ _ u₁) (eqb-false _ _ u₂) (eqb-false _ _ u₃) (eqb-false _ _ u₄)) e))))
+  module _ (k : ℕ) where
+    by-form : (form : Str) → proper form ≡ true → ((r : Parts) (s : Str) (at : ℕ) → formBy r k s at ≡ parts r form s at) → Returns P (formBy p k) (formBy q k)
+    by-form form h i s at b t x l e =
+        let m = form-back form h s at b t x l (sym (i p s at) ∙ e) in
+        (m .0, m .1, λ f j o g. i q f j ∙ m .2 f j o g)
 
-pub packed-back : (k : ℕ) → Returns Any packed shown k
-packed-back k = forms-back Any packed shown (λ c l. packed-each c l Any) (λ c l. packed-last c l Any) shown-stays k
+    kind-back : Returns P (formBy p k) (formBy q k)
+    kind-back s at b t x l e =
+        by (eqb k 1) (λ u. by-form (bytes "version S time T") (unfold proper _and_ in refl) (λ r s at. kind-version r k s at (eqb-true _ _ u)) s at b t x l e)
+        (λ u₁. by (eqb k 2) (λ u. by-form (bytes "group S") (unfold proper _and_ in refl) (λ r s at. kind-group r k s at (eqb-true _ _ u)) s at b t x l e)
+        (λ u₂. by (eqb k 3) (λ u. by-form (bytes "member S S") (unfold proper _and_ in refl) (λ r s at. kind-member r k s at (eqb-true _ _ u)) s at b t x l e)
+        (λ u₃. by (eqb k 4) (λ u. by-form (bytes "rule A M K S id S origin S P") (unfold proper _and_ in refl) (λ r s at. kind-rule r k s at (eqb-true _ _ u)) s at b t x l e)
+        (λ u₄. never-got (kind-none p k s at (eqb-false _ _ u₁) (eqb-false _ _ u₂) (eqb-false _ _ u₃) (eqb-false _ _ u₄)) e))))
 
-pub shown-back : (k : ℕ) → Returns Small shown packed k
-shown-back k = forms-back Small shown packed (λ c l. shown-each c l Small) shown-last packed-stays k
+pub packed-form : (form : Str) → proper form ≡ true → Returns Any (parts packed form) (parts shown form)
+packed-form = form-back Any packed shown (λ c l. packed-each c l Any) (λ c l. packed-last c l Any) shown-stays
+
+pub shown-form : (form : Str) → proper form ≡ true → Returns Small (parts shown form) (parts packed form)
+shown-form = form-back Small shown packed (λ c l. shown-each c l Small) shown-last packed-stays
+
+packed-kind : (k : ℕ) → Returns Any (formBy packed k) (formBy shown k)
+packed-kind = kind-back Any packed shown (λ c l. packed-each c l Any) (λ c l. packed-last c l Any) shown-stays
+
+shown-kind : (k : ℕ) → Returns Small (formBy shown k) (formBy packed k)
+shown-kind = kind-back Small shown packed (λ c l. shown-each c l Small) shown-last packed-stays
 
 -- ---- frames
 
@@ -139,29 +152,50 @@ printed-some (some v) w e =
     (λ u. let i : some v ≡ some w = rw u at e in let j : v ≡ w = cc in (i, rw j at u))
     (λ u. let i : none ≡ some w = rw u at e in let z : _≡_ {A = ℕ} 0 1 = cc in absurd (omega arith))
 
+whole-got : (s w : Str) → whole s (got w (length s)) ≡ some w
+unfolding whole if_then_else_
+whole-got s w = rw (eq-eqb (length s) (length s) refl)
+
+-- what was taken whole is all there is
+pub took-all : (s w : Str) → Took s 0 w (length s) → s ≡ w
+took-all s w t = t .same ∙ ap (λ (z : Str). w ++ z) (drop-length s) ∙ append-nil w
+
+-- a line that r packs, and that stands at the end of a frame so, is shown by r′
+pub pack-show-by : (r r′ : Reader Str) → Returns Any r r′ → (s b f : Str) (at : ℕ) → at ≤ length f → drop at f ≡ b → packedBy r s ≡ some b → shownBy r′ at f ≡ some s
+unfolding packedBy shownBy whole printed if_then_else_
+pack-show-by r r′ back s b f at l d e =
+    by (all isPrint s)
+    (λ u. let g = whole-some s (r s 0) b (rw u at e) in
+    let m = back s 0 b (length s) _ (omega arith) g in
+    let n = m .2 f at l d in
+    let w : s ≡ m .0 = took-all s (m .0) (m .1) in
+    let v : all isPrint (m .0) ≡ true = rw w at u in
+    rw (n, eq-eqb (length f) (length f) refl, v) (ap some (sym w)))
+    (λ u. let i : none ≡ some b = rw u at e in let z : _≡_ {A = ℕ} 0 1 = cc in absurd (omega arith))
+
+-- what r shows of the end of a frame is packed to it by r′
+pub show-pack-by : (r r′ : Reader Str) → Returns Small r r′ → (f : Str) (at : ℕ) → at ≤ length f → Small f → (s : Str) → shownBy r at f ≡ some s → packedBy r′ s ≡ some (drop at f)
+unfolding packedBy shownBy if_then_else_
+show-pack-by r r′ back f at l x s e =
+    let p = printed-some (whole f (r f at)) s e in
+    let m = back f at s (length f) x l (whole-some f (r f at) s (p .0)) in
+    let n = m .2 s 0 (omega arith) refl in
+    let i : drop at f ≡ m .0 = m .1 .same ∙ ap (λ (z : Str). m .0 ++ z) (drop-length f) ∙ append-nil (m .0) in
+    rw (p .1, n) (whole-got s (m .0) ∙ ap some (sym i))
+
+-- ---- frames of a table
+
 headed-some : (k : ℕ) (o : Option Str) (f : Str) → Option·map (λ (g : Str). k ∷ g) o ≡ some f → (b : Str) × (o ≡ some b) × (f ≡ k ∷ b)
 headed-some k none f e = let z : _≡_ {A = ℕ} 0 1 = cc in absurd (omega arith)
 headed-some k (some b) f e = let i : f ≡ k ∷ b = cc in (b, refl, i)
 
--- what was taken whole is all there is
-took-all : (s w : Str) → Took s 0 w (length s) → s ≡ w
-took-all s w t = t .same ∙ ap (λ (z : Str). w ++ z) (drop-length s) ∙ append-nil w
-
 -- a frame that a readable line packs to is shown as that line
 pub pack-show : (s f : Str) → packedFrame s ≡ some f → shownFrame f ≡ some s
-unfolding packedFrame shownFrame whole printed if_then_else_
+unfolding packedFrame shownFrame
 pack-show s f e =
-    by (all isPrint s)
-    (λ u. let k = kindBy (getD s 0 0) in
-    let h = headed-some k (whole s (formBy packed k s 0)) f (rw u at e) in
-    let g = whole-some s (formBy packed k s 0) (h .0) (h .1) in
-    let m = packed-back k s 0 (h .0) (length s) _ (omega arith) g in
-    let n = m .2 (k ∷ h .0) 1 (omega arith) refl in
-    let w : s ≡ m .0 = took-all s (m .0) (m .1) in
-    let v : all isPrint (m .0) ≡ true = rw w at u in
-    let q : shownFrame (k ∷ h .0) ≡ some (m .0) = rw (n, eq-eqb (length (k ∷ h .0)) (length (k ∷ h .0)) refl, v) in
-    ap shownFrame (h .2) ∙ q ∙ ap some (sym w))
-    (λ u. let i : none ≡ some f = rw u at e in let z : _≡_ {A = ℕ} 0 1 = cc in absurd (omega arith))
+    let k = kindBy (getD s 0 0) in
+    let h = headed-some k (packedBy (formBy packed k) s) f e in
+    rw (h .2) (pack-show-by (formBy packed k) (formBy shown k) (packed-kind k) s (h .0) (k ∷ h .0) 1 (omega arith) refl (h .1))
 
 -- ---- the first letter tells the kind
 
@@ -188,16 +222,13 @@ letter k f at w t e =
 -- ---- the line of a frame packs to that frame
 
 pub show-pack : (f s : Str) → Small f → shownFrame f ≡ some s → packedFrame s ≡ some f
-unfolding packedFrame shownFrame whole if_then_else_
+unfolding packedFrame shownFrame shownBy
 show-pack [] s m e =
     let p = printed-some (whole [] (formBy shown 0 [] 1)) s e in
     never-got (kind-none shown 0 [] 1 (λ z. omega arith) (λ z. omega arith) (λ z. omega arith) (λ z. omega arith)) (whole-some [] (formBy shown 0 [] 1) s (p .0))
 show-pack (k ∷ g) s m e =
     let p = printed-some (whole (k ∷ g) (formBy shown k (k ∷ g) 1)) s e in
     let w = whole-some (k ∷ g) (formBy shown k (k ∷ g) 1) s (p .0) in
-    let r = shown-back k (k ∷ g) 1 s (length (k ∷ g)) m (omega arith) w in
-    let n = r .2 s 0 (omega arith) refl in
-    let i : g ≡ r .0 = r .1 .same ∙ ap (λ (z : Str). r .0 ++ z) (drop-length (k ∷ g)) ∙ append-nil (r .0) in
     let j = letter k (k ∷ g) 1 s (length (k ∷ g)) w in
-    let q : packedFrame s ≡ some (k ∷ r .0) = rw (p .1, j, n, eq-eqb (length s) (length s) refl) in
-    q ∙ ap (λ (z : Str). some (k ∷ z)) (sym i)
+    let q : packedBy (formBy packed k) s ≡ some g = show-pack-by (formBy shown k) (formBy packed k) (shown-kind k) (k ∷ g) 1 (omega arith) m s (unfold shownBy in e) in
+    rw (j, q)

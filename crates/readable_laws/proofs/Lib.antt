@@ -4,7 +4,11 @@ pub mod Return
 pub mod Times
 pub mod Frames
 pub mod Texts
+pub mod Printing
+pub mod Forward
 pub mod Accepted
 pub mod Longest
 pub mod Promise
+pub mod LogLines
+pub mod LogLengths
 pub mod Examples

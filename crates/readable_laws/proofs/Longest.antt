@@ -28,8 +28,8 @@ use Rattle.table.specs.Text.{unless, judge, check}
 use Rattle.table.specs.declared.Checked.the-variants.{Accepted, Refused}
 use Rattle.table.proofs.Numbers.{refusal-clear}
 use Rattle.readable_parts.specs.Parts.{partOf, rest, ofRest, quoted, hexText, shownString, shownTime, shownPath, shownCode, shownPlain, shown}
-use Rattle.readable_lines.specs.Form.{parts, formBy, shownFrame}
-use Rattle.readable_lines.specs.Lines.{shownLine}
+use Rattle.readable_lines.specs.Form.{parts, formBy, shownBy, shownFrame}
+use Rattle.readable_lines.specs.Lines.{shownLineBy, shownLine}
 use Rattle.readable.specs.Texts.{onward, ending}
 use Rattle.readable.specs.declared.Ended.the-variants as ended
 use Rattle.readable_parts.proofs.Digits.{hex-length}
@@ -172,7 +172,7 @@ module _ (f : Str) (e : Entry) (w : Str) where
       (λ u₄. never-got refl (rw (u₁, u₂, u₃, u₄) at h)))))
 
 line-longer : (l f r : Str) (e : Entry) → frame l ≡ some f → entryOf f ≡ some e → shownLine l ≡ some r → length r ≤ length l + slack e
-unfolding shownLine shownFrame
+unfolding shownLine shownLineBy shownFrame shownBy
 line-longer l f r e i j k =
     let t = frame-text l f i in
     let a = lined-some (bind (frame l) shownFrame) r k in

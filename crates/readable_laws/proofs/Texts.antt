@@ -20,12 +20,12 @@ use Rattle.table.specs.Refusal.{decoded, lineOf, Earlier, refusal, first, after
 use Rattle.table.specs.Text.{unless, judge, check}
 use Rattle.table.specs.declared.Checked.the-variants.{Accepted, Refused}
 use Rattle.readable_parts.specs.Parts.{hexDigit, hexPair, hexText}
-use Rattle.readable_lines.specs.Form.{shownFrame, packedFrame}
-use Rattle.readable_lines.specs.Lines.{lined, unlined, shownLine, packedLine}
+use Rattle.readable_lines.specs.Form.{shownBy, shownFrame, packedFrame}
+use Rattle.readable_lines.specs.Lines.{lined, unlined, shownLineBy, packedLineBy, shownLine, packedLine}
 use Rattle.readable.specs.Texts.{onward, ending, storing, stored, packedEnd, packedTable}
 use Rattle.readable.specs.declared.Ended.the-variants as ended
 use Rattle.readable_lines.proofs.Lining.{unlined-line}
-use Rattle.readable_laws.proofs.HexLines.{frame-text}
+use Rattle.readable_laws.proofs.HexLines.{Small, frame-text}
 use Rattle.readable_laws.proofs.Times.{lines-text, snoc-same, hex-line}
 use Rattle.readable_laws.proofs.Frames.{pack-show, show-pack, printed-some}
 
@@ -45,19 +45,23 @@ hexed-some : (o : Option Str) (r : Str) → Option·map hexText o ≡ some r →
 hexed-some none r e = let z : _≡_ {A = ℕ} 0 1 = cc in absurd (omega arith)
 hexed-some (some f) r e = let i : r ≡ hexText f = cc in (f, refl, i)
 
--- ---- a line of the table, shown and packed again
+-- ---- a hex line, shown and packed again
+
+pub line-back : (show pack : Str → Option Str) → ((f s : Str) → Small f → show f ≡ some s → pack s ≡ some f) → (l r : Str) → shownLineBy show l ≡ some r → packedLineBy pack r ≡ some l
+unfolding shownLineBy packedLineBy
+line-back show pack back l r e =
+    let a = lined-some (bind (frame l) show) r e in
+    let b = then-some (frame l) show (a .0) (a .1) in
+    let t = frame-text l (b .0) (b .1) in
+    let p = back (b .0) (a .0) (t .1) (b .2) in
+    rw (a .2) (forth (a .0) (b .0) p ∙ ap some (sym (t .0)))
+  where
+    forth : (s f : Str) → pack s ≡ some f → lined (Option·map hexText (bind (unlined (s ++ (10 ∷ []))) pack)) ≡ some (hexText f ++ (10 ∷ []))
+    forth s f p = unfold lined bind in rw (unlined-line s, p)
 
 pub line-show-pack : (l r : Str) → shownLine l ≡ some r → packedLine r ≡ some l
 unfolding shownLine packedLine
-line-show-pack l r e =
-    let a = lined-some (bind (frame l) shownFrame) r e in
-    let b = then-some (frame l) shownFrame (a .0) (a .1) in
-    let t = frame-text l (b .0) (b .1) in
-    let p = show-pack (b .0) (a .0) (t .1) (b .2) in
-    rw (a .2) (back (a .0) (b .0) p ∙ ap some (sym (t .0)))
-  where
-    back : (s f : Str) → packedFrame s ≡ some f → lined (Option·map hexText (bind (unlined (s ++ (10 ∷ []))) packedFrame)) ≡ some (hexText f ++ (10 ∷ []))
-    back s f p = unfold lined bind in rw (unlined-line s, p)
+line-show-pack = line-back shownFrame packedFrame show-pack
 
 -- ---- a whole table, shown and packed again
 
@@ -72,7 +76,7 @@ print-line (x ∷ s) more h = rw (no-LF x (and-l _ _ h), print-line s more (and-
 
 -- the first line of what begins with a readable line
 shown-first : (l r more : Str) → shownLine l ≡ some r → lines (r ++ more) ≡ r ∷ lines more
-unfolding shownLine shownFrame
+unfolding shownLine shownLineBy shownFrame shownBy
 shown-first l r more e =
     let a = lined-some (bind (frame l) shownFrame) r e in
     let b = then-some (frame l) shownFrame (a .0) (a .1) in
@@ -189,26 +193,31 @@ unlined-some (x ∷ r) s e =
     (λ u. let i : none ≡ some s = rw u at e in let z : _≡_ {A = ℕ} 0 1 = cc in absurd (omega arith))
 
 -- what a packed line is
-packed-told : (r l : Str) → packedLine r ≡ some l → (s : Str) × (f : Str) × (r ≡ s ++ (10 ∷ [])) × (packedFrame s ≡ some f) × (l ≡ hexText f ++ (10 ∷ []))
-unfolding packedLine
-packed-told r l e =
-    let a = lined-some (Option·map hexText (bind (unlined r) packedFrame)) l e in
-    let b = hexed-some (bind (unlined r) packedFrame) (a .0) (a .1) in
-    let c = then-some (unlined r) packedFrame (b .0) (b .1) in
+pub packed-told : (pack : Str → Option Str) (r l : Str) → packedLineBy pack r ≡ some l → (s : Str) × (f : Str) × (r ≡ s ++ (10 ∷ [])) × (pack s ≡ some f) × (l ≡ hexText f ++ (10 ∷ []))
+unfolding packedLineBy
+packed-told pack r l e =
+    let a = lined-some (Option·map hexText (bind (unlined r) pack)) l e in
+    let b = hexed-some (bind (unlined r) pack) (a .0) (a .1) in
+    let c = then-some (unlined r) pack (b .0) (b .1) in
     (c .0, b .0, unlined-some r (c .0) (c .1), c .2, a .2 ∙ ap (λ (z : Str). z ++ (10 ∷ [])) (b .2))
 
-pub line-pack-show : (r l g : Str) → packedLine r ≡ some l → frame l ≡ some g → shownLine l ≡ some r
-unfolding shownLine bind
-line-pack-show r l g e h =
-    let a = packed-told r l e in
+pub line-forth : (show pack : Str → Option Str) → ((s f : Str) → pack s ≡ some f → show f ≡ some s) → (r l g : Str) → packedLineBy pack r ≡ some l → frame l ≡ some g → shownLineBy show l ≡ some r
+unfolding shownLineBy bind
+line-forth show pack back r l g e h =
+    let a = packed-told pack r l e in
     let t = frame-text l g h in
     let i : a .1 ≡ g = hex-same (a .1) g (snoc-same (hexText (a .1)) (hexText g) 10 (sym (a .4) ∙ t .0)) in
-    let p : shownFrame g ≡ some (a .0) = ap shownFrame (sym i) ∙ pack-show (a .0) (a .1) (a .3) in
+    let p : show g ≡ some (a .0) = ap show (sym i) ∙ back (a .0) (a .1) (a .3) in
     rw (h, p) (unfold lined in ap some (sym (a .2)))
 
+pub line-pack-show : (r l g : Str) → packedLine r ≡ some l → frame l ≡ some g → shownLine l ≡ some r
+unfolding shownLine packedLine
+line-pack-show = line-forth shownFrame packedFrame pack-show
+
 packed-first : (r l more : Str) → packedLine r ≡ some l → lines (l ++ more) ≡ l ∷ lines more
+unfolding packedLine
 packed-first r l more e =
-    let a = packed-told r l e in
+    let a = packed-told packedFrame r l e in
     rw (a .4, append-assoc (hexText (a .1)) (10 ∷ []) more) (hex-line (a .1) more)
 
 -- every line is the hex line of a frame

@@ -1,1 +1,2 @@
-// Laws only: `show` and `pack` are each other's inverse, every line of an accepted table is shown, and how long a readable text can be.
+// Laws only: `show` and `pack` are each other's inverse, of tables and of the lines of a log, every line of an accepted table is shown, and how long a
+// readable text can be.

@@ -2,27 +2,29 @@
 use mathlib.Core.Path.{_≡_, refl, sym, ap, _∙_}
 use mathlib.Core.Bool.{true, false}
 use mathlib.Core.List.{List, [], _∷_, _++_, append-assoc, append-nil}
-use mathlib.Core.Option.{none, some}
+use mathlib.Core.Option.{Option, none, some, Option·map}
 use Prim.Native.Nat.{ℕ, _+_, _≤_, _<_}
 use native.Mathlib.Numerals.{add-one}
 use native.Mathlib.Omega.{arith}
 use borrow.Author.Tests.{eq-eqb, ne-eqb}
+use lib.Dec.{eqb}
 use lib.ListN.{length, take, drop, getD, set, length-append, drop-of-length-le}
 use lib.Seq.{drop-cons}
 use Rattle.limits.specs.Sizes.{maxReadableLine}
-use Rattle.text.specs.Test.{if_then_else_, all}
+use Rattle.text.specs.Test.{_and_, if_then_else_, all}
 use Rattle.text.specs.Byte.{isPrint}
 use Rattle.text.specs.String.{Str, bytes}
-use Rattle.text.specs.Frame.{Parsed, got, unread, andThen, _>>=_, ret}
+use Rattle.text.specs.Frame.{Parsed, got, unread, andThen, Reader, _>>=_, ret}
 use Rattle.text.specs.Steps.{Wrote}
+use Rattle.text.proofs.Tests.{by}
 use Rattle.text.proofs.Filling.{wrote-long, wrote-more, wrote-nothing, wrote-before}
 use Rattle.path_read.specs.declared.reader.Stored.{Stored}
 use Rattle.path_read.specs.declared.reader.Stored.the-variants.{To, Unread}
 use Rattle.table.specs.Frame.{unknown, whole}
 use Rattle.readable_parts.specs.Parts.{Parts, partOf}
-use Rattle.readable_lines.specs.Form.{parts, formBy, printed, shownFrame, kindBy, packedFrame}
-use Rattle.readable_parts.specs.Steps.{longest, Puts, puts}
-use Rattle.readable_lines.specs.Steps.{maxMadeFrame, partsBy, roomFor, Fills, fills}
+use Rattle.readable_lines.specs.Form.{parts, formBy, requestForm, printed, shownBy, shownFrame, kindBy, packedBy, packedFrame}
+use Rattle.readable_parts.specs.Steps.{longest, Puts, puts, stops}
+use Rattle.readable_lines.specs.Steps.{maxMadeFrame, partsBy, roomFor, Fills, fills, nothing, storedEnd, closed}
 use Rattle.readable_parts.proofs.Stored.{put-to, put-not, front}
 
 -- ---- parts
@@ -145,72 +147,81 @@ pub room-rule : roomFor (bytes "rule A M K S id S origin S P") ≤ maxReadableLi
 unfolding roomFor longest if_then_else_
 room-rule = omega arith
 
--- ---- frames
+pub room-request : roomFor requestForm ≤ maxReadableLine
+unfolding roomFor longest if_then_else_
+room-request = omega arith
 
-module _ (f : Str) where
-  pub frame-empty : length f ≤ 0 → shownFrame f ≡ none
-  frame-empty h = go f h
-    where
-      go : (g : Str) → length g ≤ 0 → shownFrame g ≡ none
-      go [] h = unfold shownFrame formBy if_then_else_ unknown whole printed in refl
-      go (x ∷ g) h = absurd (omega arith)
+-- ---- frames, shown
 
-  module _ (d d′ : List ℕ) (r : Stored) (e : Puts maxReadableLine (formBy (partsBy false) (getD f 0 0)) f 1 d 0 d′ r) where
-    pub frame-unread : r ≡ Unread → shownFrame f ≡ none
-    unfolding shownFrame whole printed partsBy if_then_else_
-    frame-unread g = rw (put-not e g)
+module _ (r : Reader Str) (f : Str) (at : ℕ) where
+  pub shown-room : {d d′ : List ℕ} {q : Stored} → Puts maxReadableLine r f at d 0 d′ q → maxMadeFrame ≤ length d → storedEnd q ≤ length d′
+  unfolding storedEnd
+  shown-room (puts {w = w} {d = d} {d′ = d′} {end = end} i v b l) h = omega (arith, v .ends, wrote-long d 0 w d′ end v (omega (arith, b)), b)
+  shown-room (stops i) h = omega arith
 
-    module _ (next end : ℕ) (g : r ≡ To next end) where
-      pub frame-front : take end d′ ≡ put-to e g .0
-      frame-front = front d (put-to e g .0) d′ end (put-to e g .2)
+  pub shown-fills : {d d′ : List ℕ} {q : Stored} → Puts maxReadableLine r f at d 0 d′ q → Fills (shownBy r at f) d d′ (closed (length f) d′ q)
+  unfolding shownBy whole printed closed _and_ if_then_else_
+  shown-fills (puts {w = w} {t = t} {d = d} {d′ = d′} {end = end} i v b l) =
+      let k : take end d′ ≡ w = front d w d′ end v in
+      by (eqb t (length f))
+      (λ u. by (all isPrint w) (λ p. rw (i, u, k, p) (fills v (omega (arith, v .ends, b)))) (λ p. rw (i, u, k, p) nothing))
+      (λ u. rw (i, u) nothing)
+  shown-fills (stops i) = rw i nothing
 
-      pub frame-longer : (next ≡ length f → ⊥) → shownFrame f ≡ none
-      unfolding shownFrame whole printed partsBy if_then_else_
-      frame-longer n = rw (put-to e g .1, ne-eqb _ _ n)
+pub frame-empty : (f : Str) → length f ≤ 0 → shownFrame f ≡ none
+frame-empty [] h = unfold shownFrame shownBy formBy if_then_else_ unknown whole printed in refl
+frame-empty (x ∷ f) h = absurd (omega arith)
 
-      pub frame-strange : next ≡ length f → all isPrint (take end d′) ≡ false → shownFrame f ≡ none
-      unfolding shownFrame whole printed partsBy if_then_else_
-      frame-strange n b = let a = rw frame-front at b in rw (put-to e g .1, eq-eqb _ _ n, a)
+pub frame-fills : (f : Str) {d d′ : List ℕ} {q : Stored} → Puts maxReadableLine (formBy (partsBy false) (getD f 0 0)) f 1 d 0 d′ q → Fills (shownFrame f) d d′ (closed (length f) d′ q)
+unfolding shownFrame partsBy if_then_else_
+frame-fills f e = shown-fills _ f 1 e
 
-      pub frame-is : next ≡ length f → all isPrint (take end d′) ≡ true → shownFrame f ≡ some (put-to e g .0)
-      unfolding shownFrame whole printed partsBy if_then_else_
-      frame-is n b = let a = rw frame-front at b in rw (put-to e g .1, eq-eqb _ _ n, a)
+-- ---- readable lines, packed
 
-      pub frame-short : end ≤ maxReadableLine
-      frame-short = let u = put-to e g in omega (arith, u .2 .ends, u .3)
+module _ (r : Reader Str) (s : Str) where
+  pub packed-strange : all isPrint s ≡ false → packedBy r s ≡ none
+  unfolding packedBy if_then_else_
+  packed-strange e = rw e
 
-      pub frame-fills : next ≡ length f → all isPrint (take end d′) ≡ true → Fills (shownFrame f) d d′ (To next end)
-      frame-fills n b = let u = put-to e g in rw (frame-is n b) (fills (u .2) (omega (arith, frame-short)))
+  module _ (a : all isPrint s ≡ true) {most to : ℕ} {d d′ : List ℕ} {q : Stored} (e : Puts most r s 0 d to d′ q) where
+    pub packed-unread : q ≡ Unread → packedBy r s ≡ none
+    unfolding packedBy whole if_then_else_
+    packed-unread g = rw (a, put-not e g)
 
--- ---- readable lines
+    module _ {next end : ℕ} (g : q ≡ To next end) where
+      pub packed-longer : (next ≡ length s → ⊥) → packedBy r s ≡ none
+      unfolding packedBy whole if_then_else_
+      packed-longer n = rw (a, put-to e g .1, ne-eqb _ _ n)
+
+      pub packed-is : next ≡ length s → packedBy r s ≡ some (put-to e g .0)
+      unfolding packedBy whole if_then_else_
+      packed-is n = rw (a, put-to e g .1, eq-eqb _ _ n)
 
 module _ (s : Str) where
+  -- the kind byte before what is packed
+  kinded : (k : ℕ) → k ≡ kindBy (getD s 0 0) → {o : Option Str} → packedBy (formBy (partsBy true) k) s ≡ o → packedFrame s ≡ Option·map (λ (f : Str). k ∷ f) o
+  unfolding packedFrame partsBy if_then_else_
+  kinded k i e = rw (← i, e)
+
   pub line-strange : all isPrint s ≡ false → packedFrame s ≡ none
-  unfolding packedFrame if_then_else_
-  line-strange e = rw e
+  line-strange e = kinded (kindBy (getD s 0 0)) refl (packed-strange _ s e)
 
   pub line-empty : length s ≤ 0 → packedFrame s ≡ none
   line-empty h = go s h
     where
       go : (g : Str) → length g ≤ 0 → packedFrame g ≡ none
-      go [] h = unfold packedFrame all kindBy formBy if_then_else_ unknown whole in refl
+      go [] h = unfold packedFrame packedBy all kindBy formBy if_then_else_ unknown whole in refl
       go (x ∷ g) h = absurd (omega arith)
 
   module _ (a : all isPrint s ≡ true) (k : ℕ) (i : k ≡ kindBy (getD s 0 0)) (d d′ : List ℕ) (r : Stored) (e : Puts maxReadableLine (formBy (partsBy true) k) s 0 d 1 d′ r) where
     pub line-unread : r ≡ Unread → packedFrame s ≡ none
-    unfolding packedFrame whole partsBy if_then_else_
-    line-unread g = rw (a, ← i, put-not e g)
+    line-unread g = kinded k i (packed-unread _ s a e g)
 
     module _ (next end : ℕ) (g : r ≡ To next end) where
       pub line-longer : (next ≡ length s → ⊥) → packedFrame s ≡ none
-      unfolding packedFrame whole partsBy if_then_else_
-      line-longer n = rw (a, ← i, put-to e g .1, ne-eqb _ _ n)
-
-      pub line-is : next ≡ length s → packedFrame s ≡ some (k ∷ put-to e g .0)
-      unfolding packedFrame whole partsBy if_then_else_
-      line-is n = rw (a, ← i, put-to e g .1, eq-eqb _ _ n)
+      line-longer n = kinded k i (packed-longer _ s a e g n)
 
       pub line-fills : maxMadeFrame ≤ length d → next ≡ length s → Fills (packedFrame s) d (set d′ 0 k) (To next end)
       line-fills l n =
           let u = put-to e g in
-          rw (line-is n) (fills (wrote-before d 0 k (u .0) d′ end (omega (arith, u .3)) (u .2)) (omega (arith, u .2 .ends, u .3)))
+          rw (kinded k i (packed-is _ s a e g n)) (fills (wrote-before d 0 k (u .0) d′ end (omega (arith, u .3)) (u .2)) (omega (arith, u .2 .ends, u .3)))

@@ -1,3 +1,4 @@
 pub mod Stored
 pub mod Converting
+pub mod Requests
 pub mod Lining

@@ -25,8 +25,7 @@ use Rattle.table_line.proofs.FirstLine.{Read, line-read, line-unhex}
 use Rattle.path_read.specs.declared.reader.Stored.{Stored}
 use Rattle.path_read.specs.declared.reader.Stored.the-variants.{To, Unread}
 use Rattle.readable_parts.specs.Parts.{hexText}
-use Rattle.readable_lines.specs.Form.{shownFrame, packedFrame}
-use Rattle.readable_lines.specs.Lines.{lined, unlined, shownLine, packedLine}
+use Rattle.readable_lines.specs.Lines.{lined, unlined, shownLineBy, packedLineBy}
 use Rattle.readable_lines.specs.Steps.{maxMadeFrame, maxMadeLine, Fills, Lays, lays, fails}
 use Rattle.readable_parts.proofs.Stored.{front}
 use Rattle.readable_lines.proofs.Stored.{filled-to, filled-not}
@@ -50,7 +49,7 @@ unended [] h i l = absurd (omega arith)
 unended (x ∷ s) h zero l = by (eqb x 10) (λ u. let h′ = rw u at h in absurd (omega arith)) (λ u. u)
 unended (x ∷ s) h (suc i) l = by (eqb x 10) (λ u. let h′ = rw u at h in absurd (omega arith)) (λ u. let h′ = rw u at h in unended s (omega arith) i (omega arith))
 
-unended-line : (s : Str) → 0 < length s → length s ≤ until (is 10) s → lines s ≡ s ∷ []
+pub unended-line : (s : Str) → 0 < length s → length s ≤ until (is 10) s → lines s ≡ s ∷ []
 unfolding lines onto until if_then_else_
 unended-line [] z h = absurd (omega arith)
 unended-line (x ∷ []) z h = by (eqb x 10) (λ u. let h′ = rw u at h in absurd (omega arith)) (λ u. rw u)
@@ -68,11 +67,11 @@ unlined-none : (s : Str) → 0 < length s → length s ≤ until (is 10) s → u
 unfolding unlined if_then_else_
 unlined-none s z h = rw (unended s h (length s - 1) (omega arith))
 
--- ---- a line of the table
+-- ---- a hex line, by what is shown of its frame
 
-module _ (text : Str) (from : ℕ) (i : from < length text) (r : Line) (e : r ≡ firstLine from (lines (drop from text))) where
-  pub show-bad : r ≡ Bad → {d d′ : List ℕ} → Lays shownLine text from d d′ Unread
-  unfolding shownLine lined bind
+module _ (show : Str → Option Str) (text : Str) (from : ℕ) (i : from < length text) (r : Line) (e : r ≡ firstLine from (lines (drop from text))) where
+  pub show-bad : r ≡ Bad → {d d′ : List ℕ} → Lays (shownLineBy show) text from d d′ Unread
+  unfolding shownLineBy lined bind
   show-bad g = let u = line-unhex text from r e i g in fails (u .first) (rw (u .is))
 
   module _ (len next : ℕ) (g : r ≡ Frame len next) (z b : List ℕ) (x : b ≡ put z 0 (digits (drop from text))) where
@@ -85,12 +84,12 @@ module _ (text : Str) (from : ℕ) (i : from < length text) (r : Line) (e : r �
     pub frame-room : 2 * len ≤ length text
     frame-room = omega (arith, told .goes, told .ends)
 
-    is-shown : (o : Option Str) → shownFrame (take len b) ≡ o → shownLine (told .line) ≡ lined o
-    unfolding shownLine bind
-    is-shown o s = let t = ap shownFrame (sym frame-here) ∙ s in rw (told .is, t)
+    is-shown : (o : Option Str) → show (take len b) ≡ o → shownLineBy show (told .line) ≡ lined o
+    unfolding shownLineBy bind
+    is-shown o s = let t = ap show (sym frame-here) ∙ s in rw (told .is, t)
 
-    module _ (d d′ : List ℕ) (q : Stored) (f : Fills (shownFrame (take len b)) d d′ q) where
-      pub show-unread : q ≡ Unread → Lays shownLine text from d d′ Unread
+    module _ (d d′ : List ℕ) (q : Stored) (f : Fills (show (take len b)) d d′ q) where
+      pub show-unread : q ≡ Unread → Lays (shownLineBy show) text from d d′ Unread
       unfolding lined
       show-unread h = fails (told .first) (is-shown none (filled-not f h))
 
@@ -101,7 +100,7 @@ module _ (text : Str) (from : ℕ) (i : from < length text) (r : Line) (e : r �
             let k : length d′ ≡ length d = wrote-long d 0 (u .0) d′ end (u .2) (omega (arith, u .2 .ends, u .3)) in
             (omega (arith, u .3), omega (arith, u .3))
 
-        pub show-lays : Lays shownLine text from d (set d′ end 10) (To next (end + 1))
+        pub show-lays : Lays (shownLineBy show) text from d (set d′ end 10) (To next (end + 1))
         unfolding lined
         show-lays =
             let u = filled-to f h in
@@ -116,11 +115,11 @@ module _ (text : Str) (from : ℕ) (i : from < length text) (r : Line) (e : r �
             (wrote-more d 0 (u .0) d′ end (u .2) (omega (arith, u .2 .ends, u .3)) (10 ∷ []) (set d′ end 10) (end + 1) (wrote-byte d′ end 10 (show-room .0)))
             (omega (arith, u .3, u .2 .ends, length-append (u .0) (10 ∷ [])))
 
--- ---- a readable line
+-- ---- a readable line, by the frame that is packed of it
 
-module _ (text : Str) (from : ℕ) (i : from < length text) (stop : ℕ) (e : stop ≡ from + until (is 10) (drop from text)) where
-  pub pack-open : length text ≤ stop → {d d′ : List ℕ} → Lays packedLine text from d d′ Unread
-  unfolding packedLine lined bind
+module _ (pack : Str → Option Str) (text : Str) (from : ℕ) (i : from < length text) (stop : ℕ) (e : stop ≡ from + until (is 10) (drop from text)) where
+  pub pack-open : length text ≤ stop → {d d′ : List ℕ} → Lays (packedLineBy pack) text from d d′ Unread
+  unfolding packedLineBy lined bind
   pack-open h =
       let s = drop from text in
       let z : 0 < length s = omega (arith, length-drop from text) in
@@ -137,12 +136,12 @@ module _ (text : Str) (from : ℕ) (i : from < length text) (stop : ℕ) (e : st
         let m : from + suc (until (is 10) (drop from text)) ≡ stop + 1 = omega arith in
         ended-line (drop from text) (omega (arith, length-drop from text)) ∙ rw (k, drop-drop (suc (until (is 10) (drop from text))) from text, m)
 
-    is-packed : (o : Option Str) → packedFrame body ≡ o → packedLine (body ++ (10 ∷ [])) ≡ lined (Option·map hexText o)
-    unfolding packedLine bind
+    is-packed : (o : Option Str) → pack body ≡ o → packedLineBy pack (body ++ (10 ∷ [])) ≡ lined (Option·map hexText o)
+    unfolding packedLineBy bind
     is-packed o s = rw (unlined-line body, s)
 
-    module _ (z b : List ℕ) (q : Stored) (f : Fills (packedFrame body) z b q) where
-      pub pack-unread : q ≡ Unread → {d d′ : List ℕ} → Lays packedLine text from d d′ Unread
+    module _ (z b : List ℕ) (q : Stored) (f : Fills (pack body) z b q) where
+      pub pack-unread : q ≡ Unread → {d d′ : List ℕ} → Lays (packedLineBy pack) text from d d′ Unread
       unfolding lined
       pack-unread h = fails pack-first (is-packed none (filled-not f h))
 
@@ -167,7 +166,7 @@ module _ (text : Str) (from : ℕ) (i : from < length text) (stop : ℕ) (e : st
               wrote-long d 0 (hexText (take end b) ++ (10 ∷ [])) (set d′ close 10) (close + 1) both
               (omega (arith, length-append (hexText (take end b)) (10 ∷ []), hex-length (take end b), length-take end b, pack-end))
 
-          pub pack-lays : Lays packedLine text from d (set d′ close 10) (To (stop + 1) (close + 1))
+          pub pack-lays : Lays (packedLineBy pack) text from d (set d′ close 10) (To (stop + 1) (close + 1))
           unfolding lined
           pack-lays =
               let u = filled-to f h in

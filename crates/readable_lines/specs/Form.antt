@@ -28,6 +28,10 @@ formBy p k =
     else if eqb k 4 then parts p (bytes "rule A M K S id S origin S P")
     else unknown
 
+-- the parts of a request in a log, which has no kind byte: "mode, S user, S origin, path"
+abbrev pub requestForm : Str
+requestForm = bytes "M S origin S P"
+
 -- ---- shown, from a frame
 
 -- only printable text, so in one line
@@ -35,9 +39,13 @@ unfoldable pub printed : Option Str → Option Str
 printed none = none
 printed (some w) = if all isPrint w then some w else none
 
--- the readable form of a frame, without its LF
+-- the whole of f from `at` on, as r shows it
+unfoldable pub shownBy : Reader Str → ℕ → Str → Option Str
+shownBy r at f = printed (whole f (r f at))
+
+-- the readable form of a frame of a table, without its LF
 unfoldable pub shownFrame : Str → Option Str
-shownFrame f = printed (whole f (formBy shown (getD f 0 0) f 1))
+shownFrame f = shownBy (formBy shown (getD f 0 0)) 1 f
 
 -- ---- packed, from a readable line
 
@@ -45,7 +53,10 @@ shownFrame f = printed (whole f (formBy shown (getD f 0 0) f 1))
 unfoldable pub kindBy : ℕ → ℕ
 kindBy b = if eqb b 118 then 1 else if eqb b 103 then 2 else if eqb b 109 then 3 else if eqb b 114 then 4 else 0
 
--- the frame of a readable line, given without its LF: the kind byte, and the parts
+-- the whole of a printable line, given without its LF, as r packs it
+unfoldable pub packedBy : Reader Str → Str → Option Str
+packedBy r s = if all isPrint s then whole s (r s 0) else none
+
+-- the frame of a readable line of a table: the kind byte, and the parts
 unfoldable pub packedFrame : Str → Option Str
-packedFrame s =
-    if all isPrint s then Option·map (λ (f : Str). kindBy (getD s 0 0) ∷ f) (whole s (formBy packed (kindBy (getD s 0 0)) s 0)) else none
+packedFrame s = Option·map (λ (f : Str). kindBy (getD s 0 0) ∷ f) (packedBy (formBy packed (kindBy (getD s 0 0))) s)

@@ -1,3 +1,4 @@
 pub mod Form
+pub mod Request
 pub mod Lines
 pub mod Steps

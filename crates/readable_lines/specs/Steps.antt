@@ -4,9 +4,11 @@ use mathlib.Core.Path.{_≡_}
 use mathlib.Core.Bool.{Bool}
 use mathlib.Core.List.{List, [], _∷_}
 use mathlib.Core.Option.{Option, none, some}
-use lib.ListN.{length, drop}
+use lib.Dec.{eqb}
+use lib.ListN.{length, take, drop}
 use Rattle.limits.specs.Sizes.{maxReadableLine}
-use Rattle.text.specs.Test.{if_then_else_}
+use Rattle.text.specs.Test.{_and_, if_then_else_, all}
+use Rattle.text.specs.Byte.{isPrint}
 use Rattle.text.specs.String.{Str}
 use Rattle.text.specs.Steps.{Wrote}
 use Rattle.table_line.specs.Lines.{lines}
@@ -36,6 +38,16 @@ roomFor (c ∷ cs) = longest c + roomFor cs
 pub data Fills : Option Str → List ℕ → List ℕ → Stored → Type 0 where
   fills : {w : Str} {d d′ : List ℕ} {next end : ℕ} → Wrote d 0 w d′ end → end ≤ maxMadeFrame → Fills (some w) d d′ (stored.To next end)
   nothing : {d d′ : List ℕ} → Fills none d d′ stored.Unread
+
+-- where what was stored ends
+unfoldable pub storedEnd : Stored → ℕ
+storedEnd (stored.To next end) = end
+storedEnd stored.Unread = 0
+
+-- a reading that took all of `size` bytes and stored printable text at the start of `out`
+unfoldable pub closed : ℕ → List ℕ → Stored → Stored
+closed size out (stored.To next end) = if eqb next size and all isPrint (take end out) then stored.To next end else stored.Unread
+closed size out stored.Unread = stored.Unread
 
 -- the line of the text that starts at `from` was converted by g to the start of d, and the next one starts at `next`; or g does not convert it
 pub data Lays (g : Str → Option Str) (text : Str) (from : ℕ) : List ℕ → List ℕ → Stored → Type 0 where

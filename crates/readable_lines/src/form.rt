@@ -6,7 +6,7 @@ ghost use Rattle.limits.specs.Sizes.{maxReadableLine};
 ghost use Rattle.readable_parts.specs.Parts.{partOf};
 ghost use Rattle.readable_lines.specs.Form.{parts, formBy, shownFrame, kindBy, packedFrame};
 ghost use Rattle.readable_parts.specs.Steps.{longest, Puts};
-ghost use Rattle.readable_lines.specs.Steps.{maxMadeFrame, partsBy, roomFor, Fills};
+ghost use Rattle.readable_lines.specs.Steps.{maxMadeFrame, partsBy, roomFor, Fills, storedEnd, closed};
 use path_read::reader::Stored;
 
 // The part that c names, packed or shown.
@@ -21,7 +21,7 @@ fn convert_part(packing: bool, c: u8, s: &[u8], at: usize, out: &mut [u8], to: u
 }
 
 // The parts that the form names, one after another.
-fn convert_parts(
+pub fn convert_parts(
     packing: bool,
     form: &[u8],
     s: &[u8],
@@ -70,19 +70,15 @@ fn by_kind(packing: bool, kind: u8, s: &[u8], at: usize, out: &mut [u8], to: usi
     Stored::Unread
 }
 
-// The readable form of a frame, without its LF.
-pub fn show_frame(f: &[u8], out: &mut [u8]) -> Stored
-    requires { ⌜ maxMadeFrame ≤ length (now out) ⌝ }
-    ensures { λ r. ⌜ Fills (shownFrame (now (f .entry))) (now (out .entry)) (now (out .exit)) r ⌝ }
+// What was shown of a frame of `size` bytes, where it is all of the frame, and printable.
+pub fn close_shown(shown: Stored, size: usize, out: &[u8]) -> Stored
+    requires { ⌜ storedEnd shown ≤ length (now out) ⌝ }
+    ensures { λ r. ⌜ r ≡ closed size (now (out .entry)) shown ⌝ }
 {
-    if f.len() == 0 {
-        return Stored::Unread;
-    }
-    let r = by_kind(false, f[0], f, 1, out, 0);
-    let Stored::To { next, end } = r else {
+    let Stored::To { next, end } = shown else {
         return Stored::Unread;
     };
-    if next != f.len() {
+    if next != size {
         return Stored::Unread;
     }
     if !text::string::all_print(&out[..end]) {
@@ -92,6 +88,18 @@ pub fn show_frame(f: &[u8], out: &mut [u8]) -> Stored
         next: next,
         end: end,
     }
+}
+
+// The readable form of a frame of a table, without its LF.
+pub fn show_frame(f: &[u8], out: &mut [u8]) -> Stored
+    requires { ⌜ maxMadeFrame ≤ length (now out) ⌝ }
+    ensures { λ r. ⌜ Fills (shownFrame (now (f .entry))) (now (out .entry)) (now (out .exit)) r ⌝ }
+{
+    if f.len() == 0 {
+        return Stored::Unread;
+    }
+    let r = by_kind(false, f[0], f, 1, out, 0);
+    close_shown(r, f.len(), out)
 }
 
 // The kind of a readable line, by its first letter; 0 for none.
@@ -113,7 +121,7 @@ fn kind_by(b: u8) -> u8
     0
 }
 
-// The frame of a readable line, which is given without its LF.
+// The frame of a readable line of a table, which is given without its LF.
 pub fn pack_frame(s: &[u8], out: &mut [u8]) -> Stored
     requires { ⌜ maxMadeFrame ≤ length (now out) ⌝ }
     ensures { λ r. ⌜ Fills (packedFrame (now (s .entry))) (now (out .entry)) (now (out .exit)) r ⌝ }

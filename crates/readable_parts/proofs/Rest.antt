@@ -60,7 +60,7 @@ unfolding put
 put-front d w = let z : 0 + length w ≡ length w = omega arith in rw z
 
 -- d, where the start of that part was filled
-part-put : (d : List ℕ) (to : ℕ) (w : List ℕ) → to ≤ length d → take to d ++ (put (from d to) 0 w ++ drop (length d - to) (drop to d)) ≡ put d to w
+pub part-put : (d : List ℕ) (to : ℕ) (w : List ℕ) → to ≤ length d → take to d ++ (put (from d to) 0 w ++ drop (length d - to) (drop to d)) ≡ put d to w
 part-put d to w h =
     let l : length (drop to d) ≤ length d - to = omega (arith, length-drop to d) in
     let a : drop (length d - to) (drop to d) ≡ [] = drop-of-length-le (drop to d) l in

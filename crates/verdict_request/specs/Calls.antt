@@ -32,13 +32,16 @@ badMode mode = not (eqb mode 1 or eqb mode 2)
 unfoldable pub badOrigin : Str → Bool
 badOrigin origin = ltb maxShortString (length origin) or stray origin
 
--- 20, 21, 22: "user or mode not as a table allows; origin likewise; path text"
-unfoldable pub requestRefusal : Str → ℕ → Str → Str → ℕ
-requestRefusal user mode origin text =
+-- 20 and 21: "user or mode not as a table allows; origin likewise"; else what the path gets
+abbrev pub refusalOr : ℕ → Str → ℕ → Str → ℕ
+refusalOr path user mode origin =
     20 when (badUser user or badMode mode)
     else 21 when badOrigin origin
-    else 22 when absent (readText text)
-    else clear
+    else path
+
+-- 22: "path text"
+unfoldable pub requestRefusal : Str → ℕ → Str → Str → ℕ
+requestRefusal user mode origin text = refusalOr (22 when absent (readText text) else clear) user mode origin
 
 -- ---- the request
 

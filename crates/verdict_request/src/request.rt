@@ -1,9 +1,7 @@
 // What refuses a request, apart from its path text.
 ghost use mathlib.Core.Path.{_≡_};
-ghost use Rattle.text.specs.Test.{_or_};
-ghost use Rattle.text.specs.Refusal.{_when_else_, clear};
-ghost use Rattle.table.specs.Group.{badUser};
-ghost use Rattle.verdict_request.specs.Calls.{badMode, badOrigin};
+ghost use Rattle.text.specs.Refusal.{clear};
+ghost use Rattle.verdict_request.specs.Calls.{badMode, badOrigin, refusalOr};
 
 fn is_bad_mode(mode: u32) -> bool
     ensures { λ r. ⌜ r ≡ badMode mode ⌝ }
@@ -22,7 +20,7 @@ fn is_bad_origin(origin: &[u8]) -> bool
 
 // 20 or 21, or `CLEAR` where neither holds.
 pub fn number(user: &[u8], mode: u32, origin: &[u8]) -> u8
-    ensures { λ r. ⌜ r ≡ (20 when (badUser (now (user .entry)) or badMode mode) else 21 when badOrigin (now (origin .entry)) else clear) ⌝ }
+    ensures { λ r. ⌜ r ≡ refusalOr clear (now (user .entry)) mode (now (origin .entry)) ⌝ }
 {
     if table::is_bad_user(user) {
         return 20;

@@ -55,6 +55,7 @@ pub mod path;
 pub mod policy;
 pub mod rotation;
 pub mod rpc;
+pub mod season;
 pub mod table;
 pub mod verdict;
 

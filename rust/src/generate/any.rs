@@ -1,6 +1,7 @@
 //! Inputs of any worth, for the tests that lend anything to a call.
 
 use super::damage::damage;
+use super::log::{dense_log, faulty_lines, lines_too_long, log_text, longest_line};
 use super::path::{good_path, longest_path, put_fault, Path, FAULTS, FRAME_MARKS, NAME_BYTES, TEXT_MARKS};
 use super::policy::{good_policy, good_rpc, many_header_lines, nested_object, policy_of_headers, policy_of_length};
 use super::policy_fault::faulty_policy;
@@ -25,6 +26,7 @@ pub struct Kind {
 
 pub const TABLE: Kind =
     Kind { good: some_table, limit: table_at_limit, marks: b"0123456789abcdef0123456789abcdef\n", longest: 33_000 };
+pub const LOG: Kind = Kind { good: some_log, limit: log_at_limit, marks: TABLE.marks, longest: 20_000 };
 pub const PATH_TEXT: Kind = Kind {
     good: |random| some_path(random).text(),
     limit: |random| path_at_limit(random).text(),
@@ -107,7 +109,7 @@ pub fn any_mode(random: &mut Random) -> u32 {
     }
 }
 
-/// Room for the result of a path call, which has this length: enough for any, as much as it takes, or a byte less.
+/// Room for the result of a call that fills a buffer, which has this length: enough for any, as much as it takes, or a byte less.
 pub fn any_room(random: &mut Random, len: usize) -> usize {
     match random.below(8) {
         0 => 0,
@@ -127,6 +129,18 @@ fn some_table(random: &mut Random) -> Vec<u8> {
     table_text(&lines)
 }
 
+/// A log for any of those tables.
+fn some_log(random: &mut Random) -> Vec<u8> {
+    let count = random.below(12);
+    let log = dense_log(random, &[], &DENSE, count);
+    let mut text = log_text(&log);
+    if let Some(line) = log.first().filter(|_| random.one_in(6)) {
+        let faulty = faulty_lines(random, line);
+        text.extend(&random.pick(&faulty).1);
+    }
+    text
+}
+
 fn some_policy(random: &mut Random) -> Vec<u8> {
     if random.one_in(4) {
         faulty_policy(random)
@@ -135,12 +149,14 @@ fn some_policy(random: &mut Random) -> Vec<u8> {
     }
 }
 
+/// Requests as deep, and out of as many names and values, as the rules of those tables.
+const DENSE: Shape = Shape { depth: 4, key_names: 3, values: 4, ..Shape::SMALL };
+
 fn some_path(random: &mut Random) -> Path {
-    let shape = Shape { depth: 4, key_names: 3, values: 4, ..Shape::SMALL };
     if random.one_in(8) {
         good_path(random)
     } else {
-        dense_path(random, &shape)
+        dense_path(random, &DENSE)
     }
 }
 
@@ -165,6 +181,15 @@ fn table_at_limit(random: &mut Random) -> Vec<u8> {
         1 => table_of_members(limits::GROUPS + over, 100),
         2 => table_of_members(limits::GROUPS, limits::MEMBERS + over),
         _ => table_of_rules(random, limits::RULES + over, 40),
+    }
+}
+
+fn log_at_limit(random: &mut Random) -> Vec<u8> {
+    if random.one_in(2) {
+        longest_line().text()
+    } else {
+        let too_long = lines_too_long(20_000);
+        random.pick(&too_long).1.clone()
     }
 }
 

@@ -2,6 +2,7 @@
 
 pub mod any;
 pub mod damage;
+pub mod log;
 pub mod path;
 pub mod policy;
 pub mod policy_fault;
@@ -9,4 +10,6 @@ pub mod rotation;
 pub mod short;
 pub mod table;
 pub mod table_fault;
+pub mod worst_log;
 pub mod worst_tree;
+pub mod yard;

@@ -3,7 +3,7 @@ use borrow.Author.Needs.{needs}
 use native.Mathlib.Omega.{arith}
 use borrow.Author.Tests.{eq-eqb, ne-eqb}
 use Rattle.text.specs.Test.{if_then_else_}
-use Rattle.cli_show.proofs.Adding.{_then_}
+use Rattle.text_make.proofs.Adding.{_then_}
 use Rattle.cli_explained.specs.Explained.{fate}
 use Rattle.cli_explained.proofs.add_fate.Statement.{statement}
 use Rattle.cli_explained.proofs.add_fate.Tie as tie

@@ -1,7 +1,7 @@
 -- `ranked` is the definition.
 use borrow.Author.Needs.{needs}
 use native.Mathlib.Omega.{arith}
-use Rattle.cli_show.proofs.Adding.{_then_}
+use Rattle.text_make.proofs.Adding.{_then_}
 use Rattle.cli_explained.specs.Explained.{ranked}
 use Rattle.cli_explained.proofs.ranked.Statement.{statement}
 use Rattle.cli_explained.proofs.ranked.Tie as tie

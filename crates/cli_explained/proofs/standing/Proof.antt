@@ -1,7 +1,7 @@
 -- `standing` is the definition.
 use borrow.Author.Needs.{needs}
 use native.Mathlib.Omega.{arith}
-use Rattle.cli_show.proofs.Adding.{_then_}
+use Rattle.text_make.proofs.Adding.{_then_}
 use Rattle.cli_explained.specs.Explained.{standingText}
 use Rattle.cli_explained.proofs.standing.Statement.{statement}
 use Rattle.cli_explained.proofs.standing.Tie as tie

@@ -1,7 +1,7 @@
 -- `add_grouping` adds what is said of a group, or nothing.
 use native.Mathlib.Omega.{arith}
 use Rattle.text.specs.Test.{if_then_else_}
-use Rattle.cli_show.proofs.Adding.{nothing-added}
+use Rattle.text_make.proofs.Adding.{nothing-added}
 use Rattle.cli_names.specs.Names.{grouping}
 use borrow.Author.Needs.{needs}
 use Rattle.cli_names.proofs.add_grouping.Statement.{statement}

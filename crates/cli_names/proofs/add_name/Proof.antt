@@ -4,7 +4,7 @@ use lib.ListN.{length-append}
 use Rattle.table_rows.proofs.Strings.{room}
 use Rattle.table_place.specs.Place.{strIn}
 use Rattle.table_place.proofs.Cursor.{str-grows}
-use Rattle.cli_show.proofs.Adding.{_then_}
+use Rattle.text_make.proofs.Adding.{_then_}
 use Rattle.cli_names.specs.Names.{led, leadOf}
 use Rattle.cli_names.proofs.Gathering.{name-part}
 use borrow.Author.Needs.{needs}

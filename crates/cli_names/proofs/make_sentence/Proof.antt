@@ -1,6 +1,6 @@
 -- `make_sentence` adds the parts one after another.
 use native.Mathlib.Omega.{arith}
-use Rattle.cli_show.proofs.Adding.{_then_}
+use Rattle.text_make.proofs.Adding.{_then_}
 use Rattle.cli_names.specs.Names.{sentence}
 use Rattle.cli_names.proofs.Listing.{sentence-room}
 use borrow.Author.Needs.{needs}

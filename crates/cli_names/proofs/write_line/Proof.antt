@@ -1,7 +1,7 @@
 -- `write_line` tells what the definition says of the loaded table.
 use native.Mathlib.Omega.{arith}
 use mathlib.Core.Path.{sym, _∙_}
-use Rattle.cli_show.proofs.Adding.{nothing-added}
+use Rattle.text_make.proofs.Adding.{nothing-added}
 use Rattle.table_check.proofs.Calls.{outcome-refused, outcome-kept, front-is}
 use Rattle.cli_names.specs.Names.{slip}
 use Rattle.cli_names.proofs.Users.{slip-refused, slip-is, groups-listed, table-ready, user-short}

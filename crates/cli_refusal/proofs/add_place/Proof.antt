@@ -3,7 +3,7 @@ use borrow.Author.Needs.{needs}
 use native.Mathlib.Omega.{arith}
 use borrow.Author.Tests.{eq-eqb, ne-eqb}
 use Rattle.text.specs.Test.{if_then_else_}
-use Rattle.cli_show.proofs.Adding.{_then_, nothing-added}
+use Rattle.text_make.proofs.Adding.{_then_, nothing-added}
 use Rattle.cli_refusal.specs.Refusal.{place}
 use Rattle.cli_refusal.proofs.add_place.Statement.{statement}
 use Rattle.cli_refusal.proofs.add_place.Tie as tie

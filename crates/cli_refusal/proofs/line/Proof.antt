@@ -1,6 +1,6 @@
 -- `line` is the definition.
 use borrow.Author.Needs.{needs}
-use Rattle.cli_show.proofs.Adding.{_then_}
+use Rattle.text_make.proofs.Adding.{_then_}
 use Rattle.cli_refusal.specs.Refusal.{refusal}
 use Rattle.cli_refusal.proofs.line.Statement.{statement}
 use Rattle.cli_refusal.proofs.line.Tie as tie

@@ -1,6 +1,7 @@
 -- `convert_lines` goes from line to line.
 use borrow.Author.Needs.{needs}
 use native.Mathlib.Omega.{arith}
+use mathlib.Core.Bool.{false}
 use mathlib.Core.Path.{_≡_, sym}
 use Prim.Native.Nat.{_-_}
 use lib.ListN.{length, length-take}
@@ -15,7 +16,7 @@ use Rattle.readable.proofs.convert_lines.Tie as tie
 -- The lines before `from` are laid into `out` up to `at`, and `number` counts the line at `from`; `piece` keeps its length.
 abbrev Inv-loop : tie.InvT-loop
 Inv-loop packing text out₀ piece₀ from₀ at₀ number₀ out piece from at number =
-    Laying (lineBy packing) text out₀ from at number out × (length piece ≡ maxMadeLine)
+    Laying (lineBy false packing) text out₀ from at number out × (length piece ≡ maxMadeLine)
 
 abbrev μ-loop : tie.MeasureT-loop
 μ-loop packing text out₀ piece₀ from₀ at₀ number₀ out piece from at number = length text - from

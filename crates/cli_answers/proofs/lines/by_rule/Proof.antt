@@ -1,6 +1,6 @@
 -- `by_rule` is the definition.
 use Rattle.cli_answers.specs.Lines.{byRule}
-use Rattle.cli_show.proofs.Adding.{_then_}
+use Rattle.text_make.proofs.Adding.{_then_}
 use borrow.Author.Needs.{needs}
 use Rattle.cli_answers.proofs.lines.by_rule.Statement.{statement}
 use Rattle.cli_answers.proofs.lines.by_rule.Tie as tie

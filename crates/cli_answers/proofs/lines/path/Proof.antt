@@ -1,7 +1,7 @@
 -- `path` is the definition.
 use native.Mathlib.Omega.{arith}
 use Rattle.cli_answers.specs.Lines.{pathLines}
-use Rattle.cli_show.proofs.Adding.{_then_, nothing-added}
+use Rattle.text_make.proofs.Adding.{_then_, nothing-added}
 use borrow.Author.Needs.{needs}
 use Rattle.cli_answers.proofs.lines.path.Statement.{statement}
 use Rattle.cli_answers.proofs.lines.path.Tie as tie

@@ -1,7 +1,7 @@
 -- `tree` is the definition.
 use native.Mathlib.Omega.{arith}
 use Rattle.cli_answers.specs.Lines.{treeLines}
-use Rattle.cli_show.proofs.Adding.{nothing-added}
+use Rattle.text_make.proofs.Adding.{nothing-added}
 use borrow.Author.Needs.{needs}
 use Rattle.cli_answers.proofs.lines.tree.Statement.{statement}
 use Rattle.cli_answers.proofs.lines.tree.Tie as tie

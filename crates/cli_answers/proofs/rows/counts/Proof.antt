@@ -1,6 +1,6 @@
 -- `counts` is the definition.
 use borrow.Author.Needs.{needs}
-use Rattle.cli_show.proofs.Adding.{_then_}
+use Rattle.text_make.proofs.Adding.{_then_}
 use Rattle.cli_answers.specs.Rows.{rowLines}
 use Rattle.cli_answers.proofs.rows.counts.Statement.{statement}
 use Rattle.cli_answers.proofs.rows.counts.Tie as tie

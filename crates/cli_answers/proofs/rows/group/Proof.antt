@@ -1,7 +1,7 @@
 -- `group` adds the line of a group.
 use borrow.Author.Needs.{needs}
 use native.Mathlib.Omega.{arith}
-use Rattle.cli_show.proofs.Adding.{_then_}
+use Rattle.text_make.proofs.Adding.{_then_}
 use Rattle.cli_answers.specs.Rows.{groupLine}
 use Rattle.cli_answers.proofs.rows.group.Statement.{statement}
 use Rattle.cli_answers.proofs.rows.group.Tie as tie

@@ -1,7 +1,7 @@
 -- `groups` is the definition.
 use borrow.Author.Needs.{needs}
 use native.Mathlib.Omega.{arith}
-use Rattle.cli_show.proofs.Adding.{nothing-added}
+use Rattle.text_make.proofs.Adding.{nothing-added}
 use Rattle.cli_answers.specs.Rows.{groupsLine}
 use Rattle.cli_answers.proofs.rows.groups.Statement.{statement}
 use Rattle.cli_answers.proofs.rows.groups.Tie as tie

@@ -1,6 +1,6 @@
 -- `by_rule` adds the part of the policy that is the name.
 use borrow.Author.Needs.{needs}
-use Rattle.cli_show.proofs.Adding.{_then_}
+use Rattle.text_make.proofs.Adding.{_then_}
 use Rattle.cli_policy.specs.Lines.{byRule}
 use Rattle.cli_policy.proofs.lines.by_rule.Statement.{statement}
 use Rattle.cli_policy.proofs.lines.by_rule.Tie as tie

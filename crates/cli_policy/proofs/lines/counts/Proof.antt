@@ -1,7 +1,7 @@
 -- `counts` is the definition.
 use borrow.Author.Needs.{needs}
 use native.Mathlib.Omega.{arith}
-use Rattle.cli_show.proofs.Adding.{_then_, nothing-added}
+use Rattle.text_make.proofs.Adding.{_then_, nothing-added}
 use Rattle.cli_policy.specs.Lines.{countLines}
 use Rattle.cli_policy.proofs.lines.counts.Statement.{statement}
 use Rattle.cli_policy.proofs.lines.counts.Tie as tie

@@ -1,7 +1,7 @@
 -- `rpc` is the definition.
 use borrow.Author.Needs.{needs}
 use native.Mathlib.Omega.{arith}
-use Rattle.cli_show.proofs.Adding.{nothing-added}
+use Rattle.text_make.proofs.Adding.{nothing-added}
 use Rattle.cli_policy.specs.Lines.{rpcLines}
 use Rattle.cli_policy.proofs.lines.rpc.Statement.{statement}
 use Rattle.cli_policy.proofs.lines.rpc.Tie as tie

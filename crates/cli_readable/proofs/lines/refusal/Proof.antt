@@ -1,6 +1,6 @@
 -- `refusal` is the definition.
 use native.Mathlib.Omega.{arith}
-use Rattle.cli_show.proofs.Adding.{_then_, nothing-added}
+use Rattle.text_make.proofs.Adding.{_then_, nothing-added}
 use Rattle.cli_readable.specs.Lines.{refusalLine}
 use borrow.Author.Needs.{needs}
 use Rattle.cli_readable.proofs.lines.refusal.Statement.{statement}

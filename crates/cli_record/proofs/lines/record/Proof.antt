@@ -1,6 +1,6 @@
 -- `record` is the definition.
 use borrow.Author.Needs.{needs}
-use Rattle.cli_show.proofs.Adding.{_then_}
+use Rattle.text_make.proofs.Adding.{_then_}
 use Rattle.cli_record.specs.Lines.{recordLines}
 use Rattle.cli_record.proofs.lines.record.Statement.{statement}
 use Rattle.cli_record.proofs.lines.record.Tie as tie

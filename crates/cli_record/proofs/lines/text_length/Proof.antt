@@ -3,7 +3,7 @@ use borrow.Author.Needs.{needs}
 use native.Mathlib.Omega.{arith}
 use borrow.Author.Tests.{eq-eqb, ne-eqb}
 use Rattle.text.specs.Test.{if_then_else_}
-use Rattle.cli_show.proofs.Adding.{_then_}
+use Rattle.text_make.proofs.Adding.{_then_}
 use Rattle.cli_record.specs.Lines.{lengthLine}
 use Rattle.cli_record.proofs.lines.text_length.Statement.{statement}
 use Rattle.cli_record.proofs.lines.text_length.Tie as tie

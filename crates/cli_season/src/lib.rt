@@ -1,0 +1,3 @@
+// Season reports: their sum.
+pub mod refusals;
+pub mod sums;

@@ -1,0 +1,3 @@
+pub mod Headings
+pub mod Lengths
+pub mod Spelled

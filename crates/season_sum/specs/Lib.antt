@@ -1,0 +1,5 @@
+pub mod Figures
+pub mod Reading
+pub mod Adding
+pub mod Laws
+pub mod Steps
