@@ -1,0 +1,4 @@
+pub mod Columns
+pub mod Figures
+pub mod Ranked
+pub mod Grid
