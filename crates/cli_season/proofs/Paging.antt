@@ -1,10 +1,9 @@
 -- The parts of a page.
-use Prim.Native.Nat.{ℕ, _+_, _≤_}
+use Prim.Native.Nat.{ℕ}
 use native.Mathlib.Omega.{arith}
-use native.Mathlib.Decide.{decLt}
 use borrow.Author.Tests.{eq-eqb, ne-eqb}
-use mathlib.Core.Path.{_≡_, refl, sym, ap, _∙_}
-use mathlib.Core.List.{List, [], _∷_, _++_, append-nil}
+use mathlib.Core.Path.{_≡_, sym, ap, _∙_}
+use mathlib.Core.List.{List, [], _∷_, append-nil}
 use lib.ListN.{length, take}
 use Rattle.text.specs.Test.{if_then_else_}
 use Rattle.text.specs.String.{Str}
@@ -18,10 +17,10 @@ use Rattle.table_load.specs.Loaded.{Kept}
 use Rattle.verdict_call.proofs.Holding.{holding}
 use Rattle.cli_season.specs.Page.{orNone, pageOf, page}
 use Rattle.cli_season.specs.Steps.{noneFrom, MakesPage}
-use Rattle.cli_season.proofs.Listing.{rules-long}
+use Rattle.cli_season_rules.proofs.Listing.{rules-long}
 
 -- lines, or that there are none
-none-or : (lines d d′ d″ : List ℕ) (start end e : ℕ) → Added d start lines d′ end → AddedUpTo 8 d′ end (noneFrom start end) d″ e → Added d start (orNone lines) d″ e
+none-or : (lines d d′ d″ : List ℕ) (start end e : ℕ) → Added d start lines d′ end → AddedUpTo 7 d′ end (noneFrom start end) d″ e → Added d start (orNone lines) d″ e
 unfolding orNone noneFrom if_then_else_
 none-or [] d d′ d″ start end e a b =
     let q : start ≡ end = omega (arith, a .wrote .ends) in
@@ -30,7 +29,7 @@ none-or (x ∷ xs) d d′ d″ start end e a b =
     let q : start ≡ end → ⊥ = λ z. omega (arith, a .wrote .ends, z) in
     rw (ne-eqb (length (x ∷ xs)) 0 (omega arith)) (rw (append-nil (x ∷ xs)) at (a then rw (ne-eqb start end q) at (b .added)))
 
-pub none-added : {d lines d′ d″ : List ℕ} {start end e : ℕ} → Added d start lines d′ end → AddedUpTo 8 d′ end (noneFrom start end) d″ e → Added d start (orNone lines) d″ e
+pub none-added : {d lines d′ d″ : List ℕ} {start end e : ℕ} → Added d start lines d′ end → AddedUpTo 7 d′ end (noneFrom start end) d″ e → Added d start (orNone lines) d″ e
 none-added a b = none-or _ _ _ _ _ _ _ a b
 
 -- ---- on a loaded table

@@ -1,55 +1,21 @@
 -- The page for a person on a season: the rules that decided, those that never did, and the grid.
 use Prim.Native.Nat.{ℕ, _+_}
-use mathlib.Core.List.{List, [], _∷_, _++_}
+use mathlib.Core.List.{List, [], _++_}
 use lib.Dec.{eqb}
 use lib.ListN.{length, take, getD}
-use Rattle.limits.specs.Limits.{maxString}
 use Rattle.text.specs.Test.{if_then_else_}
-use Rattle.text.specs.String.{Str, bytes, joined}
-use Rattle.text_make.specs.Text.{upTo, fact}
+use Rattle.text.specs.String.{Str, bytes}
+use Rattle.text_make.specs.Text.{fact}
 use Rattle.table.specs.Table.{Rule}
-use Rattle.cli_explained.specs.Explained.{ruleOf}
-use Rattle.season_parts.specs.Columns.{column}
-use Rattle.season_parts.specs.Figures.{share, bar}
-use Rattle.season_parts.specs.Ranked.{Decided, top, ranked}
 use Rattle.season_parts.specs.Grid.{gridLines}
+use Rattle.cli_season_rules.specs.Rules.{decidedLines, neverLines}
 
--- ---- a rule's line
-
-unfoldable pub action : Rule → Str
-action r = if r .permit then bytes "  permit  " else bytes "  deny    "
-
--- its number, its action and its id
-unfoldable pub ruleLine : ℕ → Rule → Str
-ruleLine number r = column 6 number ++ action r ++ upTo maxString (r .id) ++ bytes "\n"
-
--- before these its count, its share of all requests and its bar
-unfoldable pub decidedLine : ℕ → ℕ → ℕ → ℕ → Rule → Str
-decidedLine all most n number r = column 7 n ++ share n all ++ bytes "  " ++ bar n most ++ ruleLine number r
-
--- ---- the rules
+abbrev pub noneLine : Str
+noneLine = bytes "  none\n"
 
 -- where there are no lines
 unfoldable pub orNone : Str → Str
-orNone lines = if eqb (length lines) 0 then bytes "   none\n" else lines
-
--- `most` is the largest count
-unfoldable pub lineOf : List Rule → ℕ → ℕ → Decided → Str
-lineOf rules most all e = decidedLine all most (e .count) (e .number) (ruleOf rules (e .number))
-
-unfoldable pub decidedLines : List Rule → List ℕ → ℕ → Str
-decidedLines rules counts all = joined (lineOf rules (getD counts (top counts) 0) all) (ranked counts)
-
--- a rule that never decided; nothing of one that did
-unfoldable pub neverLine : ℕ → Rule → ℕ → Str
-neverLine number r n = if eqb n 0 then ruleLine number r else []
-
--- those from number i on
-unfoldable pub neverLines : ℕ → List Rule → List ℕ → Str
-neverLines i [] counts = []
-neverLines i (r ∷ rules) counts = neverLine i r (getD counts i 0) ++ neverLines (i + 1) rules counts
-
--- ---- the page
+orNone lines = if eqb (length lines) 0 then noneLine else lines
 
 -- how many requests there are, and the rules that decided
 unfoldable pub decidedPart : List Rule → List ℕ → ℕ → Str

@@ -1,13 +1,13 @@
 // Season reports: their sum, and the page on a season for a person.
 mod making;
 pub mod refusals;
-mod rules;
 pub mod sums;
 
 ghost use mathlib.Core.Path.{_≡_};
 ghost use lib.ListN.{length};
 ghost use Rattle.limits.specs.Limits.{maxRules};
-ghost use Rattle.cli_season.specs.Steps.{Few, FewCells};
+ghost use Rattle.cli_season_rules.specs.Steps.{Few};
+ghost use Rattle.cli_season.specs.Steps.{FewCells};
 
 // Prints the page on an accepted table's rules, how often each decided, and the grid.
 pub fn page(text: &[u8], counts: &[u64; limits::MAX_RULES], grid: &[[u64; 3]; 2])

@@ -6,21 +6,22 @@ ghost use Rattle.limits.specs.Limits.{maxRules};
 ghost use Rattle.table_rows.specs.Rules.{rulesIn};
 ghost use Rattle.text_make.specs.Added.{Added, AddedUpTo};
 ghost use Rattle.cli_season.specs.Page.{decidedPart, neverPart, pageOf};
-ghost use Rattle.cli_season.specs.Steps.{Few, FewCells, Listable, noneFrom, maxRuleLine, maxDecidedLine, maxPage, MakesPage};
+ghost use Rattle.cli_season_rules.specs.Steps.{Few, Listable, maxRuleLine, maxDecidedLine};
+ghost use Rattle.cli_season.specs.Steps.{FewCells, noneFrom, maxPage, MakesPage};
 use table_load::Loaded;
 
 // Room for a page.
 pub const MAX_PAGE: usize = limits::MAX_RULES
-    * (crate::rules::MAX_DECIDED_LINE + crate::rules::MAX_RULE_LINE)
+    * (cli_season_rules::MAX_DECIDED_LINE + cli_season_rules::MAX_RULE_LINE)
     + 600;
 
 // Told where a list of lines, which ends where it starts, has none.
 fn add_none(start: usize, end: usize, out: &mut [u8]) -> usize
-    requires { ⌜ end + 8 ≤ length (now out) ⌝ }
-    ensures { λ r. ⌜ AddedUpTo 8 (now (out .entry)) end (noneFrom start end) (now (out .exit)) r ⌝ }
+    requires { ⌜ end + 7 ≤ length (now out) ⌝ }
+    ensures { λ r. ⌜ AddedUpTo 7 (now (out .entry)) end (noneFrom start end) (now (out .exit)) r ⌝ }
 {
     if start == end {
-        return text_make::string(b"   none\n", out, end);
+        return text_make::string(b"  none\n", out, end);
     }
     end
 }
@@ -44,7 +45,7 @@ fn add_decided(
         out,
         a,
     );
-    let c = crate::rules::decided_lines(f, starts, n, left, all, out, b);
+    let c = cli_season_rules::decided_lines(f, starts, n, left, all, out, b);
     add_none(b, c, out)
 }
 
@@ -60,7 +61,7 @@ fn add_never(f: &[u8], starts: &[u16], n: usize, counts: &[u64], out: &mut [u8],
         out,
         at,
     );
-    let c = crate::rules::never_lines(f, starts, n, counts, out, b);
+    let c = cli_season_rules::never_lines(f, starts, n, counts, out, b);
     let d = add_none(b, c, out);
     text_make::string(b"\n", out, d)
 }

@@ -1,16 +1,16 @@
 -- That the counts of the example are small, by a test that is computed.
-use Prim.Native.Nat.{ℕ, zero, suc, _≤_}
+use Prim.Native.Nat.{ℕ, zero, suc}
 use native.Mathlib.Omega.{arith}
 use borrow.Author.Tests.{leb-true}
 use mathlib.Core.Path.{_≡_}
-use mathlib.Core.Bool.{Bool, true}
+use mathlib.Core.Bool.{true}
 use mathlib.Core.List.{List, [], _∷_}
 use lib.Dec.{leb}
-use lib.ListN.{getD}
 use Rattle.limits.specs.Limits.{maxLogLines}
 use Rattle.text.specs.Test.{all}
 use Rattle.text.proofs.Tests.{and-l, and-r}
-use Rattle.cli_season.specs.Steps.{Few, FewCells}
+use Rattle.cli_season_rules.specs.Steps.{Few}
+use Rattle.cli_season.specs.Steps.{FewCells}
 
 pub few : (l : List ℕ) → all (λ n. leb n maxLogLines) l ≡ true → Few l
 unfolding all

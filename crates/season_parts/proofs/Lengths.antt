@@ -1,13 +1,10 @@
 -- A bar has at most its columns.
-use Prim.Native.Nat.{ℕ, _*_, _/_, _≤_, _<_}
+use Prim.Native.Nat.{ℕ, _≤_, _<_}
 use native.Mathlib.Omega.{arith}
 use native.Mathlib.Decide.{decLt}
 use borrow.Author.Tests.{lt-ltb, le-ltb}
-use mathlib.Core.Path.{_≡_}
-use mathlib.Core.Bool.{true, false}
-use lib.Dec.{eqb}
 use Rattle.text.specs.Test.{if_then_else_}
-use Rattle.season_parts.specs.Figures.{barColumns, between, barLength}
+use Rattle.season_parts.specs.Figures.{between, barLength}
 
 between-high : (low high n : ℕ) → low ≤ high → between low high n ≤ high
 unfolding between if_then_else_

@@ -1,11 +1,9 @@
 -- A byte stored n times; a number at the right of a column.
-use Prim.Native.Nat.{ℕ, zero, suc, _+_, _-_, _≤_, _<_}
+use Prim.Native.Nat.{ℕ, suc, _+_, _-_, _≤_, _<_}
 use native.Mathlib.Omega.{arith}
-use mathlib.Core.Path.{_≡_, refl, sym, ap, _∙_}
-use mathlib.Core.List.{List, [], _∷_, _++_}
-use lib.ListN.{length, take, replicate, set, length-append, length-replicate}
-use Rattle.text.specs.String.{Str}
-use Rattle.text.specs.Fill.{put}
+use mathlib.Core.Path.{_≡_, sym, ap}
+use mathlib.Core.List.{List, _∷_}
+use lib.ListN.{length, take, replicate, set, length-replicate}
 use Rattle.text.proofs.Filling.{Pending, fill-start, fill-set, fill-byte, wrote, put-take}
 use Rattle.text_make.specs.Added.{Added, AddedUpTo}
 use Rattle.text_make.specs.Text.{decimal}

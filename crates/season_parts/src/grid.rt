@@ -13,7 +13,7 @@ fn row(name: &[u8], a: u64, b: u64, c: u64, out: &mut [u8], at: usize) -> usize
 {
     let d = text_make::string(name, out, at);
     let e = crate::columns::column(11, a, out, d);
-    let g = crate::columns::column(16, b, out, e);
+    let g = crate::columns::column(17, b, out, e);
     let h = crate::columns::column(19, c, out, g);
     let i = crate::columns::column(11, a + b + c, out, h);
     text_make::string(b"\n", out, i)
@@ -24,7 +24,7 @@ pub fn lines(a: u64, b: u64, c: u64, x: u64, y: u64, z: u64, out: &mut [u8], at:
     ensures { λ r. ⌜ AddedUpTo maxGrid (now (out .entry)) at (gridLines a b c x y z) (now (out .exit)) r ⌝ }
 {
     let d = text_make::string(
-        b"          permit  denied by rule  denied by default        all\n",
+        b"          permit   denied by rule  denied by default        all\n",
         out,
         at,
     );
