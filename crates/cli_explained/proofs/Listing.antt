@@ -42,7 +42,7 @@ pub listed-none : (rules : List Rule) (order d : List ℕ) → Listed rules orde
 unfolding linesFrom
 listed-none rules order d = record { added = nothing-added d 0 (omega arith); short = omega arith }
 
-rule-there : (f starts : List ℕ) (n k : ℕ) → k < n → ruleIn f (getD starts k 0) ≡ ruleOf (rulesIn f starts n 0) k
+pub rule-there : (f starts : List ℕ) (n k : ℕ) → k < n → ruleIn f (getD starts k 0) ≡ ruleOf (rulesIn f starts n 0) k
 unfolding ruleOf rulesIn
 rule-there f starts n k h = let z : 0 + k ≡ k = omega arith in sym (rw z at (rows-at (λ j. ruleIn f (getD starts j 0)) n 0 k noRule h))
 

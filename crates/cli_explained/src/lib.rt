@@ -92,7 +92,7 @@ fn ranked(
 }
 
 // The id of the rule at s.
-fn id(f: &[u8], s: usize, out: &mut [u8], at: usize) -> usize
+pub fn id(f: &[u8], s: usize, out: &mut [u8], at: usize) -> usize
     requires { ⌜ (ruleEnd (now f) s ≤ length (now f)) × (at + maxString ≤ length (now out)) ⌝ }
     ensures { λ r. ⌜ AddedUpTo maxString (now (out .entry)) at (upTo maxString (ruleIn (now (f .entry)) s .id)) (now (out .exit)) r ⌝ }
 {

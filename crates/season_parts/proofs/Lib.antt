@@ -1,0 +1,4 @@
+pub mod Repeated
+pub mod Lengths
+pub mod Tops
+pub mod Ranks
