@@ -51,13 +51,13 @@ use Rattle.burgee.proofs.records.Answered.TheLaws as S'
 use Rattle.burgee.specs.contracts.records.start_step as step
 use Rattle.burgee.specs.contracts.records.burgee_start as f
 
-pub not-both : (t : Bool) → t ≡ true → Truth (not t) → ⊥
-not-both true e y = y
-not-both false e y = subst (λ (s : Bool). Truth (not s)) e tt
+pub not_both : (t : Bool) → t ≡ true → Truth (not t) → ⊥
+not_both true e y = y
+not_both false e y = subst (λ (s : Bool). Truth (not s)) e tt
 
-pub not-not : (t : Bool) → Truth (not (not t)) → Truth t
-not-not true y = tt
-not-not false y = y
+pub not_not : (t : Bool) → Truth (not (not t)) → Truth t
+not_not true y = tt
+not_not false y = y
 
 abbrev Arg : Type 0
 Arg = Bor Record × (Bor (List ℕ) × Unit {0})
@@ -172,10 +172,10 @@ module _ (k : Name) (step_of : Record → ℕ → Answered) (keeps : (r : Record
 
   -- what the test says
   refused : (r : Answered) → r ≡ step_of h n → Truth (not (eqb r.word 0)) → h ≡ (step_of h n).next
-  refused r e bad = sym (keeps h n (λ z. not-both (eqb r.word 0) (eq-eqb _ _ (ap (λ (t : Answered). t.word) e ∙ z)) bad))
+  refused r e bad = sym (keeps h n (λ z. not_both (eqb r.word 0) (eq-eqb _ _ (ap (λ (t : Answered). t.word) e ∙ z)) bad))
 
   went : (r : Answered) → r ≡ step_of h n → Truth (not (not (eqb r.word 0))) → 0 ≡ (step_of h n).word
-  went r e good = sym (eqb→eq r.word 0 (not-not (eqb r.word 0) good)) ∙ ap (λ (t : Answered). t.word) e
+  went r e good = sym (eqb→eq r.word 0 (not_not (eqb r.word 0) good)) ∙ ap (λ (t : Answered). t.word) e
 
   abbrev env : ℕ → ℕ → ℕ → ℕ → ℕ → ℕ → ℕ → ℕ → Env 𝓤 H
   env l₀ l₁ l₂ l₃ l₄ l₅ l₆ l₇ =

@@ -24,65 +24,65 @@ abbrev pub upper : ℕ → ℕ
 upper n = n % 2 ^ 32 * 2 ^ 8
 
 -- bits 8 to 15: an action, or how much of a tree is permitted
-abbrev pub actionBits : ℕ → ℕ
-actionBits n = n * 2 ^ 8
+abbrev pub action_bits : ℕ → ℕ
+action_bits n = n * 2 ^ 8
 
 -- bits 16 to 31: the number of a group or a rule, plus 1; 0 stands there where none is named
-abbrev pub numberBits : ℕ → ℕ
-numberBits n = (n + 1) * 2 ^ 16
+abbrev pub number_bits : ℕ → ℕ
+number_bits n = (n + 1) * 2 ^ 16
 
 -- a refusal: bits 0 to 7 its number, bits 8 to 39 its line, which is 0 for a number that carries none
-unfoldable pub refusalWord : ℕ → ℕ → ℕ
-refusalWord number line = number + upper line
+unfoldable pub refusal_word : ℕ → ℕ → ℕ
+refusal_word number line = number + upper line
 
 -- a path result: bits 8 to 39 its length
-unfoldable pub filledWord : Filled → ℕ
-filledWord (filled.Length n) = upper n
-filledWord (filled.Refused number) = refusalWord number 0
+unfoldable pub filled_word : Filled → ℕ
+filled_word (filled.Length n) = upper n
+filled_word (filled.Refused number) = refusal_word number 0
 
 -- a season report: bits 8 to 39 its length
-unfoldable pub reportedWord : Reported → ℕ
-reportedWord (reported.Length n) = upper n
-reportedWord (reported.Refused number line) = refusalWord number line
+unfoldable pub reported_word : Reported → ℕ
+reported_word (reported.Length n) = upper n
+reported_word (reported.Refused number line) = refusal_word number line
 
 -- a table check, and each call on the record
-unfoldable pub checkedWord : Checked → ℕ
-checkedWord checked.Accepted = 0
-checkedWord (checked.Refused number line) = refusalWord number line
+unfoldable pub checked_word : Checked → ℕ
+checked_word checked.Accepted = 0
+checked_word (checked.Refused number line) = refusal_word number line
 
 -- a user's groups: bits 8 to 15 their count, and the number of the first one
-unfoldable pub countedWord : Counted → ℕ
-countedWord (counted.Count n g) = n * 2 ^ 8 + numberBits g.0
-countedWord counted.NoGroup = 0
-countedWord (counted.Declined number line) = refusalWord number line
+unfoldable pub counted_word : Counted → ℕ
+counted_word (counted.Count n g) = n * 2 ^ 8 + number_bits g.0
+counted_word counted.NoGroup = 0
+counted_word (counted.Declined number line) = refusal_word number line
 
 -- a path verdict: 0 deny, 1 permit, and the rule that decided
-unfoldable pub pathWord : PathAnswer → ℕ
-pathWord (path.Permit r) = actionBits 1 + numberBits r.0
-pathWord (path.Deny r) = numberBits r.0
-pathWord path.Default = 0
-pathWord (path.Refused number line) = refusalWord number line
+unfoldable pub path_word : PathAnswer → ℕ
+path_word (path.Permit r) = action_bits 1 + number_bits r.0
+path_word (path.Deny r) = number_bits r.0
+path_word path.Default = 0
+path_word (path.Refused number line) = refusal_word number line
 
 -- a tree verdict: 0 NONE, 1 ALL, 2 MIXED, and with MIXED the rule that it names
-unfoldable pub treeWord : TreeAnswer → ℕ
-treeWord trees.All = actionBits 1
-treeWord trees.None = 0
-treeWord (trees.Mixed r) = actionBits 2 + numberBits r.0
-treeWord (trees.Refused number line) = refusalWord number line
+unfoldable pub tree_word : TreeAnswer → ℕ
+tree_word trees.All = action_bits 1
+tree_word trees.None = 0
+tree_word (trees.Mixed r) = action_bits 2 + number_bits r.0
+tree_word (trees.Refused number line) = refusal_word number line
 
 -- a policy check
-unfoldable pub policyWord : Check → ℕ
-policyWord policy.Accepted = 0
-policyWord (policy.Refused number) = refusalWord number 0
+unfoldable pub policy_word : Check → ℕ
+policy_word policy.Accepted = 0
+policy_word (policy.Refused number) = refusal_word number 0
 
 -- an RPC verdict: 0 deny, 1 permit, and the rule in the list of that action; a list has at most 64 rules
-unfoldable pub rpcWord : Verdict → ℕ
-rpcWord (rpc.Refused number) = refusalWord number 0
-rpcWord (rpc.Denied n) = numberBits (n % 2 ^ 16)
-rpcWord (rpc.Permitted n) = actionBits 1 + numberBits (n % 2 ^ 16)
-rpcWord rpc.Default = 0
+unfoldable pub rpc_word : Verdict → ℕ
+rpc_word (rpc.Refused number) = refusal_word number 0
+rpc_word (rpc.Denied n) = number_bits (n % 2 ^ 16)
+rpc_word (rpc.Permitted n) = action_bits 1 + number_bits (n % 2 ^ 16)
+rpc_word rpc.Default = 0
 
 -- an RPC probe: factory permits, and names no rule
-unfoldable pub rpcProbeWord : RpcAnswer → ℕ
-rpcProbeWord probe.PermitAll = actionBits 1
-rpcProbeWord (probe.Judged v) = rpcWord v
+unfoldable pub rpc_probe_word : RpcAnswer → ℕ
+rpc_probe_word probe.PermitAll = action_bits 1
+rpc_probe_word (probe.Judged v) = rpc_word v

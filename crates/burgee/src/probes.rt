@@ -1,11 +1,11 @@
 // The C boundary of the probes, which judge a request on what is in force: a record's five numbers, the store, and a request.
 ghost use Rattle.std.specs.Prelude.{◌≡◌};
-ghost use Rattle.burgee.specs.Calls.{ProbePath, ProbeTree, ProbeRpc, recordOf, word};
+ghost use Rattle.burgee.specs.Calls.{ProbePath, ProbeTree, ProbeRpc, record_of, word};
 
 use rotation::Record;
 
 fn record_of(kind: u32, live_slot: u32, live_len: u32, rotating: u32, candidate_len: u32) -> Record
-    ensures { result ≡ recordOf kind live_slot live_len rotating candidate_len }
+    ensures { result ≡ record_of kind live_slot live_len rotating candidate_len }
 {
     Record {
         kind: kind,
@@ -30,7 +30,7 @@ pub extern "C" fn burgee_probe_path(
     origin: &[u8],
     path: &[u8],
 ) -> u64
-    ensures { result ≡ word (ProbePath (recordOf kind live_slot live_len rotating candidate_len)
+    ensures { result ≡ word (ProbePath (record_of kind live_slot live_len rotating candidate_len)
         store.now user.now mode origin.now path.now) }
 {
     let r = record_of(kind, live_slot, live_len, rotating, candidate_len);
@@ -51,7 +51,7 @@ pub extern "C" fn burgee_probe_tree(
     origin: &[u8],
     path: &[u8],
 ) -> u64
-    ensures { result ≡ word (ProbeTree (recordOf kind live_slot live_len rotating candidate_len)
+    ensures { result ≡ word (ProbeTree (record_of kind live_slot live_len rotating candidate_len)
         store.now user.now mode origin.now path.now) }
 {
     let r = record_of(kind, live_slot, live_len, rotating, candidate_len);
@@ -71,7 +71,7 @@ pub extern "C" fn burgee_probe_rpc(
     path: &[u8],
     headers: &[u8],
 ) -> u64
-    ensures { result ≡ word (ProbeRpc (recordOf kind live_slot live_len rotating candidate_len)
+    ensures { result ≡ word (ProbeRpc (record_of kind live_slot live_len rotating candidate_len)
         store.now identity.now path.now headers.now) }
 {
     let r = record_of(kind, live_slot, live_len, rotating, candidate_len);

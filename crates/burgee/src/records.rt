@@ -1,7 +1,7 @@
 // The C boundary of the rotation record: thin functions on a record lent by `&mut`, each above a step by value.
 ghost use Rattle.std.specs.Prelude.{◌≡◌, length};
-ghost use Rattle.rotation.specs.Calls.{start, upload, uploadStore, finalize, close};
-ghost use Rattle.rotation_upload.specs.Offered.{offeredCheck};
+ghost use Rattle.rotation.specs.Calls.{start, upload, upload_store, finalize, close};
+ghost use Rattle.rotation_upload.specs.Offered.{offered_check};
 ghost use Rattle.burgee.specs.Record.{answered};
 ghost use Rattle.burgee.specs.Calls.{Start, Upload, Finalize, Close, held, word, after};
 
@@ -46,8 +46,8 @@ pub fn close_step(r: Record, n: usize) -> Answered
 }
 
 pub fn upload_step(r: Record, store: &mut [u8], text: &[u8]) -> Answered
-    ensures { (result ≡ answered (upload offeredCheck r (length store.old) text.now))
-        × (store.new ≡ uploadStore offeredCheck r store.old text.now) }
+    ensures { (result ≡ answered (upload offered_check r (length store.old) text.now))
+        × (store.new ≡ upload_store offered_check r store.old text.now) }
 {
     of_stepped(rotation_upload::upload(r, store, text))
 }

@@ -1,8 +1,8 @@
 // Answers as words: bits 0 to 7 the refusal number; from bit 8 on the line or the length; or from bit 8 on the action or the count, and from bit 16 on the
 // number of the rule or the group, plus 1.
 ghost use Rattle.std.specs.Prelude.{◌≡◌};
-ghost use Rattle.burgee.specs.Word.{refusalWord, filledWord, checkedWord, countedWord, pathWord, treeWord, reportedWord};
-ghost use Rattle.burgee.specs.Word.{policyWord, rpcWord, rpcProbeWord};
+ghost use Rattle.burgee.specs.Word.{refusal_word, filled_word, checked_word, counted_word, path_word, tree_word, reported_word};
+ghost use Rattle.burgee.specs.Word.{policy_word, rpc_word, rpc_probe_word};
 
 use path_read::Filled;
 use policy_check::check::Check;
@@ -13,13 +13,13 @@ use table::{Checked, Counted};
 use verdict_request::{PathAnswer, TreeAnswer};
 
 fn of_refusal(number: u8, line: usize) -> u64
-    ensures { result ≡ refusalWord number line }
+    ensures { result ≡ refusal_word number line }
 {
     number as u64 + (line % 4294967296) as u64 * 256
 }
 
 pub fn of_filled(f: Filled) -> u64
-    ensures { result ≡ filledWord f }
+    ensures { result ≡ filled_word f }
 {
     match f {
         Filled::Length(n) => (n % 4294967296) as u64 * 256,
@@ -28,7 +28,7 @@ pub fn of_filled(f: Filled) -> u64
 }
 
 pub fn of_checked(c: Checked) -> u64
-    ensures { result ≡ checkedWord c }
+    ensures { result ≡ checked_word c }
 {
     match c {
         Checked::Accepted => 0,
@@ -37,7 +37,7 @@ pub fn of_checked(c: Checked) -> u64
 }
 
 pub fn of_counted(c: Counted) -> u64
-    ensures { result ≡ countedWord c }
+    ensures { result ≡ counted_word c }
 {
     match c {
         Counted::Count { count, first } => {
@@ -50,7 +50,7 @@ pub fn of_counted(c: Counted) -> u64
 }
 
 pub fn of_path(a: PathAnswer) -> u64
-    ensures { result ≡ pathWord a }
+    ensures { result ≡ path_word a }
 {
     match a {
         PathAnswer::Permit(rule) => 256 + (rule.0 as u64 + 1) * 65536,
@@ -61,7 +61,7 @@ pub fn of_path(a: PathAnswer) -> u64
 }
 
 pub fn of_tree(a: TreeAnswer) -> u64
-    ensures { result ≡ treeWord a }
+    ensures { result ≡ tree_word a }
 {
     match a {
         TreeAnswer::All => 256,
@@ -72,7 +72,7 @@ pub fn of_tree(a: TreeAnswer) -> u64
 }
 
 pub fn of_reported(a: Reported) -> u64
-    ensures { result ≡ reportedWord a }
+    ensures { result ≡ reported_word a }
 {
     match a {
         Reported::Length(n) => (n % 4294967296) as u64 * 256,
@@ -81,7 +81,7 @@ pub fn of_reported(a: Reported) -> u64
 }
 
 pub fn of_policy(c: Check) -> u64
-    ensures { result ≡ policyWord c }
+    ensures { result ≡ policy_word c }
 {
     match c {
         Check::Accepted => 0,
@@ -90,7 +90,7 @@ pub fn of_policy(c: Check) -> u64
 }
 
 pub fn of_rpc(v: Verdict) -> u64
-    ensures { result ≡ rpcWord v }
+    ensures { result ≡ rpc_word v }
 {
     match v {
         Verdict::Refused(number) => of_refusal(number, 0),
@@ -101,7 +101,7 @@ pub fn of_rpc(v: Verdict) -> u64
 }
 
 pub fn of_rpc_probe(a: RpcAnswer) -> u64
-    ensures { result ≡ rpcProbeWord a }
+    ensures { result ≡ rpc_probe_word a }
 {
     match a {
         RpcAnswer::PermitAll => 256,

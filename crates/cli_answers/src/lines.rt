@@ -1,8 +1,8 @@
 // The lines of verdicts, made in a buffer.
 ghost use Rattle.std.specs.Prelude.{◌+◌, ◌≤◌, length};
-ghost use Rattle.limits.specs.Limits.{maxString};
+ghost use Rattle.limits.specs.Limits.{max_string};
 ghost use Rattle.text_make.specs.Added.{Added, AddedUpTo};
-ghost use Rattle.cli_answers.specs.Lines.{nameIn, byRule, reason, pathLines, noneLines, treeLines};
+ghost use Rattle.cli_answers.specs.Lines.{name_in, by_rule, reason, path_lines, none_lines, tree_lines};
 
 use table::RuleNumber;
 use table_facts::Row;
@@ -18,8 +18,8 @@ pub enum Fallback {
 
 // The name of a row, from `at` on.
 pub fn name(text: &[u8], row: Row, out: &mut [u8], at: usize) -> usize
-    requires { at + maxString ≤ length out.old }
-    ensures { AddedUpTo maxString out.old at (nameIn text.now row) out.new result }
+    requires { at + max_string ≤ length out.old }
+    ensures { AddedUpTo max_string out.old at (name_in text.now row) out.new result }
 {
     let mut name = [0u8; limits::MAX_STRING];
     let n = table_facts::name_of(text, row, &mut name);
@@ -28,8 +28,8 @@ pub fn name(text: &[u8], row: Row, out: &mut [u8], at: usize) -> usize
 
 // An answer, and the number and id of the rule that it is by.
 fn by_rule(text: &[u8], answer: &[u8], rule: RuleNumber, out: &mut [u8]) -> usize
-    requires { length answer.now + 25 + maxString ≤ length out.old }
-    ensures { Added out.old 0 (byRule text.now answer.now rule) out.new result }
+    requires { length answer.now + 25 + max_string ≤ length out.old }
+    ensures { Added out.old 0 (by_rule text.now answer.now rule) out.new result }
 {
     let a = text_make::fact(answer, rule.0 as u64, out, 0);
     let b = text_make::string(b"id ", out, a);
@@ -51,8 +51,8 @@ fn add_reason(f: Fallback, out: &mut [u8], at: usize) -> usize
 
 // The action and the deciding rule; nothing for a refusal.
 pub fn path(text: &[u8], f: Fallback, a: PathAnswer, out: &mut [u8]) -> usize
-    requires { 37 + maxString ≤ length out.old }
-    ensures { Added out.old 0 (pathLines text.now f a) out.new result }
+    requires { 37 + max_string ≤ length out.old }
+    ensures { Added out.old 0 (path_lines text.now f a) out.new result }
 {
     match a {
         PathAnswer::Permit(rule) => by_rule(text, b"permit\nrule ", rule, out),
@@ -68,7 +68,7 @@ pub fn path(text: &[u8], f: Fallback, a: PathAnswer, out: &mut [u8]) -> usize
 // No path is permitted.
 fn none(f: Fallback, out: &mut [u8]) -> usize
     requires { 13 ≤ length out.old }
-    ensures { Added out.old 0 (noneLines f) out.new result }
+    ensures { Added out.old 0 (none_lines f) out.new result }
 {
     match f {
         Fallback::Default => text_make::string(b"NONE\n", out, 0),
@@ -79,8 +79,8 @@ fn none(f: Fallback, out: &mut [u8]) -> usize
 
 // The tree answer, and the rule that MIXED names; nothing for a refusal.
 pub fn tree(text: &[u8], f: Fallback, a: TreeAnswer, out: &mut [u8]) -> usize
-    requires { 37 + maxString ≤ length out.old }
-    ensures { Added out.old 0 (treeLines text.now f a) out.new result }
+    requires { 37 + max_string ≤ length out.old }
+    ensures { Added out.old 0 (tree_lines text.now f a) out.new result }
 {
     match a {
         TreeAnswer::All => text_make::string(b"ALL\n", out, 0),

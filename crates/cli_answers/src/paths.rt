@@ -1,7 +1,7 @@
 // The lines of paths that are read and written, made in a buffer.
 ghost use Rattle.std.specs.Prelude.{◌+◌, ◌*◌, ◌≤◌, length};
-ghost use Rattle.limits.specs.Sizes.{maxPathBytes, maxPathText};
-ghost use Rattle.cli_answers.specs.Paths.{bytesLine, textLine, Made};
+ghost use Rattle.limits.specs.Sizes.{max_path_bytes, max_path_text};
+ghost use Rattle.cli_answers.specs.Paths.{bytes_line, text_line, Made};
 
 use path_read::Filled;
 
@@ -12,8 +12,8 @@ pub const MAX_TEXT_LINE: usize = limits::MAX_PATH_TEXT + 1;
 
 // The line of the bytes of a path text, and its length; or the refusal, and nothing is made.
 pub fn bytes_line(text: &[u8], out: &mut [u8]) -> Filled
-    requires { 2 * maxPathBytes + 1 ≤ length out.old }
-    ensures { Made (bytesLine text.now) out.old out.new result }
+    requires { 2 * max_path_bytes + 1 ≤ length out.old }
+    ensures { Made (bytes_line text.now) out.old out.new result }
 {
     let mut bytes = [0u8; limits::MAX_PATH_BYTES];
     let r = path_read::reader::read_text(text, &mut bytes);
@@ -28,8 +28,8 @@ pub fn bytes_line(text: &[u8], out: &mut [u8]) -> Filled
 
 // The same of the text of path bytes.
 pub fn text_line(bytes: &[u8], out: &mut [u8]) -> Filled
-    requires { maxPathText + 1 ≤ length out.old }
-    ensures { Made (textLine bytes.now) out.old out.new result }
+    requires { max_path_text + 1 ≤ length out.old }
+    ensures { Made (text_line bytes.now) out.old out.new result }
 {
     let r = path_write::write_text(bytes, out);
     match r {

@@ -1,13 +1,13 @@
 -- What the programs answer that look for a line and show it.
 use Rattle.std.specs.Prelude.{ℕ, ◌≤◌, ◌≡◌, length, drop}
 use Rattle.text.specs.String.{Str}
-use Rattle.cli_console.specs.Quoted.{fromLine}
+use Rattle.cli_console.specs.Quoted.{from_line}
 
 -- as many bytes of a line as are made at once
-abbrev pub maxPart : ℕ
-maxPart = 1024
+abbrev pub max_part : ℕ
+max_part = 1024
 
 -- line n begins at `at`
 pub record LineAt (text : Str) (n at : ℕ) : Type 0 where
   pub within : at ≤ length text
-  pub there : drop at text ≡ fromLine n text
+  pub there : drop at text ≡ from_line n text

@@ -1,6 +1,6 @@
 // The lines of a text.
 ghost use Rattle.std.specs.Prelude.{◌≡◌, ◌≤◌, length};
-ghost use Rattle.cli_console.specs.Quoted.{fromLine, unended, lineFeed, lineNumber};
+ghost use Rattle.cli_console.specs.Quoted.{from_line, unended, line_feed, line_number};
 ghost use Rattle.cli_console.specs.Steps.{LineAt};
 
 use cli_refusal::entry::next;
@@ -23,14 +23,14 @@ fn start(text: &[u8], n: usize) -> usize
 
 // 1 for an LF.
 fn line_feed(b: u8) -> usize
-    ensures { result ≡ lineFeed b }
+    ensures { result ≡ line_feed b }
 {
     if b == b'\n' { 1 } else { 0 }
 }
 
 // The number of the line that position p is in, counted from 1; the last line's where p is past them all.
 pub fn number_at(text: &[u8], p: usize) -> usize
-    ensures { result ≡ lineNumber p text.now }
+    ensures { result ≡ line_number p text.now }
 {
     let mut n = 1;
     let mut i = 0;
@@ -59,7 +59,7 @@ pub fn quote(to: i32, text: &[u8], n: usize) {
 
 // Whether line n has no LF at its end.
 pub fn is_open(text: &[u8], n: usize) -> bool
-    ensures { result ≡ unended (fromLine n text.now) }
+    ensures { result ≡ unended (from_line n text.now) }
 {
     text_search::find(text, start(text, n), b'\n') == text.len()
 }

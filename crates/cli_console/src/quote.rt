@@ -2,7 +2,7 @@
 ghost use Rattle.std.specs.Prelude.{◌+◌, ◌*◌, ◌≤◌, ◌<◌, length};
 ghost use Rattle.text_make.specs.Added.{Added, AddedUpTo};
 ghost use Rattle.cli_console.specs.Quoted.{shown, quoted};
-ghost use Rattle.cli_console.specs.Steps.{maxPart};
+ghost use Rattle.cli_console.specs.Steps.{max_part};
 
 // As many bytes of a line as are made at once, and room for them: one that does not print takes four.
 const PART: usize = 1024;
@@ -39,7 +39,7 @@ fn make(s: &[u8], out: &mut [u8]) -> usize
 // Where the part that begins at `at` ends.
 fn part_end(s: &[u8], at: usize) -> usize
     requires { at < length s.now }
-    ensures { (at < result) × (result ≤ length s.now) × (result ≤ at + maxPart) }
+    ensures { (at < result) × (result ≤ length s.now) × (result ≤ at + max_part) }
 {
     if PART < s.len() - at {
         at + PART
@@ -49,7 +49,7 @@ fn part_end(s: &[u8], at: usize) -> usize
 }
 
 fn print_part(to: i32, s: &[u8])
-    requires { length s.now ≤ maxPart }
+    requires { length s.now ≤ max_part }
 {
     let mut out = [0u8; PART_ROOM];
     let n = make(s, &mut out);

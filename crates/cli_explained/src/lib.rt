@@ -1,12 +1,12 @@
 // The lines of an explanation, made in a buffer.
 ghost use Rattle.std.specs.Prelude.{◌+◌, ◌≤◌, length, take};
-ghost use Rattle.limits.specs.Limits.{maxString};
-ghost use Rattle.table_rows.specs.Rules.{ruleIn, ruleEnd, rulesIn};
+ghost use Rattle.limits.specs.Limits.{max_string};
+ghost use Rattle.table_rows.specs.Rules.{rule_in, rule_end, rules_in};
 ghost use Rattle.text_make.specs.Added.{Added, AddedUpTo};
 ghost use Rattle.text_make.specs.Text.{up_to};
-ghost use Rattle.cli_explained.specs.Explained.{stepName, fate, actionText, subjectText, standingText, rankedLine, rankingLines};
+ghost use Rattle.cli_explained.specs.Explained.{step_name, fate, action_text, subject_text, standing_text, ranked_line, ranking_lines};
 ghost use Rattle.cli_explained.specs.Explained.{ranked as Explained·ranked};
-ghost use Rattle.cli_explained.specs.Steps.{maxRankedLine, Rankable};
+ghost use Rattle.cli_explained.specs.Steps.{max_ranked_line, Rankable};
 
 use table::RuleNumber;
 use verdict_explain::{Standing, Step};
@@ -16,7 +16,7 @@ pub const MAX_LINE: usize = 161 + limits::MAX_STRING;
 
 fn step_name(s: Step, out: &mut [u8], at: usize) -> usize
     requires { at + 17 ≤ length out.old }
-    ensures { AddedUpTo 17 out.old at (stepName s) out.new result }
+    ensures { AddedUpTo 17 out.old at (step_name s) out.new result }
 {
     match s {
         Step::Elements => text_make::string(b"elements", out, at),
@@ -42,7 +42,7 @@ fn add_fate(place: usize, s: Step, out: &mut [u8], at: usize) -> usize
 
 fn action(s: Standing, out: &mut [u8], at: usize) -> usize
     requires { at + 19 ≤ length out.old }
-    ensures { AddedUpTo 19 out.old at (actionText s) out.new result }
+    ensures { AddedUpTo 19 out.old at (action_text s) out.new result }
 {
     if s.permit {
         return text_make::string(b", permit, elements ", out, at);
@@ -52,7 +52,7 @@ fn action(s: Standing, out: &mut [u8], at: usize) -> usize
 
 fn subject(s: Standing, out: &mut [u8], at: usize) -> usize
     requires { at + 12 ≤ length out.old }
-    ensures { AddedUpTo 12 out.old at (subjectText s) out.new result }
+    ensures { AddedUpTo 12 out.old at (subject_text s) out.new result }
 {
     if s.group {
         return text_make::string(b", group, id ", out, at);
@@ -63,7 +63,7 @@ fn subject(s: Standing, out: &mut [u8], at: usize) -> usize
 // What the ranking looks at in a rule.
 fn standing(s: Standing, out: &mut [u8], at: usize) -> usize
     requires { at + 87 ≤ length out.old }
-    ensures { AddedUpTo 87 out.old at (standingText s) out.new result }
+    ensures { AddedUpTo 87 out.old at (standing_text s) out.new result }
 {
     let a = action(s, out, at);
     let b = text_make::decimal(s.elements as u64, out, a);
@@ -92,8 +92,8 @@ fn ranked(
 
 // The id of the rule at s.
 pub fn id(f: &[u8], s: usize, out: &mut [u8], at: usize) -> usize
-    requires { (ruleEnd f.now s ≤ length f.now) × (at + maxString ≤ length out.old) }
-    ensures { AddedUpTo maxString out.old at (up_to maxString (ruleIn f.now s).id) out.new result }
+    requires { (rule_end f.now s ≤ length f.now) × (at + max_string ≤ length out.old) }
+    ensures { AddedUpTo max_string out.old at (up_to max_string (rule_in f.now s).id) out.new result }
 {
     let i = verdict_judge::rule::id_at(f, s);
     let a = i + 1;
@@ -111,9 +111,9 @@ fn line(
     out: &mut [u8],
     at: usize,
 ) -> usize
-    requires { (ruleEnd f.now s ≤ length f.now) × (ruleEnd f.now best ≤ length f.now) × (at + maxRankedLine ≤ length out.old) }
-    ensures { AddedUpTo maxRankedLine out.old at
-        (rankedLine place rule.0 (ruleIn f.now s) (ruleIn f.now best))
+    requires { (rule_end f.now s ≤ length f.now) × (rule_end f.now best ≤ length f.now) × (at + max_ranked_line ≤ length out.old) }
+    ensures { AddedUpTo max_ranked_line out.old at
+        (ranked_line place rule.0 (rule_in f.now s) (rule_in f.now best))
         out.new result }
 {
     let own = verdict_explain::standing_at(f, s);
@@ -128,7 +128,7 @@ fn line(
 pub fn ranking(f: &[u8], starts: &[u16], n: usize, order: &[u16], m: usize, out: &mut [u8]) -> usize
     requires { Rankable f.now starts.now n order.now m out.old }
     ensures { Added out.old 0
-        (rankingLines (rulesIn f.now starts.now n 0) (take m order.now))
+        (ranking_lines (rules_in f.now starts.now n 0) (take m order.now))
         out.new result }
 {
     let mut at = 0;

@@ -1,11 +1,11 @@
 -- Whom a table names as a user, and the line that is said of a user whom it does not name: a typing slip looks like a user without rights.
 use Rattle.std.specs.Prelude.{ℕ, ◌+◌, ◌*◌, Bool, true, false, cond, List, [], ◌∷◌, ◌++◌, map}
-use Rattle.limits.specs.Limits.{maxMembers, maxRules, maxString}
+use Rattle.limits.specs.Limits.{max_members, max_rules, max_string}
 use Rattle.text.specs.Test.{if◌then◌else◌, any, only}
 use Rattle.text.specs.Byte.{within}
 use Rattle.text.specs.String.{Str, bytes, same}
 use Rattle.table.specs.Table.{Table, Member, Rule}
-use Rattle.table.specs.Group.{badUser}
+use Rattle.table.specs.Group.{bad_user}
 use Rattle.table.specs.declared.Checked.{Checked}
 use Rattle.table.specs.declared.Checked.TheVariants.{Accepted, Refused}
 
@@ -14,11 +14,11 @@ use Rattle.table.specs.declared.Checked.TheVariants.{Accepted, Refused}
 -- those whom rules name: "subject (0 user, 1 group)"
 unfoldable pub subjects : List Rule → List Str
 subjects [] = []
-subjects (r ∷ rs) = if r.byGroup then subjects rs else r.subject ∷ subjects rs
+subjects (r ∷ rs) = if r.by_group then subjects rs else r.subject ∷ subjects rs
 
 -- the users whom member lines name, then those whom rules name, in text order
-unfoldable pub usersOf : Table → List Str
-usersOf t = map (λ (m : Member). m.user) t.members ++ subjects t.rules
+unfoldable pub users_of : Table → List Str
+users_of t = map (λ (m : Member). m.user) t.members ++ subjects t.rules
 
 -- ---- names that differ only in case
 
@@ -38,15 +38,15 @@ gather names (s ∷ ss) = gather (if any (same s) names then names else names ++
 -- ---- the line
 
 -- a name after words, if it is the first, else after a comma
-unfoldable pub leadOf : Bool → Str
-leadOf isFirst = if isFirst then bytes "; it names " else bytes ", "
+unfoldable pub lead_of : Bool → Str
+lead_of is_first = if is_first then bytes "; it names " else bytes ", "
 
 unfoldable pub led : Bool → Str → Str
-led isFirst s = leadOf isFirst ++ s
+led is_first s = lead_of is_first ++ s
 
 unfoldable pub listed : Bool → List Str → Str
-listed isFirst [] = []
-listed isFirst (s ∷ ss) = led isFirst s ++ listed false ss
+listed is_first [] = []
+listed is_first (s ∷ ss) = led is_first s ++ listed false ss
 
 -- that a group has the name
 unfoldable pub grouping : Bool → Str
@@ -64,14 +64,14 @@ told is_group user users = if any (same user) users then [] else sentence is_gro
 -- nothing too where the table or the user is refused
 unfoldable pub slip : Checked → Table → Str → Str
 slip (Refused n l) t user = []
-slip Accepted t user = if badUser user then [] else told (any (same user) t.groups) user (usersOf t)
+slip Accepted t user = if bad_user user then [] else told (any (same user) t.groups) user (users_of t)
 
 -- ---- its length
 
 -- as many users as a table can name
-abbrev pub maxUsers : ℕ
-maxUsers = maxMembers + maxRules
+abbrev pub max_users : ℕ
+max_users = max_members + max_rules
 
 -- its words have 67 bytes; each name of the table stands after two more at most, but for the first
-abbrev pub maxLine : ℕ
-maxLine = 67 + maxString + maxUsers * (2 + maxString)
+abbrev pub max_line : ℕ
+max_line = 67 + max_string + max_users * (2 + max_string)

@@ -1,14 +1,14 @@
 // A user whom a table does not name is told on standard error, with the names that differ only in case.
 ghost use Rattle.std.specs.Prelude.{◌≡◌, true, not, ◌+◌, ◌≤◌, ◌<◌, length};
-ghost use Rattle.limits.specs.Limits.{maxString};
+ghost use Rattle.limits.specs.Limits.{max_string};
 ghost use Rattle.text.specs.Test.{◌and◌, any};
 ghost use Rattle.text.specs.String.{same};
 ghost use Rattle.text_make.specs.Added.{Added};
 ghost use Rattle.table.specs.Text.{check, table_of};
-ghost use Rattle.table_place.specs.Place.{strEnd, strIn};
-ghost use Rattle.table_rows.specs.Strings.{stringsIn, Listed};
-ghost use Rattle.cli_names.specs.Names.{small, alike, led, leadOf, listed, grouping, sentence, told, slip, maxLine};
-ghost use Rattle.cli_names.specs.Positions.{subjectsIn, usersIn, Pushed, Stand, RulesReady, GatherReady, Gathered, TableReady};
+ghost use Rattle.table_place.specs.Place.{str_end, str_in};
+ghost use Rattle.table_rows.specs.Strings.{strings_in, Listed};
+ghost use Rattle.cli_names.specs.Names.{small, alike, led, lead_of, listed, grouping, sentence, told, slip, max_line};
+ghost use Rattle.cli_names.specs.Positions.{subjects_in, users_in, Pushed, Stand, RulesReady, GatherReady, Gathered, TableReady};
 
 use table_load::Loaded;
 
@@ -60,7 +60,7 @@ fn push_where(test: bool, places: &mut [u16], m: usize, at: u16) -> usize
 // Puts the position of each user whom one of n rules names into places; answers how many there are.
 fn find_subjects(f: &[u8], starts: &[u16], n: usize, places: &mut [u16]) -> usize
     requires { RulesReady f.now starts.now n places.old }
-    ensures { Stand f.now places.new result (subjectsIn f.now starts.now n 0) × (result ≤ n)
+    ensures { Stand f.now places.new result (subjects_in f.now starts.now n 0) × (result ≤ n)
         × (length places.new ≡ length places.old) }
 {
     let mut m = 0;
@@ -76,9 +76,9 @@ fn find_subjects(f: &[u8], starts: &[u16], n: usize, places: &mut [u16]) -> usiz
 
 // The name at `at` is the user's but for the case of letters, and none of the first m kept.
 fn is_new(f: &[u8], at: usize, user: &[u8], kept: &[u16], m: usize) -> bool
-    requires { (strEnd f.now at ≤ length f.now) × Listed f.now kept.now m }
-    ensures { result ≡ (alike user.now (strIn f.now at)
-        and not (any (same (strIn f.now at)) (stringsIn f.now kept.now m 0))) }
+    requires { (str_end f.now at ≤ length f.now) × Listed f.now kept.now m }
+    ensures { result ≡ (alike user.now (str_in f.now at)
+        and not (any (same (str_in f.now at)) (strings_in f.now kept.now m 0))) }
 {
     let start = at + 1;
     let end = table_place::str_end(f, at);
@@ -107,8 +107,8 @@ fn gather(f: &[u8], starts: &[u16], n: usize, user: &[u8], kept: &mut [u16], m: 
 
 // Adds the words before a name, of which the first has others; answers, as the functions below, where the text ends.
 fn add_lead(first: bool, out: &mut [u8], at: usize) -> usize
-    requires { at + length (leadOf first) ≤ length out.old }
-    ensures { Added out.old at (leadOf first) out.new result }
+    requires { at + length (lead_of first) ≤ length out.old }
+    ensures { Added out.old at (lead_of first) out.new result }
 {
     if first {
         return text_make::string(b"; it names ", out, at);
@@ -118,8 +118,8 @@ fn add_lead(first: bool, out: &mut [u8], at: usize) -> usize
 
 // Adds the name at p of f, after these words.
 fn add_name(f: &[u8], p: usize, first: bool, out: &mut [u8], at: usize) -> usize
-    requires { (strEnd f.now p ≤ length f.now) × (at + length (led first (strIn f.now p)) ≤ length out.old) }
-    ensures { Added out.old at (led first (strIn f.now p)) out.new result }
+    requires { (str_end f.now p ≤ length f.now) × (at + length (led first (str_in f.now p)) ≤ length out.old) }
+    ensures { Added out.old at (led first (str_in f.now p)) out.new result }
 {
     let to = add_lead(first, out, at);
     let start = p + 1;
@@ -129,8 +129,8 @@ fn add_name(f: &[u8], p: usize, first: bool, out: &mut [u8], at: usize) -> usize
 
 // Adds the names at n places.
 fn add_names(f: &[u8], places: &[u16], n: usize, out: &mut [u8], at: usize) -> usize
-    requires { Listed f.now places.now n × (at + length (listed true (stringsIn f.now places.now n 0)) ≤ length out.old) }
-    ensures { Added out.old at (listed true (stringsIn f.now places.now n 0)) out.new result }
+    requires { Listed f.now places.now n × (at + length (listed true (strings_in f.now places.now n 0)) ≤ length out.old) }
+    ensures { Added out.old at (listed true (strings_in f.now places.now n 0)) out.new result }
 {
     let mut to = at;
     let mut i = 0;
@@ -162,8 +162,8 @@ fn make_sentence(
     n: usize,
     out: &mut [u8],
 ) -> usize
-    requires { Listed f.now places.now n × (length (sentence grouped user.now (stringsIn f.now places.now n 0)) ≤ length out.old) }
-    ensures { Added out.old 0 (sentence grouped user.now (stringsIn f.now places.now n 0))
+    requires { Listed f.now places.now n × (length (sentence grouped user.now (strings_in f.now places.now n 0)) ≤ length out.old) }
+    ensures { Added out.old 0 (sentence grouped user.now (strings_in f.now places.now n 0))
         out.new result }
 {
     let a = text_make::string(b"burgee: the table names no user ", out, 0);
@@ -184,9 +184,9 @@ fn tell_users(
     user: &[u8],
     out: &mut [u8],
 ) -> usize
-    requires { TableReady f.now users.now members starts.now rules × (length user.now ≤ maxString) × (maxLine ≤ length out.old) }
+    requires { TableReady f.now users.now members starts.now rules × (length user.now ≤ max_string) × (max_line ≤ length out.old) }
     ensures { Added out.old 0
-        (told grouped user.now (usersIn f.now users.now members starts.now rules))
+        (told grouped user.now (users_in f.now users.now members starts.now rules))
         out.new result }
 {
     if table_rows::find(f, users, members, user) < members {
@@ -205,7 +205,7 @@ fn tell_users(
 
 // The line, at the start of out; answers its length, 0 where there is nothing to tell.
 pub fn write_line(text: &[u8], user: &[u8], out: &mut [u8]) -> usize
-    requires { maxLine ≤ length out.old }
+    requires { max_line ≤ length out.old }
     ensures { Added out.old 0 (slip (check text.now) (table_of text.now) user.now) out.new result }
 {
     let mut buf = [0u8; limits::MAX_TABLE_BYTES];

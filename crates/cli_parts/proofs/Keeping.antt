@@ -10,7 +10,7 @@ use Rattle.io.specs.Counts.{IsPrefixLen}
 use Rattle.text.specs.Frame.{part}
 use Rattle.text.specs.Fill.{put}
 use Rattle.text.specs.Steps.{Wrote}
-use Rattle.text.proofs.Filling.{wrote-long, put-take}
+use Rattle.text.proofs.Filling.{wrote_long, put_take}
 use Rattle.cli_parts.specs.Parts.{KeptFirst}
 
 -- the first i of the bytes from `from` up to `to` of d stand at the start of buf, and behind them it is as d
@@ -21,57 +21,57 @@ pub record Moved (d : List ℕ) (from to : ℕ) (buf : List ℕ) (i : ℕ) : Typ
   pub rest : drop i buf ≡ drop i d
 
 module _ (d : List ℕ) (from to : ℕ) where
-  pub moved-start : Moved d from to d 0
-  moved-start = record { few = omega arith; long = refl; front = refl; rest = refl }
+  pub moved_start : Moved d from to d 0
+  moved_start = record { few = omega arith; long = refl; front = refl; rest = refl }
 
   module _ (h : from ≤ to) (k : to ≤ length d) where
-    part-long : length (part d from to) ≡ to - from
-    part-long = length-take-le (to - from) (drop from d) (omega (arith, length-drop from d))
+    part_long : length (part d from to) ≡ to - from
+    part_long = length-take-le (to - from) (drop from d) (omega (arith, length-drop from d))
 
     module _ (buf : List ℕ) (i : ℕ) (m : Moved d from to buf i) where
       module _ (l : i < to - from) where
-        byte-here : get_or buf (from + i) 0 ≡ get_or (part d from to) i 0
-        byte-here =
+        byte_here : get_or buf (from + i) 0 ≡ get_or (part d from to) i 0
+        byte_here =
             let z : from + i ≡ i + from = omega arith in
             ap (λ (j : ℕ). get_or buf j 0) z ∙ sym (get_or-drop i buf from 0) ∙ ap (λ (s : List ℕ). get_or s from 0) m.rest ∙ get_or-drop i d from 0 ∙ ap (λ (j : ℕ). get_or d j 0) (sym z)
             ∙ sym (get_or-drop from d i 0) ∙ sym (get_or-take (to - from) (drop from d) i 0 l)
 
-        pub moved-turn : Moved d from to (set buf i (get_or buf (from + i) 0)) (i + 1)
-        moved-turn =
+        pub moved_turn : Moved d from to (set buf i (get_or buf (from + i) 0)) (i + 1)
+        moved_turn =
             let b = get_or buf (from + i) 0 in
             let r : i < length buf = omega (arith, m.long) in
             let w = part d from to in
             let x : take (i + 1) (set buf i b) ≡ take i buf ++ (b ∷ []) =
             rw add-one (take-suc (set buf i b) i 0 (rw (length-set buf i b) r) ∙ rw (take-set-le i buf i b (omega arith), get_or-set_same buf i b 0 r)) in
-            let y : take (i + 1) w ≡ take i w ++ (get_or w i 0 ∷ []) = rw add-one (take-suc w i 0 (omega (arith, part-long))) in
+            let y : take (i + 1) w ≡ take i w ++ (get_or w i 0 ∷ []) = rw add-one (take-suc w i 0 (omega (arith, part_long))) in
             let u : drop (i + 1) buf ≡ drop (i + 1) d = sym (drop-drop 1 i buf) ∙ ap (drop 1) m.rest ∙ drop-drop 1 i d in
             record {
               few = omega arith;
               long = length-set buf i b ∙ m.long;
-              front = x ∙ rw (m.front, byte-here) (sym y);
+              front = x ∙ rw (m.front, byte_here) (sym y);
               rest = drop-set-lt (i + 1) buf i b (omega arith) ∙ u;
             }
 
-      pub moved-done : to - from ≤ i → Wrote d 0 (part d from to) buf i
+      pub moved_done : to - from ≤ i → Wrote d 0 (part d from to) buf i
       unfolding put
-      moved-done l =
+      moved_done l =
           let e : i ≡ to - from = omega (arith, m.few) in
           let w = part d from to in
-          let f : take i buf ≡ w = m.front ∙ take_all i w (omega (arith, part-long)) in
-          let n : i ≡ 0 + length w = omega (arith, part-long) in
+          let f : take i buf ≡ w = m.front ∙ take_all i w (omega (arith, part_long)) in
+          let n : i ≡ 0 + length w = omega (arith, part_long) in
           record { ends = n; same = sym (take-append-drop i buf) ∙ rw (f, m.rest) (ap (λ (j : ℕ). w ++ drop j d) n) }
 
-    pub moved-within : (buf : List ℕ) (i : ℕ) → Wrote d 0 (part d from to) buf i → i ≤ length buf
-    moved-within buf i v = omega (arith, v.ends, part-long, wrote-long d 0 (part d from to) buf i v (omega (arith, part-long)))
+    pub moved_within : (buf : List ℕ) (i : ℕ) → Wrote d 0 (part d from to) buf i → i ≤ length buf
+    moved_within buf i v = omega (arith, v.ends, part_long, wrote_long d 0 (part d from to) buf i v (omega (arith, part_long)))
 
     -- and stand first, whatever stands behind them
-    pub moved-first : (buf : List ℕ) (i : ℕ) (behind : List ℕ) (n : ℕ) → Wrote d 0 (part d from to) buf i → KeptFirst d from to (take i buf ++ behind) (i + n)
-    moved-first buf i behind n v =
+    pub moved_first : (buf : List ℕ) (i : ℕ) (behind : List ℕ) (n : ℕ) → Wrote d 0 (part d from to) buf i → KeptFirst d from to (take i buf ++ behind) (i + n)
+    moved_first buf i behind n v =
         let w = part d from to in
-        let l : 0 + length w ≤ length d = omega (arith, part-long) in
-        let e : i ≡ to - from = omega (arith, v.ends, part-long) in
-        let f : take i buf ≡ w = ap (λ (k : ℕ). take k buf) v.ends ∙ ap (take (0 + length w)) v.same ∙ put-take d 0 w l in
-        let g : to - from ≡ length w = sym part-long in
+        let l : 0 + length w ≤ length d = omega (arith, part_long) in
+        let e : i ≡ to - from = omega (arith, v.ends, part_long) in
+        let f : take i buf ≡ w = ap (λ (k : ℕ). take k buf) v.ends ∙ ap (take (0 + length w)) v.same ∙ put_take d 0 w l in
+        let g : to - from ≡ length w = sym part_long in
         record { among = omega (arith, e); first = rw f (ap (λ (k : ℕ). take k (w ++ behind)) g ∙ take-append_seam w behind) }
 
 -- bytes behind those that were moved

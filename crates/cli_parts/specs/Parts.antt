@@ -6,9 +6,9 @@ use Rattle.text.specs.Frame.{part}
 use Rattle.table_line.specs.Lines.{lines}
 
 -- the bytes up to the last LF, and with it
-unfoldable pub wholeLength : Str → ℕ
-wholeLength [] = 0
-wholeLength (b ∷ s) = if ltb 0 (wholeLength s) then suc (wholeLength s) else if eqb b 10 then 1 else 0
+unfoldable pub whole_length : Str → ℕ
+whole_length [] = 0
+whole_length (b ∷ s) = if ltb 0 (whole_length s) then suc (whole_length s) else if eqb b 10 then 1 else 0
 
 -- the bytes of d from `from` up to `to` are the first of the `count` bytes of d'
 pub record KeptFirst (d : List ℕ) (from to : ℕ) (d' : List ℕ) (count : ℕ) : Type 0 where
@@ -19,4 +19,4 @@ pub record KeptFirst (d : List ℕ) (from to : ℕ) (d' : List ℕ) (count : ℕ
 unfoldable pub lines_of : Str → List Str → List Str
 lines_of kept [] = lines kept
 lines_of kept (p ∷ ps) =
-    lines (take (wholeLength (kept ++ p)) (kept ++ p)) ++ lines_of (drop (wholeLength (kept ++ p)) (kept ++ p)) ps
+    lines (take (whole_length (kept ++ p)) (kept ++ p)) ++ lines_of (drop (whole_length (kept ++ p)) (kept ++ p)) ps

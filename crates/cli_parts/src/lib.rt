@@ -3,7 +3,7 @@ ghost use Rattle.std.specs.Prelude.{◌≡◌, ◌+◌, ◌≤◌, length};
 ghost use Rattle.text.specs.Frame.{part};
 ghost use Rattle.text.specs.Steps.{Wrote};
 ghost use Rattle.io.specs.Counts.{IsPrefixLen};
-ghost use Rattle.cli_parts.specs.Parts.{wholeLength, KeptFirst};
+ghost use Rattle.cli_parts.specs.Parts.{whole_length, KeptFirst};
 
 use cli_console::input;
 use cli_console::input::Read;
@@ -13,7 +13,7 @@ pub const ROOM: usize = 65536;
 
 // How many bytes the whole lines of a text have: those up to its last LF.
 pub fn whole_length(text: &[u8]) -> usize
-    ensures { result ≡ wholeLength text.now }
+    ensures { result ≡ whole_length text.now }
 {
     let mut n = text.len();
     while 0 < n {

@@ -1,8 +1,8 @@
 // The lines of a policy's check and of RPC verdicts, made in a buffer.
 ghost use Rattle.std.specs.Prelude.{◌+◌, ◌≤◌, length};
-ghost use Rattle.limits.specs.Limits.{maxPolicyString};
+ghost use Rattle.limits.specs.Limits.{max_policy_string};
 ghost use Rattle.text_make.specs.Added.{Added};
-ghost use Rattle.cli_policy.specs.Lines.{countLines, byRule, rpcLines};
+ghost use Rattle.cli_policy.specs.Lines.{count_lines, by_rule, rpc_lines};
 
 use policy_facts::Rules;
 use policy_facts::name::Listed;
@@ -11,7 +11,7 @@ use rpc::verdict::Verdict;
 // How many rules each list has; nothing for a refusal.
 pub fn counts(r: Rules, out: &mut [u8]) -> usize
     requires { 74 ≤ length out.old }
-    ensures { Added out.old 0 (countLines r) out.new result }
+    ensures { Added out.old 0 (count_lines r) out.new result }
 {
     match r {
         Rules::Count { deny, allow } => {
@@ -24,8 +24,8 @@ pub fn counts(r: Rules, out: &mut [u8]) -> usize
 
 // An answer, and the number and the name of the rule that it is by.
 fn by_rule(policy: &[u8], answer: &[u8], number: usize, rule: Listed, out: &mut [u8]) -> usize
-    requires { length answer.now + 27 + maxPolicyString ≤ length out.old }
-    ensures { Added out.old 0 (byRule policy.now answer.now number rule) out.new result }
+    requires { length answer.now + 27 + max_policy_string ≤ length out.old }
+    ensures { Added out.old 0 (by_rule policy.now answer.now number rule) out.new result }
 {
     let n = policy_facts::name::rule_name(policy, rule);
     let from = n.from;
@@ -38,8 +38,8 @@ fn by_rule(policy: &[u8], answer: &[u8], number: usize, rule: Listed, out: &mut 
 
 // The action, and the list, the number and the name of the deciding rule; nothing for a refusal.
 pub fn rpc(policy: &[u8], v: Verdict, out: &mut [u8]) -> usize
-    requires { 56 + maxPolicyString ≤ length out.old }
-    ensures { Added out.old 0 (rpcLines policy.now v) out.new result }
+    requires { 56 + max_policy_string ≤ length out.old }
+    ensures { Added out.old 0 (rpc_lines policy.now v) out.new result }
 {
     match v {
         Verdict::Permitted(n) => by_rule(

@@ -2,9 +2,9 @@
 use Rattle.text.specs.String.{Str, bytes}
 use Rattle.rotation_probe.specs.declared.rpcs.RpcAnswer.{RpcAnswer}
 use Rattle.rotation_probe.specs.declared.rpcs.RpcAnswer.TheVariants.{PermitAll, Judged}
-use Rattle.cli_policy.specs.Lines.{rpcLines}
+use Rattle.cli_policy.specs.Lines.{rpc_lines}
 
 -- factory names no rule
-unfoldable pub probeLines : Str → RpcAnswer → Str
-probeLines policy PermitAll = bytes "permit\nfactory\n"
-probeLines policy (Judged v) = rpcLines policy v
+unfoldable pub probe_lines : Str → RpcAnswer → Str
+probe_lines policy PermitAll = bytes "permit\nfactory\n"
+probe_lines policy (Judged v) = rpc_lines policy v

@@ -6,8 +6,8 @@ use Rattle.readable.specs.declared.Converted.TheVariants as converted
 use Rattle.cli_refusal.specs.Refusal.{place, refusal}
 
 -- the refusal; a text that was converted has none
-unfoldable pub refusalLine : Converted → Str
-refusalLine (converted.Length n) = []
-refusalLine (converted.Refused number line) = refusal number line
-refusalLine (converted.Unread line) = bytes "refused" ++ place line ++ bytes ": not a line of the readable form\n"
-refusalLine converted.NoRoom = bytes "refused: too long for a table\n"
+unfoldable pub refusal_line : Converted → Str
+refusal_line (converted.Length n) = []
+refusal_line (converted.Refused number line) = refusal number line
+refusal_line (converted.Unread line) = bytes "refused" ++ place line ++ bytes ": not a line of the readable form\n"
+refusal_line converted.NoRoom = bytes "refused: too long for a table\n"

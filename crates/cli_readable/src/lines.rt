@@ -1,14 +1,14 @@
 // The lines of refusals, made in a buffer.
 ghost use Rattle.std.specs.Prelude.{◌≤◌, length};
 ghost use Rattle.text_make.specs.Added.{Added};
-ghost use Rattle.cli_readable.specs.Lines.{refusalLine};
+ghost use Rattle.cli_readable.specs.Lines.{refusal_line};
 
 use readable::Converted;
 
 // Why nothing was made of a text; nothing where it was converted.
 pub fn refusal(c: Converted, out: &mut [u8]) -> usize
     requires { 1780 ≤ length out.old }
-    ensures { Added out.old 0 (refusalLine c) out.new result }
+    ensures { Added out.old 0 (refusal_line c) out.new result }
 {
     match c {
         Converted::Length(_) => 0,

@@ -1,6 +1,6 @@
 // A log as readable text, and back. Both are converted in parts, since they can be long: what was made before a line that is refused is printed.
 ghost use Rattle.std.specs.Prelude.{◌+◌, ◌≤◌};
-ghost use Rattle.limits.specs.Limits.{maxLogLines};
+ghost use Rattle.limits.specs.Limits.{max_log_lines};
 ghost use Rattle.cli_readable.specs.Steps.{Advances};
 
 use cli_console::input;
@@ -60,8 +60,8 @@ fn print_run(packing: bool, text: &[u8], most: usize) -> Run
 
 // Converts and prints whole lines, the first of which has this number. Answers the number of the line after them, or 0 where one of them was refused.
 fn print_lines(packing: bool, text: &[u8], first: usize) -> usize
-    requires { first ≤ maxLogLines + 1 }
-    ensures { result ≤ maxLogLines + 1 }
+    requires { first ≤ max_log_lines + 1 }
+    ensures { result ≤ max_log_lines + 1 }
 {
     let mut number = first;
     let mut from = 0;

@@ -7,22 +7,22 @@ use Rattle.rotation.specs.declared.Record.{Record}
 unfoldable pub byte_of : ℕ → ℕ → ℕ
 byte_of n unit = n / unit % 256
 
-unfoldable pub fourBytes : ℕ → Str
-fourBytes n = byte_of n 1 ∷ byte_of n 256 ∷ byte_of n 65536 ∷ byte_of n 16777216 ∷ []
+unfoldable pub four_bytes : ℕ → Str
+four_bytes n = byte_of n 1 ∷ byte_of n 256 ∷ byte_of n 65536 ∷ byte_of n 16777216 ∷ []
 
-unfoldable pub recordBytes : Record → Str
-recordBytes r = fourBytes r.kind ++ fourBytes r.live_slot ++ fourBytes r.live_len ++ fourBytes r.rotating ++ fourBytes r.candidate_len
+unfoldable pub record_bytes : Record → Str
+record_bytes r = four_bytes r.kind ++ four_bytes r.live_slot ++ four_bytes r.live_len ++ four_bytes r.rotating ++ four_bytes r.candidate_len
 
 -- the number that four bytes tell
-unfoldable pub ofFourBytes : ℕ → ℕ → ℕ → ℕ → ℕ
-ofFourBytes a b c d = a + b * 256 + c * 65536 + d * 16777216
+unfoldable pub of_four_bytes : ℕ → ℕ → ℕ → ℕ → ℕ
+of_four_bytes a b c d = a + b * 256 + c * 65536 + d * 16777216
 
 -- the number whose four bytes stand from a position on
 unfoldable pub number_at : Str → ℕ → ℕ
-number_at b at = ofFourBytes (get_or b at 0) (get_or b (at + 1) 0) (get_or b (at + 2) 0) (get_or b (at + 3) 0)
+number_at b at = of_four_bytes (get_or b at 0) (get_or b (at + 1) 0) (get_or b (at + 2) 0) (get_or b (at + 3) 0)
 
-unfoldable pub recordIn : Str → Record
-recordIn b =
+unfoldable pub record_in : Str → Record
+record_in b =
     record {
       kind = number_at b 0;
       live_slot = number_at b 4;
@@ -37,11 +37,11 @@ Of32Bits n = n < 4294967296
 
 pub record NumbersOf32Bits (r : Record) : Type 0 where
   pub kind_fits : Of32Bits r.kind
-  pub slot-fits : Of32Bits r.live_slot
-  pub live-fits : Of32Bits r.live_len
-  pub rotating-fits : Of32Bits r.rotating
-  pub candidate-fits : Of32Bits r.candidate_len
+  pub slot_fits : Of32Bits r.live_slot
+  pub live_fits : Of32Bits r.live_len
+  pub rotating_fits : Of32Bits r.rotating
+  pub candidate_fits : Of32Bits r.candidate_len
 
 -- what is read of a record's bytes is the record
 abbrev pub ReadsBack : Type 0
-ReadsBack = (r : Record) → NumbersOf32Bits r → recordIn (recordBytes r) ≡ r
+ReadsBack = (r : Record) → NumbersOf32Bits r → record_in (record_bytes r) ≡ r

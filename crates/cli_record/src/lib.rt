@@ -2,8 +2,8 @@
 pub mod lines;
 
 ghost use Rattle.std.specs.Prelude.{◌≡◌, ◌<◌};
-ghost use Rattle.cli_record.specs.Bytes.{byte_of, recordBytes, ofFourBytes, number_at, recordIn};
-ghost use Rattle.cli_record.specs.Factory.{factoryRecord};
+ghost use Rattle.cli_record.specs.Bytes.{byte_of, record_bytes, of_four_bytes, number_at, record_in};
+ghost use Rattle.cli_record.specs.Factory.{factory_record};
 
 use rotation::Record;
 
@@ -11,7 +11,7 @@ use rotation::Record;
 pub const LENGTH: usize = 20;
 
 fn word(a: u8, b: u8, c: u8, d: u8) -> u32
-    ensures { result ≡ ofFourBytes a b c d }
+    ensures { result ≡ of_four_bytes a b c d }
 {
     a as u32 + b as u32 * 256 + c as u32 * 65536 + d as u32 * 16777216
 }
@@ -24,7 +24,7 @@ fn word_at(b: &[u8; LENGTH], at: usize) -> u32
 }
 
 pub fn of_bytes(b: &[u8; LENGTH]) -> Record
-    ensures { result ≡ recordIn b.now }
+    ensures { result ≡ record_in b.now }
 {
     Record {
         kind: word_at(b, 0),
@@ -43,7 +43,7 @@ fn byte_of(n: u32, unit: u32) -> u8
 }
 
 pub fn to_bytes(r: Record) -> [u8; LENGTH]
-    ensures { result ≡ recordBytes r }
+    ensures { result ≡ record_bytes r }
 {
     [
         byte_of(r.kind, 1),
@@ -71,7 +71,7 @@ pub fn to_bytes(r: Record) -> [u8; LENGTH]
 
 // No live text, no rotation, no candidate.
 pub fn factory(kind: u32) -> Record
-    ensures { result ≡ factoryRecord kind }
+    ensures { result ≡ factory_record kind }
 {
     Record {
         kind: kind,

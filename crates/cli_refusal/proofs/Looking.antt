@@ -12,25 +12,25 @@ use Rattle.text.specs.Test.{◌and◌, if◌then◌else◌}
 use Rattle.text.specs.String.{Str}
 use Rattle.text.proofs.Tests.{by}
 use Rattle.text_search.specs.Search.{until, is}
-use Rattle.text_search.proofs.Searching.{until-fits}
+use Rattle.text_search.proofs.Searching.{until_fits}
 use Rattle.text_affix.specs.Affix.{begins}
 use Rattle.text_make.specs.Added.{Added, AddedUpTo}
-use Rattle.cli_refusal.specs.Entry.{upToLine, entry}
+use Rattle.cli_refusal.specs.Entry.{up_to_line, entry}
 use Rattle.cli_refusal.specs.Steps.{Next, EntryAt}
 
 -- ---- where the next line begins
 
 module _ (text : Str) (at end : ℕ) (h : at < length text) (e : end ≡ at + until (is 10) (drop at text)) where
-  pub next-found : end < length text → Next text at (end + 1)
-  next-found l = record {
+  pub next_found : end < length text → Next text at (end + 1)
+  next_found l = record {
     past = omega (arith, e);
     within = omega arith;
     rest = let i : end + 1 ≡ at + suc (until (is 10) (drop at text)) = omega (arith, e) in rw (i, ← drop-drop (suc (until (is 10) (drop at text))) at text);
   }
 
-  pub next-none : length text ≤ end → Next text at end
-  next-none l =
-      let u = until-fits (is 10) (drop at text) in
+  pub next_none : length text ≤ end → Next text at end
+  next_none l =
+      let u = until_fits (is 10) (drop at text) in
       let k = length-drop at text in
       record {
         past = omega arith;
@@ -51,14 +51,14 @@ module _ (key : Str) where
   unmatched [] h = refl
   unmatched (b ∷ s) h = rw h
 
-  matched : (s : Str) → 0 < length s → begins key s ≡ true → entry true key s ≡ upToLine (drop (length key) s)
+  matched : (s : Str) → 0 < length s → begins key s ≡ true → entry true key s ≡ up_to_line (drop (length key) s)
   unfolding entry ◌and◌ if◌then◌else◌
   matched [] l h = absurd (omega arith)
   matched (b ∷ s) l h = rw h
 
-  begins-long : (s : Str) → begins key s ≡ true → length key ≤ length s
+  begins_long : (s : Str) → begins key s ≡ true → length key ≤ length s
   unfolding begins ◌and◌
-  begins-long s h = by (leb (length key) (length s)) (λ u. leb-true _ _ u) (λ u. let z : false ≡ true = rw u at h in absurd (let y : ◌≡◌ {A = ℕ} 0 1 = cc in omega arith))
+  begins_long s h = by (leb (length key) (length s)) (λ u. leb-true _ _ u) (λ u. let z : false ≡ true = rw u at h in absurd (let y : ◌≡◌ {A = ℕ} 0 1 = cc in omega arith))
 
   -- the search has come to `at`
   module _ (text : Str) (at : ℕ) (g : entry true key text ≡ entry true key (drop at text)) where
@@ -69,37 +69,37 @@ module _ (key : Str) where
     pub entry_found : at < length text → begins key (take (length text - at) (drop at text)) ≡ true → EntryAt text key (at + length key)
     entry_found l i =
         let h : begins key (drop at text) ≡ true = rw whole at i in
-        let k = begins-long (drop at text) h in
+        let k = begins_long (drop at text) h in
         let m = length-drop at text in
-        record { within = omega arith; there = ap upToLine (sym (drop-drop (length key) at text)) ∙ sym (g ∙ matched (drop at text) (omega arith) h) }
+        record { within = omega arith; there = ap up_to_line (sym (drop-drop (length key) at text)) ∙ sym (g ∙ matched (drop at text) (omega arith) h) }
 
-    pub entry-turn : (next : ℕ) → begins key (take (length text - at) (drop at text)) ≡ false → Next text at next → entry true key text ≡ entry true key (drop next text)
-    entry-turn next i n =
+    pub entry_turn : (next : ℕ) → begins key (take (length text - at) (drop at text)) ≡ false → Next text at next → entry true key text ≡ entry true key (drop next text)
+    entry_turn next i n =
         let h : begins key (drop at text) ≡ false = rw whole at i in
         g ∙ unmatched (drop at text) h ∙ skip (drop at text) ∙ sym (ap (entry true key) n.rest)
 
-    pub entry-none : at ≤ length text → length text ≤ at → EntryAt text key at
-    unfolding upToLine until entry
-    entry-none l m = record { within = l; there = sym (g ∙ rw (drop_of_length-le text m) refl) ∙ refl }
+    pub entry_none : at ≤ length text → length text ≤ at → EntryAt text key at
+    unfolding up_to_line until entry
+    entry_none l m = record { within = l; there = sym (g ∙ rw (drop_of_length-le text m) refl) ∙ refl }
 
-pub entry-end : (text key : Str) (from end : ℕ) → EntryAt text key from → end ≡ from + until (is 10) (drop from text) → (from ≤ end) × (end ≤ length text)
-entry-end text key from end h i =
-    let u = until-fits (is 10) (drop from text) in let k = length-drop from text in let w = h.within in (omega arith, omega arith)
+pub entry_end : (text key : Str) (from end : ℕ) → EntryAt text key from → end ≡ from + until (is 10) (drop from text) → (from ≤ end) × (end ≤ length text)
+entry_end text key from end h i =
+    let u = until_fits (is 10) (drop from text) in let k = length-drop from text in let w = h.within in (omega arith, omega arith)
 
 -- there is room for it
-pub entry-fits : (text key : Str) (from end : ℕ) → EntryAt text key from → end ≡ from + until (is 10) (drop from text) → (at m : ℕ) → at + length text ≤ m
+pub entry_fits : (text key : Str) (from end : ℕ) → EntryAt text key from → end ≡ from + until (is 10) (drop from text) → (at m : ℕ) → at + length text ≤ m
     → at + length (take (end - from) (drop from text)) ≤ m
-entry-fits text key from end h i at m r =
-    let j = entry-end text key from end h i in
+entry_fits text key from end h i at m r =
+    let j = entry_end text key from end h i in
     omega (arith, length-take-le (end - from) (drop from text) (omega (arith, length-drop from text, j)), j)
 
 -- what stands at `from`, up to the LF at `end`, was added
-pub entry-added : (text key : Str) (from end : ℕ) (d d' : List ℕ) (at e : ℕ) → EntryAt text key from → end ≡ from + until (is 10) (drop from text)
+pub entry_added : (text key : Str) (from end : ℕ) (d d' : List ℕ) (at e : ℕ) → EntryAt text key from → end ≡ from + until (is 10) (drop from text)
     → Added d at (take (end - from) (drop from text)) d' e → AddedUpTo (length text) d at (entry true key text) d' e
-unfolding upToLine
-entry-added text key from end d d' at e h i a =
+unfolding up_to_line
+entry_added text key from end d d' at e h i a =
     let j : end - from ≡ until (is 10) (drop from text) = omega (arith, i) in
-    let u = until-fits (is 10) (drop from text) in
+    let u = until_fits (is 10) (drop from text) in
     let k = length-drop from text in
     let q : take (end - from) (drop from text) ≡ entry true key text = rw j h.there in
     record { added = rw q at a; short = omega (arith, a.wrote.ends, length-take-le (end - from) (drop from text) (omega arith), k, u) }

@@ -6,10 +6,10 @@ use Rattle.text_search.specs.Search.{until, is}
 use Rattle.text_affix.specs.Affix.{begins}
 
 -- up to an LF
-unfoldable pub upToLine : Str → Str
-upToLine s = take (until (is 10) s) s
+unfoldable pub up_to_line : Str → Str
+up_to_line s = take (until (is 10) s) s
 
 -- what follows `key` in the first line that begins with it; `fresh` says that a line begins here
 unfoldable pub entry : Bool → Str → Str → Str
 entry fresh key [] = []
-entry fresh key (b ∷ s) = if fresh and begins key (b ∷ s) then upToLine (drop (length key) (b ∷ s)) else entry (eqb b 10) key s
+entry fresh key (b ∷ s) = if fresh and begins key (b ∷ s) then up_to_line (drop (length key) (b ∷ s)) else entry (eqb b 10) key s

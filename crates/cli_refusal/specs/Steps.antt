@@ -2,7 +2,7 @@
 use Rattle.std.specs.Prelude.{ℕ, suc, ◌≤◌, ◌<◌, ◌≡◌, true, length, drop}
 use Rattle.text.specs.String.{Str}
 use Rattle.text_search.specs.Search.{until, is}
-use Rattle.cli_refusal.specs.Entry.{upToLine, entry}
+use Rattle.cli_refusal.specs.Entry.{up_to_line, entry}
 
 -- the line after the one at `at` begins at `next`
 pub record Next (text : Str) (at next : ℕ) : Type 0 where
@@ -13,4 +13,4 @@ pub record Next (text : Str) (at next : ℕ) : Type 0 where
 -- what follows `key` in the first line that begins with it stands at `at`
 pub record EntryAt (text key : Str) (at : ℕ) : Type 0 where
   pub within : at ≤ length text
-  pub there : upToLine (drop at text) ≡ entry true key text
+  pub there : up_to_line (drop at text) ≡ entry true key text

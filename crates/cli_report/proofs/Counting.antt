@@ -4,7 +4,7 @@ use native.Mathlib.Omega.{arith}
 use mathlib.Core.Path.{◌≡◌, refl, sym, ap, ◌∙◌, subst}
 use mathlib.Core.List.{List, [], ◌++◌}
 use lib.ListN.{length, take, length-append}
-use Rattle.limits.specs.Limits.{maxRules, maxLogLines}
+use Rattle.limits.specs.Limits.{max_rules, max_log_lines}
 use Rattle.text.specs.String.{Str}
 use Rattle.table_line.specs.Lines.{lines}
 use Rattle.table.specs.Text.{table_of}
@@ -12,10 +12,10 @@ use Rattle.table.specs.declared.Checked.TheVariants.{Accepted}
 use Rattle.table_load.specs.declared.row.Counts.{Counts}
 use Rattle.table_load.specs.Loaded.{Kept}
 use Rattle.verdict.specs.Verdict.{Request}
-use Rattle.log.specs.Log.{judgeLog, checkLog, requestsOf, logOf}
-use Rattle.season.proofs.Asked.{log-few}
-use Rattle.season.proofs.Figures.{all-rules, rules-few, grid-few}
-use Rattle.season.proofs.Parts.{both-lines, both-logs, both-checked}
+use Rattle.log.specs.Log.{judge_log, check_log, requests_of, log_of}
+use Rattle.season.proofs.Asked.{log_few}
+use Rattle.season.proofs.Figures.{all_rules, rules_few, grid_few}
+use Rattle.season.proofs.Parts.{both_lines, both_logs, both_checked}
 use Rattle.season_count.specs.Counts.{UpTo}
 use Rattle.season_count.specs.Counting.{CountsOf, CountedLines, Counts-lines}
 use Rattle.text_hash.specs.declared.Seed.{Seed}
@@ -23,7 +23,7 @@ use Rattle.season_count.specs.declared.heading.Asked.{Asked}
 use Rattle.season_count.specs.declared.lines.Ended.{Ended}
 use Rattle.season_count.specs.declared.lines.Ended.TheVariants.{Lines}
 use Rattle.season_call.specs.Counted.{CountedLog}
-use Rattle.season_call.proofs.Reporting.{is-table}
+use Rattle.season_call.proofs.Reporting.{is_table}
 use Rattle.cli_report.specs.Counted.{NothingCounted, CountedRead, CountedOn}
 
 module _ (f users owners : List ℕ) (m : ℕ) (starts holders : List ℕ) (n : ℕ) (text : Str) (before : ℕ) (counts : List ℕ) (cells : List (List ℕ))
@@ -41,59 +41,59 @@ module _ (f users owners : List ℕ) (m : ℕ) (starts holders : List ℕ) (n : 
     pub read : CountedRead f users owners m starts holders n counts₀ cells₀ counts cells
     pub number : all ≡ length (lines read.log)
 
-  pub nothing-so-far : SoFar 0 counts₀ cells₀
-  unfolding checkLog logOf lines judgeLog requestsOf
-  nothing-so-far = record { read = record { log = []; counted = record { accepted = refl; counts-are = λ t is c. c } }; number = refl }
+  pub nothing_so_far : SoFar 0 counts₀ cells₀
+  unfolding check_log log_of lines judge_log requests_of
+  nothing_so_far = record { read = record { log = []; counted = record { accepted = refl; counts_are = λ t is c. c } }; number = refl }
 
   module _ (text : Str) (all : ℕ) (counts : List ℕ) (cells : List (List ℕ)) (all' : ℕ) (seed : Seed) (key : List ℕ) (asked : Asked) (counts' : List ℕ) (cells' : List (List ℕ))
       (S : SoFar all counts cells) (L : CountedLines seed f users owners m starts holders n text all counts cells all' key asked counts' cells') where
     abbrev before : Str
     before = S.read.log
 
-    abbrev fine : checkLog before ≡ Accepted
+    abbrev fine : check_log before ≡ Accepted
     fine = S.read.counted.accepted
 
     longer : CountedLog f users owners m starts holders n (before ++ text) counts₀ cells₀ counts' cells'
-    unfolding logOf
+    unfolding log_of
     longer = record {
-      accepted = both-checked before text fine ∙ ap (λ (k : ℕ). judgeLog (k + 1) (lines text)) (sym S.number) ∙ L.accepted;
-      counts-are = λ t is c.
-          subst (λ (qs : List Request). CountsOf t qs counts' cells') (sym (both-logs before text fine))
-          (L.counts-are t is (logOf before) (S.read.counted.counts-are t is c));
+      accepted = both_checked before text fine ∙ ap (λ (k : ℕ). judge_log (k + 1) (lines text)) (sym S.number) ∙ L.accepted;
+      counts_are = λ t is c.
+          subst (λ (qs : List Request). CountsOf t qs counts' cells') (sym (both_logs before text fine))
+          (L.counts_are t is (log_of before) (S.read.counted.counts_are t is c));
     }
 
-    pub so-far-longer : SoFar all' counts' cells'
-    so-far-longer = record {
+    pub so_far_longer : SoFar all' counts' cells'
+    so_far_longer = record {
       read = record { log = before ++ text; counted = longer };
       number =
           L.all_lines ∙ ap (λ (k : ℕ). k + length (lines text)) S.number ∙ sym (length-append (lines before) (lines text))
-          ∙ ap length (sym (both-lines before text fine));
+          ∙ ap length (sym (both_lines before text fine));
     }
 
 -- ---- on a table text
 
 module _ {text buf : List ℕ} {u : ℕ} {c : Counts} {groups users owners starts holders : List ℕ} (K : Kept text buf u c groups users owners starts holders) where
-  pub counted-on : {counts : List ℕ} {cells : List (List ℕ)} {counts' : List ℕ} {cells' : List (List ℕ)} → NothingCounted counts cells
+  pub counted_on : {counts : List ℕ} {cells : List (List ℕ)} {counts' : List ℕ} {cells' : List (List ℕ)} → NothingCounted counts cells
       → CountedRead (take u buf) users owners c.members starts holders c.rules counts cells counts' cells' → CountedOn text counts' cells'
-  counted-on none R = record {
+  counted_on none R = record {
     accepted = K.accepts;
     log = R.log;
     fine = R.counted.accepted;
-    counts-are = R.counted.counts-are (table_of text) (is-table K) (none.1 (table_of text));
+    counts_are = R.counted.counts_are (table_of text) (is_table K) (none.1 (table_of text));
   }
 
 -- ---- what is counted is as much as a log has lines
 
 module _ (table : Str) (counts : List ℕ) (cells : List (List ℕ)) (C : CountedOn table counts cells) where
-  pub counted-all : length counts ≡ maxRules
-  counted-all = ap length C.counts-are.rules ∙ all-rules _ _
+  pub counted_all : length counts ≡ max_rules
+  counted_all = ap length C.counts_are.rules ∙ all_rules _ _
 
-  pub counted-few : UpTo maxLogLines counts cells
-  counted-few =
-      let few = log-few C.log C.fine in
+  pub counted_few : UpTo max_log_lines counts cells
+  counted_few =
+      let few = log_few C.log C.fine in
       let t = table_of table in
-      let qs = logOf C.log in
+      let qs = log_of C.log in
       record {
-        rules = λ i. rw C.counts-are.rules (omega (arith, rules-few t qs i));
-        cells = λ r c. rw C.counts-are.rows (omega (arith, grid-few t qs r c));
+        rules = λ i. rw C.counts_are.rules (omega (arith, rules_few t qs i));
+        cells = λ r c. rw C.counts_are.rows (omega (arith, grid_few t qs r c));
       }

@@ -4,7 +4,7 @@ use Rattle.text.specs.String.{Str}
 use Rattle.table.specs.Table.{Table}
 use Rattle.table.specs.Text.{check, table_of}
 use Rattle.table.specs.declared.Checked.TheVariants.{Accepted}
-use Rattle.log.specs.Log.{checkLog, logOf}
+use Rattle.log.specs.Log.{check_log, log_of}
 use Rattle.season_count.specs.Counts.{UpTo}
 use Rattle.season_count.specs.Counting.{CountsOf}
 use Rattle.season_call.specs.Counted.{CountedLog}
@@ -23,5 +23,5 @@ pub record CountedRead (f users owners : List ℕ) (m : ℕ) (starts holders : L
 pub record CountedOn (table : Str) (counts : List ℕ) (cells : List (List ℕ)) : Type 0 where
   pub accepted : check table ≡ Accepted
   pub log : Str
-  pub fine : checkLog log ≡ Accepted
-  pub counts-are : CountsOf (table_of table) (logOf log) counts cells
+  pub fine : check_log log ≡ Accepted
+  pub counts_are : CountsOf (table_of table) (log_of log) counts cells

@@ -3,7 +3,7 @@
 mod progress;
 
 ghost use Rattle.std.specs.Prelude.{true, ◌≡◌, ◌≤◌, length};
-ghost use Rattle.limits.specs.Sizes.{maxHeading, maxLogFrame};
+ghost use Rattle.limits.specs.Sizes.{max_heading, max_log_frame};
 ghost use Rattle.text.specs.HexTable.{HexTable};
 ghost use Rattle.season_count.specs.Counts.{UpTo};
 ghost use Rattle.season_count.specs.Loaded.{Sound, Ready};
@@ -64,8 +64,8 @@ fn count_parts(
     grid: &mut [[u64; 3]; 2],
 ) -> bool
     requires { Sound f.now users.now owners.now m starts.now holders.now n
-        × Ready seed f.now users.now m starts.now n keys.now first.now heads.now links.now × (maxHeading ≤ length key.old)
-        × (maxLogFrame ≤ length line.old) × UpTo 0 counts.old grid.old × HexTable hex.now }
+        × Ready seed f.now users.now m starts.now n keys.now first.now heads.now links.now × (max_heading ≤ length key.old)
+        × (max_log_frame ≤ length line.old) × UpTo 0 counts.old grid.old × HexTable hex.now }
     ensures { result ≡ true → CountedRead f.now users.now owners.now m starts.now holders.now n
         counts.old grid.old counts.new grid.new }
 {

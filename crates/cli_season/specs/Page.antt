@@ -4,27 +4,27 @@ use Rattle.text.specs.Test.{if◌then◌else◌}
 use Rattle.text.specs.String.{Str, bytes}
 use Rattle.text_make.specs.Text.{fact}
 use Rattle.table.specs.Table.{Rule}
-use Rattle.season_parts.specs.Grid.{gridLines}
-use Rattle.cli_season_rules.specs.Rules.{decidedLines, neverLines}
+use Rattle.season_parts.specs.Grid.{grid_lines}
+use Rattle.cli_season_rules.specs.Rules.{decided_lines, never_lines}
 
-abbrev pub noneLine : Str
-noneLine = bytes "  none\n"
+abbrev pub none_line : Str
+none_line = bytes "  none\n"
 
 -- where there are no lines
-unfoldable pub orNone : Str → Str
-orNone lines = if eqb (length lines) 0 then noneLine else lines
+unfoldable pub or_none : Str → Str
+or_none lines = if eqb (length lines) 0 then none_line else lines
 
 -- how many requests there are, and the rules that decided
-unfoldable pub decidedPart : List Rule → List ℕ → ℕ → Str
-decidedPart rules counts all =
+unfoldable pub decided_part : List Rule → List ℕ → ℕ → Str
+decided_part rules counts all =
     fact (bytes "requests ") all ++
     bytes "\n  count   share  bar                                       rule  action  id\n" ++
-    orNone (decidedLines rules counts all)
+    or_none (decided_lines rules counts all)
 
-unfoldable pub neverPart : List Rule → List ℕ → Str
-neverPart rules counts =
+unfoldable pub never_part : List Rule → List ℕ → Str
+never_part rules counts =
     bytes "\nA share is of all requests, rounded down; a bar is of the largest count.\n\nrules that never decided\n  rule  action  id\n" ++
-    orNone (neverLines 0 rules counts) ++
+    or_none (never_lines 0 rules counts) ++
     bytes "\n"
 
 -- row r, column c
@@ -36,9 +36,9 @@ sum_of g = cell g 0 0 + cell g 0 1 + cell g 0 2 + cell g 1 0 + cell g 1 1 + cell
 
 unfoldable pub page_of : List Rule → List ℕ → List (List ℕ) → Str
 page_of rules counts g =
-    decidedPart rules counts (sum_of g) ++
-    neverPart rules counts ++
-    gridLines (cell g 0 0) (cell g 0 1) (cell g 0 2) (cell g 1 0) (cell g 1 1) (cell g 1 2)
+    decided_part rules counts (sum_of g) ++
+    never_part rules counts ++
+    grid_lines (cell g 0 0) (cell g 0 1) (cell g 0 2) (cell g 1 0) (cell g 1 1) (cell g 1 2)
 
 -- of the table's rules, their counts and the grid
 unfoldable pub page : List Rule → List ℕ → List (List ℕ) → Str

@@ -19,5 +19,5 @@ reason (LineCount l) = bytes ": a report has 262 lines\n"
 reason (TooLarge l) = bytes ": the sum has more than 64 bits\n"
 
 -- `refused at line 5 of week1.report: not a decimal number ..`
-unfoldable pub refusedReport : Str → Outcome → Str
-refusedReport name o = bytes "refused" ++ place (line_of o) ++ bytes " of " ++ name ++ reason o
+unfoldable pub refused_report : Str → Outcome → Str
+refused_report name o = bytes "refused" ++ place (line_of o) ++ bytes " of " ++ name ++ reason o

@@ -1,25 +1,25 @@
 -- What the programs on the page need and answer.
 use Rattle.std.specs.Prelude.{ℕ, ◌+◌, ◌*◌, ◌≤◌, ◌≡◌, List, [], eqb}
-use Rattle.limits.specs.Limits.{maxLogLines, maxRules}
+use Rattle.limits.specs.Limits.{max_log_lines, max_rules}
 use Rattle.text.specs.Test.{if◌then◌else◌}
 use Rattle.text.specs.String.{Str}
 use Rattle.text_make.specs.Added.{Added}
 use Rattle.table.specs.Text.{check, table_of}
 use Rattle.table.specs.declared.Checked.TheVariants.{Accepted}
-use Rattle.cli_season_rules.specs.Steps.{maxRuleLine, maxDecidedLine}
-use Rattle.cli_season.specs.Page.{noneLine, cell, page}
+use Rattle.cli_season_rules.specs.Steps.{max_rule_line, max_decided_line}
+use Rattle.cli_season.specs.Page.{none_line, cell, page}
 
 -- no cell of the grid is more than a log has lines
 abbrev pub FewCells : List (List ℕ) → Type 0
-FewCells grid = (r c : ℕ) → cell grid r c ≤ maxLogLines
+FewCells grid = (r c : ℕ) → cell grid r c ≤ max_log_lines
 
 -- told where a list of lines, which ends where it starts, has none
-unfoldable pub noneFrom : ℕ → ℕ → Str
-noneFrom start end = if eqb start end then noneLine else []
+unfoldable pub none_from : ℕ → ℕ → Str
+none_from start end = if eqb start end then none_line else []
 
 -- room for a page
-abbrev pub maxPage : ℕ
-maxPage = maxRules * (maxDecidedLine + maxRuleLine) + 600
+abbrev pub max_page : ℕ
+max_page = max_rules * (max_decided_line + max_rule_line) + 600
 
 -- the page on the table's rules was made in d, if the table is accepted
 abbrev pub MakesPage : Str → List ℕ → List (List ℕ) → List ℕ → List ℕ → ℕ → Type 0

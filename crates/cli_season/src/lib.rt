@@ -5,13 +5,13 @@ pub mod refusals;
 pub mod sums;
 
 ghost use Rattle.std.specs.Prelude.{◌≡◌, length};
-ghost use Rattle.limits.specs.Limits.{maxRules};
+ghost use Rattle.limits.specs.Limits.{max_rules};
 ghost use Rattle.cli_season_rules.specs.Steps.{Few};
 ghost use Rattle.cli_season.specs.Steps.{FewCells};
 
 // Prints the page on an accepted table's rules, how often each decided, and the grid.
 pub fn page(text: &[u8], counts: &[u64; limits::MAX_RULES], grid: &[[u64; 3]; 2])
-    requires { (length counts.now ≡ maxRules) × Few counts.now × FewCells grid.now }
+    requires { (length counts.now ≡ max_rules) × Few counts.now × FewCells grid.now }
 {
     let mut out = [0u8; making::MAX_PAGE];
     let n = making::make(text, counts, grid, &mut out);

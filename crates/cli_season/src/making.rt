@@ -1,11 +1,11 @@
 // The page on a season, made in a buffer.
 ghost use Rattle.std.specs.Prelude.{◌≡◌, ◌+◌, ◌*◌, ◌≤◌, length, take};
-ghost use Rattle.limits.specs.Limits.{maxRules};
-ghost use Rattle.table_rows.specs.Rules.{rulesIn};
+ghost use Rattle.limits.specs.Limits.{max_rules};
+ghost use Rattle.table_rows.specs.Rules.{rules_in};
 ghost use Rattle.text_make.specs.Added.{Added, AddedUpTo};
-ghost use Rattle.cli_season.specs.Page.{decidedPart, neverPart, page_of};
-ghost use Rattle.cli_season_rules.specs.Steps.{Few, Listable, maxRuleLine, maxDecidedLine};
-ghost use Rattle.cli_season.specs.Steps.{FewCells, noneFrom, maxPage, MakesPage};
+ghost use Rattle.cli_season.specs.Page.{decided_part, never_part, page_of};
+ghost use Rattle.cli_season_rules.specs.Steps.{Few, Listable, max_rule_line, max_decided_line};
+ghost use Rattle.cli_season.specs.Steps.{FewCells, none_from, max_page, MakesPage};
 
 use table_load::Loaded;
 
@@ -17,7 +17,7 @@ pub const MAX_PAGE: usize = limits::MAX_RULES
 // Told where a list of lines, which ends where it starts, has none.
 fn add_none(start: usize, end: usize, out: &mut [u8]) -> usize
     requires { end + 7 ≤ length out.old }
-    ensures { AddedUpTo 7 out.old end (noneFrom start end) out.new result }
+    ensures { AddedUpTo 7 out.old end (none_from start end) out.new result }
 {
     if start == end {
         return text_make::string(b"  none\n", out, end);
@@ -34,9 +34,9 @@ fn add_decided(
     all: u64,
     out: &mut [u8],
 ) -> usize
-    requires { Listable f.now starts.now n left.old × (n ≤ maxRules) × (maxPage ≤ length out.old) }
-    ensures { AddedUpTo (maxRules * maxDecidedLine + 120) out.old 0
-        (decidedPart (rulesIn f.now starts.now n 0) (take n left.old) all) out.new result }
+    requires { Listable f.now starts.now n left.old × (n ≤ max_rules) × (max_page ≤ length out.old) }
+    ensures { AddedUpTo (max_rules * max_decided_line + 120) out.old 0
+        (decided_part (rules_in f.now starts.now n 0) (take n left.old) all) out.new result }
 {
     let a = text_make::fact(b"requests ", all, out, 0);
     let b = text_make::string(
@@ -50,9 +50,9 @@ fn add_decided(
 
 // The rules that never decided.
 fn add_never(f: &[u8], starts: &[u16], n: usize, counts: &[u64], out: &mut [u8], at: usize) -> usize
-    requires { Listable f.now starts.now n counts.now × (n ≤ maxRules) × (at + maxRules * maxRuleLine + 140 ≤ length out.old) }
-    ensures { AddedUpTo (maxRules * maxRuleLine + 140) out.old at
-        (neverPart (rulesIn f.now starts.now n 0) (take n counts.now)) out.new result }
+    requires { Listable f.now starts.now n counts.now × (n ≤ max_rules) × (at + max_rules * max_rule_line + 140 ≤ length out.old) }
+    ensures { AddedUpTo (max_rules * max_rule_line + 140) out.old at
+        (never_part (rules_in f.now starts.now n 0) (take n counts.now)) out.new result }
 {
     let b = text_make::string(
         b"\nA share is of all requests, rounded down; a bar is of the largest count.\n\n\
@@ -74,10 +74,10 @@ fn fill(
     grid: &[[u64; 3]; 2],
     out: &mut [u8],
 ) -> usize
-    requires { Listable f.now starts.now n counts.now × (n ≤ maxRules) × (length counts.now ≡ maxRules)
-        × FewCells grid.now × (maxPage ≤ length out.old) }
+    requires { Listable f.now starts.now n counts.now × (n ≤ max_rules) × (length counts.now ≡ max_rules)
+        × FewCells grid.now × (max_page ≤ length out.old) }
     ensures { Added out.old 0
-        (page_of (rulesIn f.now starts.now n 0) (take n counts.now) grid.now) out.new result }
+        (page_of (rules_in f.now starts.now n 0) (take n counts.now) grid.now) out.new result }
 {
     let a = grid[0][0];
     let b = grid[0][1];
@@ -98,7 +98,7 @@ pub fn make(
     grid: &[[u64; 3]; 2],
     out: &mut [u8],
 ) -> usize
-    requires { (length counts.now ≡ maxRules) × Few counts.now × FewCells grid.now × (maxPage ≤ length out.old) }
+    requires { (length counts.now ≡ max_rules) × Few counts.now × FewCells grid.now × (max_page ≤ length out.old) }
     ensures { MakesPage text.now counts.now grid.now out.old out.new result }
 {
     let mut buf = [0u8; limits::MAX_TABLE_BYTES];

@@ -1,7 +1,7 @@
 // The lines on reports that are refused, made in a buffer.
 ghost use Rattle.std.specs.Prelude.{◌≡◌, ◌+◌, ◌≤◌, length};
 ghost use Rattle.text_make.specs.Added.{Added, AddedUpTo};
-ghost use Rattle.cli_season.specs.Refusals.{line_of, reason as Refusals·reason, refusedReport};
+ghost use Rattle.cli_season.specs.Refusals.{line_of, reason as Refusals·reason, refused_report};
 
 use season_sum::Outcome;
 
@@ -41,7 +41,7 @@ fn reason(o: Outcome, out: &mut [u8], at: usize) -> usize
 // Why the report of a file is refused.
 pub fn line(name: &[u8], o: Outcome, out: &mut [u8]) -> usize
     requires { length name.now + 120 ≤ length out.old }
-    ensures { Added out.old 0 (refusedReport name.now o) out.new result }
+    ensures { Added out.old 0 (refused_report name.now o) out.new result }
 {
     let place = text_make::string(b"refused", out, 0);
     let of = cli_refusal::add_place(line_of(o), out, place);

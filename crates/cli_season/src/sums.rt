@@ -1,6 +1,6 @@
 // burgee report-sum REPORT ..
 ghost use Rattle.std.specs.Prelude.{◌≡◌, length};
-ghost use Rattle.limits.specs.Sizes.{reportLines};
+ghost use Rattle.limits.specs.Sizes.{report_lines};
 
 use cli_console::input;
 use season_call::written::REPORT_ROOM;
@@ -38,8 +38,8 @@ fn quote(text: &[u8], o: Outcome, is_all: bool) {
 
 // Adds the report in the file that argument i names to the sums; whether that went well. What is not well is told.
 fn add(i: usize, sums: &mut [u64; limits::REPORT_LINES]) -> bool
-    requires { length sums.old ≡ reportLines }
-    ensures { length sums.new ≡ reportLines }
+    requires { length sums.old ≡ report_lines }
+    ensures { length sums.new ≡ report_lines }
 {
     let mut text = [0u8; TEXT_ROOM];
     let got = input::file(i, &mut text);

@@ -12,49 +12,49 @@ use Rattle.text.specs.String.{Str}
 use Rattle.text.specs.Refusal.{◌when◌else◌, clear}
 use Rattle.text.proofs.Tests.{by}
 use Rattle.path.specs.Path.{Path}
-use Rattle.path_read.specs.TextReader.{readText}
+use Rattle.path_read.specs.TextReader.{read_text}
 use Rattle.table.specs.Text.{check, table_of}
-use Rattle.table.specs.Group.{badUser}
+use Rattle.table.specs.Group.{bad_user}
 use Rattle.table.specs.declared.Checked.{Checked}
 use Rattle.table.specs.declared.Checked.TheVariants as checked
 use Rattle.table.specs.declared.RuleNumber.{RuleNumber}
-use Rattle.table_place.specs.Place.{pathIn}
-use Rattle.table_rows.specs.Rules.{rulesIn}
+use Rattle.table_place.specs.Place.{path_in}
+use Rattle.table_rows.specs.Rules.{rules_in}
 use Rattle.table_load.specs.declared.row.Counts.{Counts}
 use Rattle.table_load.specs.Loaded.{Kept}
-use Rattle.table_membership.specs.Set.{setIn}
+use Rattle.table_membership.specs.Set.{set_in}
 use Rattle.table_check.proofs.Calls.{grouped}
 use Rattle.verdict.specs.Order.{Numbered}
 use Rattle.verdict.specs.Verdict.{decider}
-use Rattle.verdict_request.specs.Calls.{badMode, badOrigin, requestRefusal, asked, request, pathAnswer, pathVerdict}
+use Rattle.verdict_request.specs.Calls.{bad_mode, bad_origin, request_refusal, asked, request, path_answer, path_verdict}
 use Rattle.verdict_request.specs.declared.PathAnswer.{PathAnswer}
 use Rattle.verdict_request.specs.declared.PathAnswer.TheVariants as path
 use Rattle.verdict_call.specs.Holding.{OfTable}
-use Rattle.verdict_call.proofs.Spelled.{Read, path_bytes, spelled_is}
+use Rattle.verdict_call.proofs.Spelled.{Read, path_bytes_lem, spelled_is}
 use Rattle.verdict_call.proofs.Holding.{holding}
 use Rattle.verdict_explain.specs.Ranking.{ranking}
 use Rattle.text_make.specs.Added.{Added}
-use Rattle.text_make.proofs.Adding.{nothing-added}
-use Rattle.cli_explained.specs.Explained.{rankingLines, matchLines, below, explanation}
+use Rattle.text_make.proofs.Adding.{nothing_added}
+use Rattle.cli_explained.specs.Explained.{ranking_lines, match_lines, below, explanation}
 use Rattle.cli_explained.specs.Steps.{ListsMatches}
 
 -- ---- on a loaded table
 
 module _ {text buf : List ℕ} {u : ℕ} {c : Counts} {groups users owners starts holders : List ℕ} (K : Kept text buf u c groups users owners starts holders)
     (user : Str) (mode : ℕ) (origin s : Str) (len : ℕ) (g : List ℕ) (R : Read s len g)
-    (set : ℕ) (e : set ≡ setIn user (take u buf) users owners c.members 0 0) (numbers : List ℕ)
-    (h : OfTable (take u buf) starts holders c.rules user set (λ t. numbers ≡ ranking t (asked user mode origin (pathIn (take len g) 0)))) where
-  pub matches-listed : (d d' : List ℕ) (n : ℕ) → Added d 0 (rankingLines (rulesIn (take u buf) starts c.rules 0) numbers) d' n → ListsMatches text user mode origin s d d' n
-  unfolding matchLines
-  matches-listed d d' n a accepted p reads =
+    (set : ℕ) (e : set ≡ set_in user (take u buf) users owners c.members 0 0) (numbers : List ℕ)
+    (h : OfTable (take u buf) starts holders c.rules user set (λ t. numbers ≡ ranking t (asked user mode origin (path_in (take len g) 0)))) where
+  pub matches_listed : (d d' : List ℕ) (n : ℕ) → Added d 0 (ranking_lines (rules_in (take u buf) starts c.rules 0) numbers) d' n → ListsMatches text user mode origin s d d' n
+  unfolding match_lines
+  matches_listed d d' n a accepted p reads =
       let i : R.path ≡ p = (let z : some R.path ≡ some p = sym R.reads ∙ reads in cc) in
-      let q : pathIn (take len g) 0 ≡ p = (path_bytes _ R.path R.bytes).1 ∙ i in
-      let o : numbers ≡ ranking (table_of text) (asked user mode origin (pathIn (take len g) 0)) = h (table_of text) (holding K) (rw e (grouped K user)) in
+      let q : path_in (take len g) 0 ≡ p = (path_bytes_lem _ R.path R.bytes).1 ∙ i in
+      let o : numbers ≡ ranking (table_of text) (asked user mode origin (path_in (take len g) 0)) = h (table_of text) (holding K) (rw e (grouped K user)) in
       rw ((holding K).rules, o, q) at a
 
 module _ (text user : Str) (mode : ℕ) (origin s : Str) (d d' : List ℕ) (n : ℕ) where
-  pub no-path : readText s ≡ none → ListsMatches text user mode origin s d d' n
-  no-path h accepted p reads = let z : none ≡ some p = sym h ∙ reads in let y : ◌≡◌ {A = ℕ} 0 1 = cc in absurd (omega arith)
+  pub no_path : read_text s ≡ none → ListsMatches text user mode origin s d d' n
+  no_path h accepted p reads = let z : none ≡ some p = sym h ∙ reads in let y : ◌≡◌ {A = ℕ} 0 1 = cc in absurd (omega arith)
 
   pub no_table : (x l : ℕ) → checked.Refused x l ≡ check text → ListsMatches text user mode origin s d d' n
   no_table x l h accepted p reads = let z : checked.Refused x l ≡ checked.Accepted = h ∙ accepted in let y : ◌≡◌ {A = ℕ} 0 1 = cc in absurd (omega arith)
@@ -65,47 +65,47 @@ module _ (text user : Str) (mode : ℕ) (origin s : Str) (d d' : List ℕ) (n : 
 abbrev Judged : PathAnswer → Type 0
 Judged a = (n l : ℕ) → a ≡ path.Refused n l → ⊥
 
-judged-on : (c : Checked) (k : ℕ) (x : Option Numbered) (a : PathAnswer) → Judged a → a ≡ pathAnswer c k x → (c ≡ checked.Accepted) × (k ≡ clear)
-unfolding pathAnswer if◌then◌else◌
-judged-on (checked.Refused n l) k x a h e = absurd (h n l e)
-judged-on checked.Accepted k x a h e = by (eqb k clear) (λ u. (refl, eqb-true _ _ u)) (λ u. absurd (h k 0 (rw u at e)))
+judged_on : (c : Checked) (k : ℕ) (x : Option Numbered) (a : PathAnswer) → Judged a → a ≡ path_answer c k x → (c ≡ checked.Accepted) × (k ≡ clear)
+unfolding path_answer if◌then◌else◌
+judged_on (checked.Refused n l) k x a h e = absurd (h n l e)
+judged_on checked.Accepted k x a h e = by (eqb k clear) (λ u. (refl, eqb-true _ _ u)) (λ u. absurd (h k 0 (rw u at e)))
 
-read-there : (x : Option Path) → (22 when absent x else clear) ≡ clear → (p : Path) × (x ≡ some p)
+read_there : (x : Option Path) → (22 when absent x else clear) ≡ clear → (p : Path) × (x ≡ some p)
 unfolding absent if◌then◌else◌
-read-there none h = absurd (omega (arith, h))
-read-there (some p) h = (p, refl)
+read_there none h = absurd (omega (arith, h))
+read_there (some p) h = (p, refl)
 
-path-there : (user : Str) (mode : ℕ) (origin s : Str) → requestRefusal user mode origin s ≡ clear → (p : Path) × (readText s ≡ some p)
-unfolding requestRefusal if◌then◌else◌
-path-there user mode origin s h =
-    by (badUser user or badMode mode)
+path_there : (user : Str) (mode : ℕ) (origin s : Str) → request_refusal user mode origin s ≡ clear → (p : Path) × (read_text s ≡ some p)
+unfolding request_refusal if◌then◌else◌
+path_there user mode origin s h =
+    by (bad_user user or bad_mode mode)
     (λ u. let z : ◌≡◌ {A = ℕ} 20 clear = rw u at h in absurd (omega arith))
-    (λ u. by (badOrigin origin)
+    (λ u. by (bad_origin origin)
     (λ v. let z : ◌≡◌ {A = ℕ} 21 clear = rw (u, v) at h in absurd (omega arith))
-    (λ v. read-there (readText s) (rw (u, v) at h)))
+    (λ v. read_there (read_text s) (rw (u, v) at h)))
 
-module _ (text user : Str) (mode : ℕ) (origin s : Str) (a : PathAnswer) (e : a ≡ pathVerdict text user mode origin s) (d : List ℕ) where
-  all_listed : (d' : List ℕ) (n : ℕ) → Judged a → ListsMatches text user mode origin s d d' n → Added d 0 (matchLines (table_of text) (request user mode origin s)) d' n
+module _ (text user : Str) (mode : ℕ) (origin s : Str) (a : PathAnswer) (e : a ≡ path_verdict text user mode origin s) (d : List ℕ) where
+  all_listed : (d' : List ℕ) (n : ℕ) → Judged a → ListsMatches text user mode origin s d d' n → Added d 0 (match_lines (table_of text) (request user mode origin s)) d' n
   unfolding request
   all_listed d' n j h =
-      let o = judged-on (check text) (requestRefusal user mode origin s) (decider (table_of text) (request user mode origin s)) a j (unfold pathVerdict in e) in
-      let r = path-there user mode origin s o.1 in
+      let o = judged_on (check text) (request_refusal user mode origin s) (decider (table_of text) (request user mode origin s)) a j (unfold path_verdict in e) in
+      let r = path_there user mode origin s o.1 in
       rw (spelled_is s r.0 r.1) (h o.0 r.0 r.1)
 
-  pub explained-permit : (d' : List ℕ) (n : ℕ) (rule : RuleNumber) → a ≡ path.Permit rule → ListsMatches text user mode origin s d d' n → Added d 0 (explanation text user mode origin s) d' n
+  pub explained_permit : (d' : List ℕ) (n : ℕ) (rule : RuleNumber) → a ≡ path.Permit rule → ListsMatches text user mode origin s d d' n → Added d 0 (explanation text user mode origin s) d' n
   unfolding explanation below
-  explained-permit d' n rule i h = let q : pathVerdict text user mode origin s ≡ path.Permit rule = sym e ∙ i in
+  explained_permit d' n rule i h = let q : path_verdict text user mode origin s ≡ path.Permit rule = sym e ∙ i in
       rw q (all_listed d' n (λ x l z. let w : path.Permit rule ≡ path.Refused x l = sym i ∙ z in let y : ◌≡◌ {A = ℕ} 0 1 = cc in absurd (omega arith)) h)
 
-  pub explained-deny : (d' : List ℕ) (n : ℕ) (rule : RuleNumber) → a ≡ path.Deny rule → ListsMatches text user mode origin s d d' n → Added d 0 (explanation text user mode origin s) d' n
+  pub explained_deny : (d' : List ℕ) (n : ℕ) (rule : RuleNumber) → a ≡ path.Deny rule → ListsMatches text user mode origin s d d' n → Added d 0 (explanation text user mode origin s) d' n
   unfolding explanation below
-  explained-deny d' n rule i h = let q : pathVerdict text user mode origin s ≡ path.Deny rule = sym e ∙ i in
+  explained_deny d' n rule i h = let q : path_verdict text user mode origin s ≡ path.Deny rule = sym e ∙ i in
       rw q (all_listed d' n (λ x l z. let w : path.Deny rule ≡ path.Refused x l = sym i ∙ z in let y : ◌≡◌ {A = ℕ} 0 1 = cc in absurd (omega arith)) h)
 
   pub unexplained : a ≡ path.Default → Added d 0 (explanation text user mode origin s) d 0
   unfolding explanation below
-  unexplained i = let q : pathVerdict text user mode origin s ≡ path.Default = sym e ∙ i in rw q (nothing-added d 0 (omega arith))
+  unexplained i = let q : path_verdict text user mode origin s ≡ path.Default = sym e ∙ i in rw q (nothing_added d 0 (omega arith))
 
-  pub refused-bare : (x l : ℕ) → a ≡ path.Refused x l → Added d 0 (explanation text user mode origin s) d 0
+  pub refused_bare : (x l : ℕ) → a ≡ path.Refused x l → Added d 0 (explanation text user mode origin s) d 0
   unfolding explanation below
-  refused-bare x l i = let q : pathVerdict text user mode origin s ≡ path.Refused x l = sym e ∙ i in rw q (nothing-added d 0 (omega arith))
+  refused_bare x l i = let q : path_verdict text user mode origin s ≡ path.Refused x l = sym e ∙ i in rw q (nothing_added d 0 (omega arith))

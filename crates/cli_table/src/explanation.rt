@@ -1,10 +1,10 @@
 // Which rules match a request, in ranking order, and the step of the ranking at which each lost to the first.
 ghost use Rattle.std.specs.Prelude.{◌≡◌, ◌*◌, ◌≤◌, length};
-ghost use Rattle.limits.specs.Limits.{maxRules};
-ghost use Rattle.verdict_request.specs.Calls.{pathVerdict};
+ghost use Rattle.limits.specs.Limits.{max_rules};
+ghost use Rattle.verdict_request.specs.Calls.{path_verdict};
 ghost use Rattle.text_make.specs.Added.{Added};
 ghost use Rattle.cli_explained.specs.Explained.{explanation};
-ghost use Rattle.cli_explained.specs.Steps.{maxRankedLine, ListsMatches};
+ghost use Rattle.cli_explained.specs.Steps.{max_ranked_line, ListsMatches};
 
 use cli_answers::lines::Fallback;
 use path_read::Filled;
@@ -16,7 +16,7 @@ const MAX_LINES: usize = limits::MAX_RULES * cli_explained::MAX_LINE;
 
 // The lines of the rules that match, the best first: the table is loaded once. Nothing where it is refused, or the path.
 fn list(text: &[u8], user: &[u8], mode: u32, origin: &[u8], path: &[u8], out: &mut [u8]) -> usize
-    requires { maxRules * maxRankedLine ≤ length out.old }
+    requires { max_rules * max_ranked_line ≤ length out.old }
     ensures { ListsMatches text.now user.now mode origin.now path.now
         out.old out.new result }
 {
@@ -71,7 +71,7 @@ fn explain(
     a: PathAnswer,
     out: &mut [u8],
 ) -> usize
-    requires { (a ≡ pathVerdict text.now user.now mode origin.now path.now) × (maxRules * maxRankedLine ≤ length out.old) }
+    requires { (a ≡ path_verdict text.now user.now mode origin.now path.now) × (max_rules * max_ranked_line ≤ length out.old) }
     ensures { Added out.old 0
         (explanation text.now user.now mode origin.now path.now)
         out.new result }

@@ -1,9 +1,9 @@
 // A rule table's check, a user's groups, the verdicts.
 ghost use Rattle.std.specs.Prelude.{◌≡◌, ◌+◌, ◌*◌, ◌≤◌, length};
-ghost use Rattle.limits.specs.Limits.{maxGroups};
-ghost use Rattle.table.specs.Group.{groupCount};
+ghost use Rattle.limits.specs.Limits.{max_groups};
+ghost use Rattle.table.specs.Group.{group_count};
 ghost use Rattle.text_make.specs.Added.{Added};
-ghost use Rattle.cli_answers.specs.Rows.{maxCountLine, maxGroupLine, groupsText};
+ghost use Rattle.cli_answers.specs.Rows.{max_count_line, max_group_line, groups_text};
 ghost use Rattle.cli_answers.specs.Steps.{ListsGroups};
 
 use cli_answers::lines::Fallback;
@@ -34,7 +34,7 @@ pub fn check(text: &[u8]) {
 
 // A line for each group that lists the user, from `at` on; nothing where the table is refused.
 fn list(text: &[u8], user: &[u8], out: &mut [u8], at: usize) -> usize
-    requires { at + maxGroups * maxGroupLine ≤ length out.old }
+    requires { at + max_groups * max_group_line ≤ length out.old }
     ensures { ListsGroups text.now user.now out.old at out.new result }
 {
     let s = table_check::look(text, user);
@@ -46,8 +46,8 @@ fn list(text: &[u8], user: &[u8], out: &mut [u8], at: usize) -> usize
 
 // How many groups list the user, as c says, and each of them; nothing for a refusal.
 fn tell_groups(text: &[u8], user: &[u8], c: Counted, out: &mut [u8]) -> usize
-    requires { (c ≡ groupCount text.now user.now) × (maxCountLine + maxGroups * maxGroupLine ≤ length out.old) }
-    ensures { Added out.old 0 (groupsText text.now user.now) out.new result }
+    requires { (c ≡ group_count text.now user.now) × (max_count_line + max_groups * max_group_line ≤ length out.old) }
+    ensures { Added out.old 0 (groups_text text.now user.now) out.new result }
 {
     let at = cli_answers::rows::groups(c, out);
     match c {

@@ -7,12 +7,12 @@ use Prim.Native.String.{String}
 use Rattle.text.specs.Test.{◌or◌}
 use Rattle.text.specs.String.{bytes}
 use Rattle.json_grammar.specs.Json.{Json, jnull, jtrue, jnumber, jstring, jlist, jobject, vnil, vcons, mnil, mcons, values, members}
-use Rattle.json_grammar.specs.Grammar.{white, DIGIT, digit1-9, e-or-E, minus-or-plus, unescaped, escapable, HEXDIG}
-use Rattle.json_grammar.specs.Parser.{skip, lead, may, readDigits, readInt, readFrac, readExp, readNumber, keep, readChars, read_sign, readWord, readScalar, follow, readItems, enter, readMember, readOver, readValue, atEnd, parse}
+use Rattle.json_grammar.specs.Grammar.{white, DIGIT, digit1_9, e_or_E, minus_or_plus, unescaped, escapable, HEXDIG}
+use Rattle.json_grammar.specs.Parser.{skip, lead, may, read_digits, read_int, read_frac, read_exp, read_number, keep, read_chars, read_sign, read_word, read_scalar, follow, read_items, enter, read_member, read_over, read_value, at_end, parse}
 
 -- the parser on a text, with all that it needs open
 parsed : String → Option Json
-unfolding parse atEnd readValue readOver readMember enter readItems follow readScalar readWord read_sign readChars keep readNumber readExp readFrac readInt readDigits may lead skip bind white DIGIT digit1-9 e-or-E minus-or-plus unescaped escapable HEXDIG ◌or◌ values members
+unfolding parse at_end read_value read_over read_member enter read_items follow read_scalar read_word read_sign read_chars keep read_number read_exp read_frac read_int read_digits may lead skip bind white DIGIT digit1_9 e_or_E minus_or_plus unescaped escapable HEXDIG ◌or◌ values members
 parsed s = parse (bytes s)
 
 tree : parsed " {\"a\" : [1, -2.5e+3 ,null],\"\\u00e9\":{}}\n" ≡ some (jobject (mcons (bytes "a") (jlist (vcons jnumber (vcons jnumber (vcons jnull vnil)))) (mcons (bytes "\\u00e9") (jobject mnil) mnil)))

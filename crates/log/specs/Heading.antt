@@ -2,8 +2,8 @@
 use Rattle.std.specs.Prelude.{ℕ, ◌+◌, ◌∷◌, ◌++◌, length}
 use Rattle.text.specs.String.{Str}
 use Rattle.text.specs.Refusal.{clear}
-use Rattle.text.specs.Frame.{Parsed, got, unread, Reader, ◌>>=◌, ret, byte, string, stringBytes}
-use Rattle.verdict_request.specs.Calls.{refusalOr}
+use Rattle.text.specs.Frame.{Parsed, got, unread, Reader, ◌>>=◌, ret, byte, string, string_bytes}
+use Rattle.verdict_request.specs.Calls.{refusal_or}
 use Rattle.log.specs.declared.Heading.{Heading}
 use Rattle.log.specs.declared.Heading.TheVariants.{At, Unread}
 
@@ -21,14 +21,14 @@ heading = do
   ret (record { mode = mode; user = user; origin = origin })
 
 -- and its bytes
-unfoldable pub headBytes : Head → Str
-headBytes h = h.mode ∷ (stringBytes h.user ++ stringBytes h.origin)
+unfoldable pub head_bytes : Head → Str
+head_bytes h = h.mode ∷ (string_bytes h.user ++ string_bytes h.origin)
 
 -- 20 or 21
-unfoldable pub headRefusal : Head → ℕ
-headRefusal h = refusalOr clear h.user h.mode h.origin
+unfoldable pub head_refusal : Head → ℕ
+head_refusal h = refusal_or clear h.user h.mode h.origin
 
 -- the answer: its number, where the origin stands, and where the path
 unfoldable pub headed : Parsed Head → Heading
-headed (got h t) = At (headRefusal h) (2 + length h.user) t
+headed (got h t) = At (head_refusal h) (2 + length h.user) t
 headed unread = Unread

@@ -6,15 +6,15 @@ use Rattle.text.specs.String.{Str}
 use Rattle.text.specs.Refusal.{◌when◌else◌, clear}
 use Rattle.text.specs.Frame.{Reader, ◌>>=◌, ret, byte, string}
 use Rattle.path.specs.Bytes.{path}
-use Rattle.path.specs.Refusal.{goodPath}
+use Rattle.path.specs.Refusal.{good_path}
 use Rattle.table_line.specs.Lines.{frame}
 use Rattle.table.specs.Frame.{whole}
 use Rattle.verdict.specs.Verdict.{Request}
-use Rattle.verdict_request.specs.Calls.{refusalOr, asked}
+use Rattle.verdict_request.specs.Calls.{refusal_or, asked}
 
 -- "mode, S user, S origin, path"
-unfoldable pub requestBody : Reader Request
-requestBody = do
+unfoldable pub request_body : Reader Request
+request_body = do
   mode ← byte
   user ← string
   origin ← string
@@ -22,21 +22,21 @@ requestBody = do
   ret (asked user mode origin p)
 
 -- the request of a frame; none where it "isn't so framed"
-unfoldable pub framedRequest : Str → Option Request
-framedRequest f = whole f (requestBody f 0)
+unfoldable pub framed_request : Str → Option Request
+framed_request f = whole f (request_body f 0)
 
--- 20, 21 and 22 as `requestRefusal` has them, with a path for the path text
-unfoldable pub framedRefusal : Request → ℕ
-framedRefusal q = refusalOr (22 when not (goodPath q.path) else clear) q.user q.mode q.origin
+-- 20, 21 and 22 as `request_refusal` has them, with a path for the path text
+unfoldable pub framed_refusal : Request → ℕ
+framed_refusal q = refusal_or (22 when not (good_path q.path) else clear) q.user q.mode q.origin
 
 unfoldable pub unrefused : Option Request → Option Request
 unrefused none = none
-unrefused (some q) = if eqb (framedRefusal q) clear then some q else none
+unrefused (some q) = if eqb (framed_refusal q) clear then some q else none
 
 -- the good request of a frame
-unfoldable pub goodRequest : Str → Option Request
-goodRequest f = unrefused (framedRequest f)
+unfoldable pub good_request : Str → Option Request
+good_request f = unrefused (framed_request f)
 
 -- the request of a line, "hexadecimal as in the table"; none where it is bad: "bad is what isn't so framed or gets 20 to 22"
-unfoldable pub requestOf : Str → Option Request
-requestOf l = bind (frame l) goodRequest
+unfoldable pub request_of : Str → Option Request
+request_of l = bind (frame l) good_request

@@ -12,46 +12,46 @@ use Rattle.text.specs.String.{Str, same}
 use Rattle.text.proofs.Tests.{by, same→≡}
 use Rattle.text_hash.specs.Mix.{place_of}
 use Rattle.text_hash.specs.declared.Seed.{Seed}
-use Rattle.text_hash.proofs.Mixing.{place-within}
-use Rattle.table_place.specs.Place.{strIn}
-use Rattle.table_membership.specs.Set.{insertOf, setIn}
-use Rattle.table_membership.proofs.Sets.{set-start, set-turn}
-use Rattle.member_index.specs.Index.{places, place_in, firstIn, Linked}
-use Rattle.member_index.proofs.Chains.{FirstAt, first-none, first-hit, first-pass, first-at}
+use Rattle.text_hash.proofs.Mixing.{place_within}
+use Rattle.table_place.specs.Place.{str_in}
+use Rattle.table_membership.specs.Set.{insert_of, set_in}
+use Rattle.table_membership.proofs.Sets.{set_start, set_turn}
+use Rattle.member_index.specs.Index.{places, place_in, first_in, Linked}
+use Rattle.member_index.proofs.Chains.{FirstAt, first_none, first_hit, first_pass, first_at}
 
 -- ---- the set, with members left out
 
 module _ (user : Str) (f users owners : List ℕ) (seed : Seed) (place : ℕ) (own : place ≡ place_of seed places user) where
-  other_place : (i : ℕ) → (place_in seed f users i ≡ place → ⊥) → same user (strIn f (get_or users i 0)) ≡ false
+  other_place : (i : ℕ) → (place_in seed f users i ≡ place → ⊥) → same user (str_in f (get_or users i 0)) ≡ false
   other_place i n =
-      by (same user (strIn f (get_or users i 0)))
+      by (same user (str_in f (get_or users i 0)))
       (λ t. absurd (n (ap (place_of seed places) (sym (same→≡ _ _ t)) ∙ sym own)))
       (λ t. t)
 
-  set-pass : (k i set : ℕ) → (place_in seed f users i ≡ place → ⊥) → setIn user f users owners (suc k) i set ≡ setIn user f users owners k (suc i) set
-  unfolding setIn if◌then◌else◌
-  set-pass k i set n = rw (other_place i n)
+  set_pass : (k i set : ℕ) → (place_in seed f users i ≡ place → ⊥) → set_in user f users owners (suc k) i set ≡ set_in user f users owners k (suc i) set
+  unfolding set_in if◌then◌else◌
+  set_pass k i set n = rw (other_place i n)
 
-  set-none : (k i set : ℕ) → 0 ≡ firstIn seed f users place k i → setIn user f users owners k i set ≡ set
-  unfolding setIn
-  set-none zero i set e = refl
-  set-none (suc k) i set e =
+  set_none : (k i set : ℕ) → 0 ≡ first_in seed f users place k i → set_in user f users owners k i set ≡ set
+  unfolding set_in
+  set_none zero i set e = refl
+  set_none (suc k) i set e =
       by (eqb (place_in seed f users i) place)
-      (λ t. absurd (omega (arith, e ∙ first-hit seed f users place k i (eqb-true _ _ t))))
-      (λ t. let n = eqb-false (place_in seed f users i) place t in set-pass k i set n ∙ set-none k (suc i) set (e ∙ first-pass seed f users place k i n))
+      (λ t. absurd (omega (arith, e ∙ first_hit seed f users place k i (eqb-true _ _ t))))
+      (λ t. let n = eqb-false (place_in seed f users i) place t in set_pass k i set n ∙ set_none k (suc i) set (e ∙ first_pass seed f users place k i n))
 
-  set_to : (k i j set : ℕ) → suc j ≡ firstIn seed f users place k i → setIn user f users owners k i set ≡ setIn user f users owners (i + k - j) j set
-  set_to zero i j set e = absurd (omega (arith, e ∙ first-none seed f users place i))
+  set_to : (k i j set : ℕ) → suc j ≡ first_in seed f users place k i → set_in user f users owners k i set ≡ set_in user f users owners (i + k - j) j set
+  set_to zero i j set e = absurd (omega (arith, e ∙ first_none seed f users place i))
   set_to (suc k) i j set e =
       by (eqb (place_in seed f users i) place)
       (λ t.
-      let q : j ≡ i = omega (arith, e ∙ first-hit seed f users place k i (eqb-true _ _ t)) in
+      let q : j ≡ i = omega (arith, e ∙ first_hit seed f users place k i (eqb-true _ _ t)) in
       let r : i + suc k - i ≡ suc k = omega arith in
       rw (q, r))
       (λ t.
       let n = eqb-false (place_in seed f users i) place t in
       let r : suc i + k - j ≡ i + suc k - j = omega arith in
-      set-pass k i set n ∙ set_to k (suc i) j set (e ∙ first-pass seed f users place k i n) ∙ rw r)
+      set_pass k i set n ∙ set_to k (suc i) j set (e ∙ first_pass seed f users place k i n) ∙ rw r)
 
 -- ---- the loop
 
@@ -62,13 +62,13 @@ pub record Walking (user : Str) (f users owners : List ℕ) (n : ℕ) (heads lin
   pub own : place ≡ place_of seed places user
   pub from : ℕ
   pub under : from ≤ n
-  pub first : next ≡ firstIn seed f users place (n - from) from
-  pub rest : setIn user f users owners n 0 0 ≡ setIn user f users owners (n - from) from set
+  pub first : next ≡ first_in seed f users place (n - from) from
+  pub rest : set_in user f users owners n 0 0 ≡ set_in user f users owners (n - from) from set
 
 -- how many of n members there are from one on, which is counted from 1; 0 stands for none
-unfoldable pub leftFrom : ℕ → ℕ → ℕ
-leftFrom n zero = 0
-leftFrom n (suc i) = n - i
+unfoldable pub left_from : ℕ → ℕ → ℕ
+left_from n zero = 0
+left_from n (suc i) = n - i
 
 pub walk_start : (user : Str) (f users owners : List ℕ) (n : ℕ) (heads links : List ℕ) (seed : Seed) (place : ℕ) → Linked seed f users n heads links
     → place ≡ place_of seed places user → Walking user f users owners n heads links place 0 (get_or heads place 0)
@@ -79,16 +79,16 @@ walk_start user f users owners n heads links seed place h e =
       own = e;
       from = 0;
       under = omega arith;
-      first = h.first place (place-within seed user places place e (omega arith));
-      rest = set-start user f users owners n;
+      first = h.first place (place_within seed user places place e (omega arith));
+      rest = set_start user f users owners n;
     }
 
 module _ {user : Str} {f users owners : List ℕ} {n : ℕ} {heads links : List ℕ} {place set next : ℕ}
     (w : Walking user f users owners n heads links place set next) where
-  pub walk_end : next ≤ 0 → set ≡ setIn user f users owners n 0 0
+  pub walk_end : next ≤ 0 → set ≡ set_in user f users owners n 0 0
   walk_end l =
       let e : 0 ≡ next = omega arith in
-      sym (w.rest ∙ set-none user f users owners w.seed place w.own (n - w.from) w.from set (e ∙ w.first))
+      sym (w.rest ∙ set_none user f users owners w.seed place w.own (n - w.from) w.from set (e ∙ w.first))
 
 module _ {user : Str} {f users owners : List ℕ} {n : ℕ} {heads links : List ℕ} {place set next : ℕ}
     (w : Walking user f users owners n heads links place set next) (l : 0 < next) where
@@ -96,20 +96,20 @@ module _ {user : Str} {f users owners : List ℕ} {n : ℕ} {heads links : List 
   one_less = omega arith
 
   here : FirstAt w.seed f users place (n - w.from) w.from (next - 1)
-  here = first-at w.seed f users place (n - w.from) w.from (next - 1) (one_less ∙ w.first)
+  here = first_at w.seed f users place (n - w.from) w.from (next - 1) (one_less ∙ w.first)
 
   pub walk_inside : next - 1 < n
   walk_inside = omega (arith, here.high, w.under)
 
-  next-first : get_or links (next - 1) 0 ≡ firstIn w.seed f users place (n - next) next
-  next-first = w.linked.next (next - 1) (omega arith) walk_inside ∙ rw (here.has, one_less)
+  next_first : get_or links (next - 1) 0 ≡ first_in w.seed f users place (n - next) next
+  next_first = w.linked.next (next - 1) (omega arith) walk_inside ∙ rw (here.has, one_less)
 
-  set_here : setIn user f users owners n 0 0 ≡ setIn user f users owners (n - (next - 1)) (next - 1) set
+  set_here : set_in user f users owners n 0 0 ≡ set_in user f users owners (n - (next - 1)) (next - 1) set
   set_here =
       let z : w.from + (n - w.from) ≡ n = omega (arith, w.under) in
       w.rest ∙ set_to user f users owners w.seed place w.own (n - w.from) w.from (next - 1) set (one_less ∙ w.first) ∙ rw z
 
-  pub walk_turn : (set' : ℕ) → set' ≡ (if same user (strIn f (get_or users (next - 1) 0)) then insertOf set (get_or owners (next - 1) 0) else set)
+  pub walk_turn : (set' : ℕ) → set' ≡ (if same user (str_in f (get_or users (next - 1) 0)) then insert_of set (get_or owners (next - 1) 0) else set)
       → Walking user f users owners n heads links place set' (get_or links (next - 1) 0)
   walk_turn set' e =
       let p : next - 1 + 1 ≡ next = omega arith in
@@ -119,16 +119,16 @@ module _ {user : Str} {f users owners : List ℕ} {n : ℕ} {heads links : List 
         own = w.own;
         from = next;
         under = omega (arith, walk_inside);
-        first = next-first;
-        rest = rw p at (set-turn user f users owners n (next - 1) _ set set' walk_inside e set_here);
+        first = next_first;
+        rest = rw p at (set_turn user f users owners n (next - 1) _ set set' walk_inside e set_here);
       }
 
-left_less : (seed : Seed) (f users : List ℕ) (n b p q : ℕ) → 0 < q → q - 1 < n → p ≡ firstIn seed f users b (n - q) q → leftFrom n p < leftFrom n q
-unfolding leftFrom
+left_less : (seed : Seed) (f users : List ℕ) (n b p q : ℕ) → 0 < q → q - 1 < n → p ≡ first_in seed f users b (n - q) q → left_from n p < left_from n q
+unfolding left_from
 left_less seed f users n b p zero l i e = absurd (omega arith)
 left_less seed f users n b zero (suc q) l i e = omega arith
-left_less seed f users n b (suc p) (suc q) l i e = let a = first-at seed f users b (n - suc q) (suc q) p e in omega (arith, a.low, a.high)
+left_less seed f users n b (suc p) (suc q) l i e = let a = first_at seed f users b (n - suc q) (suc q) p e in omega (arith, a.low, a.high)
 
-pub walk-less : {user : Str} {f users owners : List ℕ} {n : ℕ} {heads links : List ℕ} {place set next : ℕ}
-    → Walking user f users owners n heads links place set next → 0 < next → leftFrom n (get_or links (next - 1) 0) < leftFrom n next
-walk-less {next = next} w l = left_less w.seed _ _ _ _ _ next l (walk_inside w l) (next-first w l)
+pub walk_less : {user : Str} {f users owners : List ℕ} {n : ℕ} {heads links : List ℕ} {place set next : ℕ}
+    → Walking user f users owners n heads links place set next → 0 < next → left_from n (get_or links (next - 1) 0) < left_from n next
+walk_less {next = next} w l = left_less w.seed _ _ _ _ _ next l (walk_inside w l) (next_first w l)

@@ -1,8 +1,8 @@
 // The members of a table by the place of a hash, so that a user's groups are found without a look at all members.
 ghost use Rattle.std.specs.Prelude.{◌≡◌, ◌≤◌, length};
 ghost use Rattle.text_hash.specs.Mix.{Small, place_of};
-ghost use Rattle.table_place.specs.Place.{strEnd, strIn};
-ghost use Rattle.table_membership.specs.Set.{Members, setIn};
+ghost use Rattle.table_place.specs.Place.{str_end, str_in};
+ghost use Rattle.table_membership.specs.Set.{Members, set_in};
 ghost use Rattle.member_index.specs.Index.{places, Linkable, Linked};
 
 use table::GroupNumber;
@@ -13,8 +13,8 @@ pub const PLACES: usize = limits::MAX_MEMBERS;
 
 // The place of the string at `at`.
 pub fn place_at(f: &[u8], at: usize, seed: Seed) -> usize
-    requires { (strEnd f.now at ≤ length f.now) × Small seed }
-    ensures { result ≡ place_of seed places (strIn f.now at) }
+    requires { (str_end f.now at ≤ length f.now) × Small seed }
+    ensures { result ≡ place_of seed places (str_in f.now at) }
 {
     let start = at + 1;
     let end = table_place::str_end(f, at);
@@ -53,7 +53,7 @@ pub fn memberships(
 ) -> u64
     requires { Members f.now users.now owners.now n × Linked seed f.now users.now n heads.now links.now
         × (place ≡ place_of seed places user.now) }
-    ensures { result ≡ setIn user.now f.now users.now owners.now n 0 0 }
+    ensures { result ≡ set_in user.now f.now users.now owners.now n 0 0 }
 {
     let mut set: u64 = 0;
     let mut next = heads[place] as usize;

@@ -1,7 +1,7 @@
 -- Path bytes: how a path is read from a frame, and the bytes that stand for it.
 use Rattle.std.specs.Prelude.{List, ◌∷◌, ◌++◌, length}
 use Rattle.text.specs.String.{Str, joined}
-use Rattle.text.specs.Frame.{Reader, ◌>>=◌, ret, byte, string, stringBytes, times}
+use Rattle.text.specs.Frame.{Reader, ◌>>=◌, ret, byte, string, string_bytes, times}
 use Rattle.path.specs.Path.{Key, Elem, Path}
 
 -- ---- reading
@@ -33,11 +33,11 @@ path = do
 unfoldable pub counted : {A : Type 0} → (A → Str) → List A → Str
 counted w xs = length xs ∷ joined w xs
 
-unfoldable pub keyBytes : Key → Str
-keyBytes k = stringBytes k.name ++ stringBytes k.value
+unfoldable pub key_bytes : Key → Str
+key_bytes k = string_bytes k.name ++ string_bytes k.value
 
-unfoldable pub elemBytes : Elem → Str
-elemBytes e = stringBytes e.name ++ counted keyBytes e.keys
+unfoldable pub elem_bytes : Elem → Str
+elem_bytes e = string_bytes e.name ++ counted key_bytes e.keys
 
-unfoldable pub pathBytes : Path → Str
-pathBytes p = counted elemBytes p
+unfoldable pub path_bytes : Path → Str
+path_bytes p = counted elem_bytes p

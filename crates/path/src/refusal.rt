@@ -1,10 +1,10 @@
 // What the strings of a path may not hold: refusal numbers 5 to 8, the smallest first, and `limits::CLEAR` for none.
 ghost use Rattle.std.specs.Prelude.{◌≡◌, true, [], ◌∷◌, min};
-ghost use Rattle.text.specs.Byte.{isName, isStar};
+ghost use Rattle.text.specs.Byte.{is_name, is_star};
 ghost use Rattle.text.specs.Test.{all, any, if◌then◌else◌};
 ghost use Rattle.text.specs.String.{bytes, same};
-ghost use Rattle.path.specs.Refusal.{outsideName, outsideValue};
-ghost use Rattle.path.specs.Walk.{nameRefusal, elemNameRefusal, valueRefusal};
+ghost use Rattle.path.specs.Refusal.{outside_name, outside_value};
+ghost use Rattle.path.specs.Walk.{name_refusal, elem_name_refusal, value_refusal};
 
 // The smaller of two numbers.
 pub fn smaller(a: u8, b: u8) -> u8
@@ -15,7 +15,7 @@ pub fn smaller(a: u8, b: u8) -> u8
 
 // The smallest number whose flag is set.
 pub fn least_refusal(five: bool, six: bool, seven: bool, eight: bool) -> u8
-    ensures { result ≡ Rattle.path.specs.Walk.leastRefusal five six seven eight }
+    ensures { result ≡ Rattle.path.specs.Walk.least_refusal five six seven eight }
 {
     if five {
         return 5;
@@ -43,7 +43,7 @@ struct Seen {
 
 // What a string holds, where the set is that of names (with *, which has a number of its own) or that of values.
 fn scan(s: &[u8], name: bool) -> Seen
-    ensures { (result.stray ≡ any (if name then outsideName else outsideValue) s.now) × (result.star ≡ any isStar s.now) }
+    ensures { (result.stray ≡ any (if name then outside_name else outside_value) s.now) × (result.star ≡ any is_star s.now) }
 {
     let mut stray = false;
     let mut star = false;
@@ -64,14 +64,14 @@ fn scan(s: &[u8], name: bool) -> Seen
 
 // A length that no name or value may have.
 fn is_unsized(n: usize) -> bool
-    ensures { result ≡ Rattle.path.specs.Walk.unsizedBy n }
+    ensures { result ≡ Rattle.path.specs.Walk.unsized_by n }
 {
     (n == 0) | (limits::MAX_STRING < n)
 }
 
 // The same as `text::byte::is_name`. Most bytes of names are small letters, which one test tells.
 pub fn is_name(b: u8) -> bool
-    ensures { result ≡ isName b }
+    ensures { result ≡ is_name b }
 {
     if (b'a' <= b) & (b <= b'z') {
         return true;
@@ -81,7 +81,7 @@ pub fn is_name(b: u8) -> bool
 
 // No byte is outside a name's set, and none is a *. Most names are such, and need no scan.
 fn is_plain(s: &[u8]) -> bool
-    ensures { result ≡ all isName s.now }
+    ensures { result ≡ all is_name s.now }
 {
     let mut i = 0;
     while i < s.len() {
@@ -115,7 +115,7 @@ pub fn is_dots(s: &[u8]) -> bool
 
 // The number of a key's name.
 pub fn name_refusal(s: &[u8]) -> u8
-    ensures { result ≡ nameRefusal s.now }
+    ensures { result ≡ name_refusal s.now }
 {
     if is_plain(s) {
         return least_refusal(is_unsized(s.len()), false, false, false);
@@ -126,7 +126,7 @@ pub fn name_refusal(s: &[u8]) -> u8
 
 // The number of an element's name.
 pub fn elem_name_refusal(s: &[u8]) -> u8
-    ensures { result ≡ elemNameRefusal s.now }
+    ensures { result ≡ elem_name_refusal s.now }
 {
     let dots = is_dots(s);
     if is_plain(s) {
@@ -138,7 +138,7 @@ pub fn elem_name_refusal(s: &[u8]) -> u8
 
 // The number of a value.
 pub fn value_refusal(s: &[u8]) -> u8
-    ensures { result ≡ valueRefusal s.now }
+    ensures { result ≡ value_refusal s.now }
 {
     let seen = scan(s, false);
     let wildcard = is_byte(s, b'*');

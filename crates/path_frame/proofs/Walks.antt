@@ -7,7 +7,7 @@ use native.Mathlib.Nat.{min-eq_left, min-eq_right}
 use native.Mathlib.Omega.{arith}
 use lib.Dec.{ltb, eqb}
 use lib.ListN.{length, get_or}
-use Rattle.limits.specs.Limits.{maxElements, maxKeys}
+use Rattle.limits.specs.Limits.{max_elements, max_keys}
 use Rattle.text.specs.Test.{◌and◌, ◌or◌, any, twice}
 use Rattle.text.specs.String.{Str, same}
 use Rattle.text.specs.Frame.{Parsed, got, unread, and_then, ◌>>=◌, ret, string, part, times}
@@ -16,96 +16,96 @@ use Rattle.text.specs.declared.frame.End.{End}
 use Rattle.text.specs.declared.frame.End.TheVariants.{At}
 use Rattle.text.specs.declared.frame.End.TheVariants as ends
 use Rattle.text.specs.Refusal.{clear}
-use Rattle.text.proofs.Tests.{or-none}
-use Rattle.text.proofs.Frames.{byte-got, byte-unread, string-ends, string-misses, times-turn, times-unread, times-done, times-length}
+use Rattle.text.proofs.Tests.{or_none_lem}
+use Rattle.text.proofs.Frames.{byte_got, byte_unread, string_ends, string_misses, times_turn, times_unread, times_done, times_length}
 use Rattle.path.specs.Path.{Key, Elem, Path}
 use Rattle.path.specs.Bytes.{key, element, path}
-use Rattle.path.specs.Walk.{keyRefusal, keysRefusal, elemNameRefusal, elemRefusal, elemsRefusal, hasName, twiceIn, isPathIn, leastRefusal, pathRefusal}
+use Rattle.path.specs.Walk.{key_refusal, keys_refusal, elem_name_refusal, elem_refusal, elems_refusal, has_name, twice_in, is_path_in, least_refusal, path_refusal}
 use Rattle.path_frame.specs.Walked.{walked}
 use Rattle.path_frame.specs.declared.Walk.{Walk}
 use Rattle.path_frame.specs.declared.Walk.TheVariants.{To, Unread}
-use Rattle.path.proofs.Refusals.{min_assoc, keys-high, keys_none, keys-refusal, elem-refusal, elems-high, elems-none, elems-refusal, path-refusal, path-clear}
+use Rattle.path.proofs.Refusals.{min_assoc, keys_high, keys_none, keys_refusal_lem, elem_refusal_lem, elems_high, elems_none, elems_refusal_lem, path_refusal_lem, path_clear}
 
 -- ---- keys
 
 -- r and s are the ends of the strings at p and after it
 module _ (f : List ℕ) (p : ℕ) (r : End) (e : r ≡ end_of (string f p)) where
-  pub key-got : (m t : ℕ) (s : End) → r ≡ At m → s ≡ end_of (string f m) → s ≡ At t → key f p ≡ got (record { name = part f (p + 1) m; value = part f (m + 1) t }) t
+  pub key_got : (m t : ℕ) (s : End) → r ≡ At m → s ≡ end_of (string f m) → s ≡ At t → key f p ≡ got (record { name = part f (p + 1) m; value = part f (m + 1) t }) t
   unfolding key ◌>>=◌ ret
-  key-got m t s g h i = rw ((string-ends f p r e m g).0, (string-ends f m s h t i).0)
+  key_got m t s g h i = rw ((string_ends f p r e m g).0, (string_ends f m s h t i).0)
 
-  pub key-nameless : r ≡ ends.Unread → key f p ≡ unread
+  pub key_nameless : r ≡ ends.Unread → key f p ≡ unread
   unfolding key ◌>>=◌
-  key-nameless g = rw (string-misses f p r e g)
+  key_nameless g = rw (string_misses f p r e g)
 
-  pub key-valueless : (m : ℕ) (s : End) → r ≡ At m → s ≡ end_of (string f m) → s ≡ ends.Unread → key f p ≡ unread
+  pub key_valueless : (m : ℕ) (s : End) → r ≡ At m → s ≡ end_of (string f m) → s ≡ ends.Unread → key f p ≡ unread
   unfolding key ◌>>=◌
-  key-valueless m s g h i = rw ((string-ends f p r e m g).0, string-misses f m s h i)
+  key_valueless m s g h i = rw ((string_ends f p r e m g).0, string_misses f m s h i)
 
 -- ---- one of the keys has the name
 
-has-cons : (b : Bool) (n : Str) (k : Key) (y : Parsed (List Key)) → hasName b n (and_then y (λ ks t. got (k ∷ ks) t)) ≡ hasName (b || same n k.name) n y
-unfolding hasName any ◌or◌
-has-cons true n k (got ks t) = refl
-has-cons false n k (got ks t) = refl
-has-cons b n k unread = refl
+has_cons : (b : Bool) (n : Str) (k : Key) (y : Parsed (List Key)) → has_name b n (and_then y (λ ks t. got (k ∷ ks) t)) ≡ has_name (b || same n k.name) n y
+unfolding has_name any ◌or◌
+has_cons true n k (got ks t) = refl
+has_cons false n k (got ks t) = refl
+has_cons b n k unread = refl
 
 module _ (f : List ℕ) (p : ℕ) (r : End) (e : r ≡ end_of (string f p)) (b : Bool) (n : Str) (left : ℕ) where
-  pub has-turn : (m t : ℕ) (s : End) (q : Bool) → 0 < left → r ≡ At m → s ≡ end_of (string f m) → s ≡ At t → q ≡ same n (part f (p + 1) m)
-      → hasName b n (times left key f p) ≡ hasName (b || q) n (times (left - 1) key f t)
-  has-turn m t s q z g h i j =
-      rw (times-turn key f p left _ t z (key-got f p r e m t s g h i), j) (has-cons b n _ (times (left - 1) key f t))
+  pub has_turn : (m t : ℕ) (s : End) (q : Bool) → 0 < left → r ≡ At m → s ≡ end_of (string f m) → s ≡ At t → q ≡ same n (part f (p + 1) m)
+      → has_name b n (times left key f p) ≡ has_name (b || q) n (times (left - 1) key f t)
+  has_turn m t s q z g h i j =
+      rw (times_turn key f p left _ t z (key_got f p r e m t s g h i), j) (has_cons b n _ (times (left - 1) key f t))
 
-  pub has-nameless : 0 < left → r ≡ ends.Unread → hasName b n (times left key f p) ≡ false
-  unfolding hasName
-  has-nameless z g = rw (times-unread key f p left z (key-nameless f p r e g))
+  pub has_nameless : 0 < left → r ≡ ends.Unread → has_name b n (times left key f p) ≡ false
+  unfolding has_name
+  has_nameless z g = rw (times_unread key f p left z (key_nameless f p r e g))
 
-  pub has-valueless : (m : ℕ) (s : End) → 0 < left → r ≡ At m → s ≡ end_of (string f m) → s ≡ ends.Unread → hasName b n (times left key f p) ≡ false
-  unfolding hasName
-  has-valueless m s z g h i = rw (times-unread key f p left z (key-valueless f p r e m s g h i))
+  pub has_valueless : (m : ℕ) (s : End) → 0 < left → r ≡ At m → s ≡ end_of (string f m) → s ≡ ends.Unread → has_name b n (times left key f p) ≡ false
+  unfolding has_name
+  has_valueless m s z g h i = rw (times_unread key f p left z (key_valueless f p r e m s g h i))
 
-pub has_done : (f : List ℕ) (p : ℕ) (b : Bool) (n : Str) (left : ℕ) → left ≤ 0 → hasName b n (times left key f p) ≡ b
-unfolding hasName any
-has_done f p b n left z = rw (times-done key f p left z) (or-none b)
+pub has_done : (f : List ℕ) (p : ℕ) (b : Bool) (n : Str) (left : ℕ) → left ≤ 0 → has_name b n (times left key f p) ≡ b
+unfolding has_name any
+has_done f p b n left z = rw (times_done key f p left z) (or_none_lem b)
 
 -- ---- two of the keys have the same name
 
-twice-cons : (k : Key) (y : Parsed (List Key)) → twiceIn (and_then y (λ ks t. got (k ∷ ks) t)) ≡ (hasName false k.name y or twiceIn y)
-unfolding twiceIn hasName twice ◌or◌
-twice-cons k (got ks t) = refl
-twice-cons k unread = refl
+twice_cons : (k : Key) (y : Parsed (List Key)) → twice_in (and_then y (λ ks t. got (k ∷ ks) t)) ≡ (has_name false k.name y or twice_in y)
+unfolding twice_in has_name twice ◌or◌
+twice_cons k (got ks t) = refl
+twice_cons k unread = refl
 
 module _ (f : List ℕ) (p : ℕ) (r : End) (e : r ≡ end_of (string f p)) (left : ℕ) where
   module _ (m t : ℕ) (s : End) (z : 1 < left) (g : r ≡ At m) (h : s ≡ end_of (string f m)) (i : s ≡ At t) (q : Bool)
-      (j : q ≡ hasName false (part f (p + 1) m) (times (left - 1) key f t)) where
-    twice-is : twiceIn (times left key f p) ≡ (q or twiceIn (times (left - 1) key f t))
-    twice-is = rw (times-turn key f p left _ t (omega arith) (key-got f p r e m t s g h i), j) (twice-cons _ (times (left - 1) key f t))
+      (j : q ≡ has_name false (part f (p + 1) m) (times (left - 1) key f t)) where
+    twice_is : twice_in (times left key f p) ≡ (q or twice_in (times (left - 1) key f t))
+    twice_is = rw (times_turn key f p left _ t (omega arith) (key_got f p r e m t s g h i), j) (twice_cons _ (times (left - 1) key f t))
 
-    pub twice_found : q ≡ true → twiceIn (times left key f p) ≡ true
+    pub twice_found : q ≡ true → twice_in (times left key f p) ≡ true
     unfolding ◌or◌
-    twice_found k = twice-is ∙ rw k
+    twice_found k = twice_is ∙ rw k
 
-    pub twice-turn : q ≡ false → twiceIn (times left key f p) ≡ twiceIn (times (left - 1) key f t)
+    pub twice_turn : q ≡ false → twice_in (times left key f p) ≡ twice_in (times (left - 1) key f t)
     unfolding ◌or◌
-    twice-turn k = twice-is ∙ rw k
+    twice_turn k = twice_is ∙ rw k
 
-  pub twice-nameless : 1 < left → r ≡ ends.Unread → twiceIn (times left key f p) ≡ false
-  unfolding twiceIn
-  twice-nameless z g = rw (times-unread key f p left (omega arith) (key-nameless f p r e g))
+  pub twice_nameless : 1 < left → r ≡ ends.Unread → twice_in (times left key f p) ≡ false
+  unfolding twice_in
+  twice_nameless z g = rw (times_unread key f p left (omega arith) (key_nameless f p r e g))
 
-  pub twice-valueless : (m : ℕ) (s : End) → 1 < left → r ≡ At m → s ≡ end_of (string f m) → s ≡ ends.Unread → twiceIn (times left key f p) ≡ false
-  unfolding twiceIn
-  twice-valueless m s z g h i = rw (times-unread key f p left (omega arith) (key-valueless f p r e m s g h i))
+  pub twice_valueless : (m : ℕ) (s : End) → 1 < left → r ≡ At m → s ≡ end_of (string f m) → s ≡ ends.Unread → twice_in (times left key f p) ≡ false
+  unfolding twice_in
+  twice_valueless m s z g h i = rw (times_unread key f p left (omega arith) (key_valueless f p r e m s g h i))
 
 -- one key, or none, is not twice
-pub twice-done : (f : List ℕ) (p left : ℕ) → left ≤ 1 → twiceIn (times left key f p) ≡ false
-unfolding twiceIn twice any ◌or◌
-twice-done f p left z = go (times left key f p) refl
+pub twice_done : (f : List ℕ) (p left : ℕ) → left ≤ 1 → twice_in (times left key f p) ≡ false
+unfolding twice_in twice any ◌or◌
+twice_done f p left z = go (times left key f p) refl
   where
-    go : (x : Parsed (List Key)) → times left key f p ≡ x → twiceIn x ≡ false
+    go : (x : Parsed (List Key)) → times left key f p ≡ x → twice_in x ≡ false
     go (got [] t) e = refl
     go (got (k ∷ []) t) e = refl
-    go (got (k ∷ l ∷ ks) t) e = let n = times-length key f left p _ t e in absurd (omega arith)
+    go (got (k ∷ l ∷ ks) t) e = let n = times_length key f left p _ t e in absurd (omega arith)
     go unread e = refl
 
 -- ---- numbers on the way
@@ -125,141 +125,141 @@ unfolding walked
 walked_to g (got a q) n t e = let i : t ≡ q = cc in let j : n ≡ g a = cc in (a, ap (got a) (sym i), j)
 walked_to g unread n t e = let x : ◌≡◌ {A = ℕ} 0 1 = cc in absurd (omega arith)
 
-pub walked-not : {A : Type 0} (g : A → ℕ) (x : Parsed A) → Unread ≡ walked g x → x ≡ unread
+pub walked_not : {A : Type 0} (g : A → ℕ) (x : Parsed A) → Unread ≡ walked g x → x ≡ unread
 unfolding walked
-walked-not g (got a q) e = let x : ◌≡◌ {A = ℕ} 0 1 = cc in absurd (omega arith)
-walked-not g unread e = refl
+walked_not g (got a q) e = let x : ◌≡◌ {A = ℕ} 0 1 = cc in absurd (omega arith)
+walked_not g unread e = refl
 
 -- a list's number is that of its first and of the others
-walk-cons : {A : Type 0} (G : List A → ℕ) (h : A → List A → ℕ) → ((a : A) (l : List A) → G (a ∷ l) ≡ min (h a l) (G l)) → (m : ℕ) (a : A) (w : Parsed (List A) → ℕ)
+walk_cons : {A : Type 0} (G : List A → ℕ) (h : A → List A → ℕ) → ((a : A) (l : List A) → G (a ∷ l) ≡ min (h a l) (G l)) → (m : ℕ) (a : A) (w : Parsed (List A) → ℕ)
     → ((l : List A) (t : ℕ) → w (got l t) ≡ h a l) → (y : Parsed (List A))
     → walked (lowered m G) (and_then y (λ l t. got (a ∷ l) t)) ≡ walked (lowered (min m (w y)) G) y
 unfolding walked
-walk-cons G h c m a w i (got l t) = ap (λ (n : ℕ). To n t) (rw (c a l, i l t) (sym (min_assoc m (h a l) (G l))))
-walk-cons G h c m a w i unread = refl
+walk_cons G h c m a w i (got l t) = ap (λ (n : ℕ). To n t) (rw (c a l, i l t) (sym (min_assoc m (h a l) (G l))))
+walk_cons G h c m a w i unread = refl
 
 -- ---- read_keys
 
-pub keys-start : (x : Parsed (List Key)) → walked keysRefusal x ≡ walked (lowered clear keysRefusal) x
-keys-start = walk_start keysRefusal keys-high
+pub keys_start : (x : Parsed (List Key)) → walked keys_refusal x ≡ walked (lowered clear keys_refusal) x
+keys_start = walk_start keys_refusal keys_high
 
-again-is : (n v : Str) (ks : List Key) (t : ℕ) → keyRefusal n v (hasName false n (got ks t)) ≡ keyRefusal n v (any (λ (k : Key). same n k.name) ks)
-unfolding hasName ◌or◌
-again-is n v ks t = refl
+again_is : (n v : Str) (ks : List Key) (t : ℕ) → key_refusal n v (has_name false n (got ks t)) ≡ key_refusal n v (any (λ (k : Key). same n k.name) ks)
+unfolding has_name ◌or◌
+again_is n v ks t = refl
 
 module _ (f : List ℕ) (p : ℕ) (r : End) (e : r ≡ end_of (string f p)) (m left : ℕ) where
-  pub keys-turn : (i t : ℕ) (s : End) (again : Bool) (n : ℕ) → 0 < left → r ≡ At i → s ≡ end_of (string f i) → s ≡ At t
-      → again ≡ hasName false (part f (p + 1) i) (times (left - 1) key f t) → n ≡ keyRefusal (part f (p + 1) i) (part f (i + 1) t) again
-      → walked (lowered m keysRefusal) (times left key f p) ≡ walked (lowered (min m n) keysRefusal) (times (left - 1) key f t)
-  keys-turn i t s again n z g h j u w =
-      rw (times-turn key f p left _ t z (key-got f p r e i t s g h j), w, u)
-      (walk-cons keysRefusal (λ k ks. keyRefusal k.name k.value (any (λ (l : Key). same k.name l.name) ks)) keys-refusal m
+  pub keys_turn : (i t : ℕ) (s : End) (again : Bool) (n : ℕ) → 0 < left → r ≡ At i → s ≡ end_of (string f i) → s ≡ At t
+      → again ≡ has_name false (part f (p + 1) i) (times (left - 1) key f t) → n ≡ key_refusal (part f (p + 1) i) (part f (i + 1) t) again
+      → walked (lowered m keys_refusal) (times left key f p) ≡ walked (lowered (min m n) keys_refusal) (times (left - 1) key f t)
+  keys_turn i t s again n z g h j u w =
+      rw (times_turn key f p left _ t z (key_got f p r e i t s g h j), w, u)
+      (walk_cons keys_refusal (λ k ks. key_refusal k.name k.value (any (λ (l : Key). same k.name l.name) ks)) keys_refusal_lem m
       (record { name = part f (p + 1) i; value = part f (i + 1) t })
-      (λ y. keyRefusal (part f (p + 1) i) (part f (i + 1) t) (hasName false (part f (p + 1) i) y))
-      (again-is (part f (p + 1) i) (part f (i + 1) t))
+      (λ y. key_refusal (part f (p + 1) i) (part f (i + 1) t) (has_name false (part f (p + 1) i) y))
+      (again_is (part f (p + 1) i) (part f (i + 1) t))
       (times (left - 1) key f t))
 
-  pub keys-nameless : 0 < left → r ≡ ends.Unread → walked (lowered m keysRefusal) (times left key f p) ≡ Unread
+  pub keys_nameless : 0 < left → r ≡ ends.Unread → walked (lowered m keys_refusal) (times left key f p) ≡ Unread
   unfolding walked
-  keys-nameless z g = rw (times-unread key f p left z (key-nameless f p r e g))
+  keys_nameless z g = rw (times_unread key f p left z (key_nameless f p r e g))
 
-  pub keys-valueless : (i : ℕ) (s : End) → 0 < left → r ≡ At i → s ≡ end_of (string f i) → s ≡ ends.Unread → walked (lowered m keysRefusal) (times left key f p) ≡ Unread
+  pub keys_valueless : (i : ℕ) (s : End) → 0 < left → r ≡ At i → s ≡ end_of (string f i) → s ≡ ends.Unread → walked (lowered m keys_refusal) (times left key f p) ≡ Unread
   unfolding walked
-  keys-valueless i s z g h j = rw (times-unread key f p left z (key-valueless f p r e i s g h j))
+  keys_valueless i s z g h j = rw (times_unread key f p left z (key_valueless f p r e i s g h j))
 
-pub keys-done : (f : List ℕ) (p m left : ℕ) → m ≤ clear → left ≤ 0 → walked (lowered m keysRefusal) (times left key f p) ≡ To m p
+pub keys_done : (f : List ℕ) (p m left : ℕ) → m ≤ clear → left ≤ 0 → walked (lowered m keys_refusal) (times left key f p) ≡ To m p
 unfolding walked
-keys-done f p m left h z = rw (times-done key f p left z, keys_none) (ap (λ (n : ℕ). To n p) (min-eq_left h))
+keys_done f p m left h z = rw (times_done key f p left z, keys_none) (ap (λ (n : ℕ). To n p) (min-eq_left h))
 
 -- ---- read_element
 
 -- r is the end of the name at `at`
 module _ (f : List ℕ) (at : ℕ) (r : End) (e : r ≡ end_of (string f at)) where
-  pub element-nameless : r ≡ ends.Unread → walked elemRefusal (element f at) ≡ Unread
+  pub element_nameless : r ≡ ends.Unread → walked elem_refusal (element f at) ≡ Unread
   unfolding walked element ◌>>=◌
-  element-nameless g = rw (string-misses f at r e g)
+  element_nameless g = rw (string_misses f at r e g)
 
   module _ (m : ℕ) (g : r ≡ At m) where
-    pub element-countless : length f ≤ m → walked elemRefusal (element f at) ≡ Unread
+    pub element_countless : length f ≤ m → walked elem_refusal (element f at) ≡ Unread
     unfolding walked element ◌>>=◌
-    element-countless h = rw ((string-ends f at r e m g).0, byte-unread f m h)
+    element_countless h = rw ((string_ends f at r e m g).0, byte_unread f m h)
 
-    module _ (h : m < length f) (w : Walk) (i : w ≡ walked keysRefusal (times (get_or f m 0) key f (m + 1))) where
-      pub element-keyless : w ≡ Unread → walked elemRefusal (element f at) ≡ Unread
+    module _ (h : m < length f) (w : Walk) (i : w ≡ walked keys_refusal (times (get_or f m 0) key f (m + 1))) where
+      pub element_keyless : w ≡ Unread → walked elem_refusal (element f at) ≡ Unread
       unfolding walked element ◌>>=◌
-      element-keyless j = rw ((string-ends f at r e m g).0, byte-got f m h, walked-not keysRefusal (times (get_or f m 0) key f (m + 1)) (sym j ∙ i))
+      element_keyless j = rw ((string_ends f at r e m g).0, byte_got f m h, walked_not keys_refusal (times (get_or f m 0) key f (m + 1)) (sym j ∙ i))
 
-      judged : (n : ℕ) (ks : List Key) (t : ℕ) → times (get_or f m 0) key f (m + 1) ≡ got ks t → n ≡ keysRefusal ks
-          → walked elemRefusal (element f at) ≡ To (min (min (elemNameRefusal (part f (at + 1) m)) (leastRefusal (ltb maxKeys (get_or f m 0)) false false false)) n) t
+      judged : (n : ℕ) (ks : List Key) (t : ℕ) → times (get_or f m 0) key f (m + 1) ≡ got ks t → n ≡ keys_refusal ks
+          → walked elem_refusal (element f at) ≡ To (min (min (elem_name_refusal (part f (at + 1) m)) (least_refusal (ltb max_keys (get_or f m 0)) false false false)) n) t
       unfolding walked element ◌>>=◌ ret
       judged n ks t k l =
-          rw ((string-ends f at r e m g).0, byte-got f m h, k, l, ← times-length key f (get_or f m 0) (m + 1) ks t k)
-          (ap (λ (x : ℕ). To x t) (elem-refusal _))
+          rw ((string_ends f at r e m g).0, byte_got f m h, k, l, ← times_length key f (get_or f m 0) (m + 1) ks t k)
+          (ap (λ (x : ℕ). To x t) (elem_refusal_lem _))
 
-      pub element-judged : (n t a b : ℕ) → w ≡ To n t → a ≡ elemNameRefusal (part f (at + 1) m) → b ≡ leastRefusal (ltb maxKeys (get_or f m 0)) false false false
-          → walked elemRefusal (element f at) ≡ To (min (min a b) n) t
-      element-judged n t a b j u v =
-          let x = walked_to keysRefusal _ n t (sym j ∙ i) in
+      pub element_judged : (n t a b : ℕ) → w ≡ To n t → a ≡ elem_name_refusal (part f (at + 1) m) → b ≡ least_refusal (ltb max_keys (get_or f m 0)) false false false
+          → walked elem_refusal (element f at) ≡ To (min (min a b) n) t
+      element_judged n t a b j u v =
+          let x = walked_to keys_refusal _ n t (sym j ∙ i) in
           rw (u, v) (judged n x.0 t x.1 x.2)
 
 -- ---- read_elements
 
-pub elems-start : (x : Parsed (List Elem)) → walked elemsRefusal x ≡ walked (lowered clear elemsRefusal) x
-elems-start = walk_start elemsRefusal elems-high
+pub elems_start : (x : Parsed (List Elem)) → walked elems_refusal x ≡ walked (lowered clear elems_refusal) x
+elems_start = walk_start elems_refusal elems_high
 
-module _ (f : List ℕ) (p : ℕ) (w : Walk) (e : w ≡ walked elemRefusal (element f p)) (m left : ℕ) (z : 0 < left) where
-  elem-turn : (n t : ℕ) (a : Elem) → element f p ≡ got a t → n ≡ elemRefusal a
-      → walked (lowered m elemsRefusal) (times left element f p) ≡ walked (lowered (min m n) elemsRefusal) (times (left - 1) element f t)
-  elem-turn n t a g i =
-      rw (times-turn element f p left a t z g, i)
-      (walk-cons elemsRefusal (λ b l. elemRefusal b) elems-refusal m a (λ y. elemRefusal a) (λ l u. refl) (times (left - 1) element f t))
+module _ (f : List ℕ) (p : ℕ) (w : Walk) (e : w ≡ walked elem_refusal (element f p)) (m left : ℕ) (z : 0 < left) where
+  elem_turn : (n t : ℕ) (a : Elem) → element f p ≡ got a t → n ≡ elem_refusal a
+      → walked (lowered m elems_refusal) (times left element f p) ≡ walked (lowered (min m n) elems_refusal) (times (left - 1) element f t)
+  elem_turn n t a g i =
+      rw (times_turn element f p left a t z g, i)
+      (walk_cons elems_refusal (λ b l. elem_refusal b) elems_refusal_lem m a (λ y. elem_refusal a) (λ l u. refl) (times (left - 1) element f t))
 
-  pub elems-turn : (n t : ℕ) → w ≡ To n t → walked (lowered m elemsRefusal) (times left element f p) ≡ walked (lowered (min m n) elemsRefusal) (times (left - 1) element f t)
-  elems-turn n t g =
-      let x = walked_to elemRefusal _ n t (sym g ∙ e) in
-      elem-turn n t x.0 x.1 x.2
+  pub elems_turn : (n t : ℕ) → w ≡ To n t → walked (lowered m elems_refusal) (times left element f p) ≡ walked (lowered (min m n) elems_refusal) (times (left - 1) element f t)
+  elems_turn n t g =
+      let x = walked_to elem_refusal _ n t (sym g ∙ e) in
+      elem_turn n t x.0 x.1 x.2
 
-  pub elems-unread : w ≡ Unread → walked (lowered m elemsRefusal) (times left element f p) ≡ Unread
+  pub elems_unread : w ≡ Unread → walked (lowered m elems_refusal) (times left element f p) ≡ Unread
   unfolding walked
-  elems-unread g = rw (times-unread element f p left z (walked-not elemRefusal _ (sym g ∙ e)))
+  elems_unread g = rw (times_unread element f p left z (walked_not elem_refusal _ (sym g ∙ e)))
 
-pub elems-done : (f : List ℕ) (p m left : ℕ) → m ≤ clear → left ≤ 0 → walked (lowered m elemsRefusal) (times left element f p) ≡ To m p
+pub elems_done : (f : List ℕ) (p m left : ℕ) → m ≤ clear → left ≤ 0 → walked (lowered m elems_refusal) (times left element f p) ≡ To m p
 unfolding walked
-elems-done f p m left h z = rw (times-done element f p left z, elems-none) (ap (λ (n : ℕ). To n p) (min-eq_left h))
+elems_done f p m left h z = rw (times_done element f p left z, elems_none) (ap (λ (n : ℕ). To n p) (min-eq_left h))
 
 -- ---- read_path, is_path
 
-pub path-countless : (f : List ℕ) (at : ℕ) → length f ≤ at → walked pathRefusal (path f at) ≡ Unread
+pub path_countless : (f : List ℕ) (at : ℕ) → length f ≤ at → walked path_refusal (path f at) ≡ Unread
 unfolding walked path ◌>>=◌
-path-countless f at h = rw (byte-unread f at h)
+path_countless f at h = rw (byte_unread f at h)
 
-module _ (f : List ℕ) (at : ℕ) (h : at < length f) (w : Walk) (e : w ≡ walked elemsRefusal (times (get_or f at 0) element f (at + 1))) where
-  pub path-unread : w ≡ Unread → walked pathRefusal (path f at) ≡ Unread
+module _ (f : List ℕ) (at : ℕ) (h : at < length f) (w : Walk) (e : w ≡ walked elems_refusal (times (get_or f at 0) element f (at + 1))) where
+  pub path_unread : w ≡ Unread → walked path_refusal (path f at) ≡ Unread
   unfolding walked path ◌>>=◌
-  path-unread g = rw (byte-got f at h, walked-not elemsRefusal (times (get_or f at 0) element f (at + 1)) (sym g ∙ e))
+  path_unread g = rw (byte_got f at h, walked_not elems_refusal (times (get_or f at 0) element f (at + 1)) (sym g ∙ e))
 
-  numbered : (n : ℕ) (es : List Elem) (t : ℕ) → times (get_or f at 0) element f (at + 1) ≡ got es t → n ≡ elemsRefusal es
-      → walked pathRefusal (path f at) ≡ To (min (leastRefusal (ltb maxElements (get_or f at 0)) false false false) n) t
+  numbered : (n : ℕ) (es : List Elem) (t : ℕ) → times (get_or f at 0) element f (at + 1) ≡ got es t → n ≡ elems_refusal es
+      → walked path_refusal (path f at) ≡ To (min (least_refusal (ltb max_elements (get_or f at 0)) false false false) n) t
   unfolding walked path ◌>>=◌
   numbered n es t k l =
-      rw (byte-got f at h, k, l, ← times-length element f (get_or f at 0) (at + 1) es t k)
-      (ap (λ (x : ℕ). To x t) (path-refusal es))
+      rw (byte_got f at h, k, l, ← times_length element f (get_or f at 0) (at + 1) es t k)
+      (ap (λ (x : ℕ). To x t) (path_refusal_lem es))
 
-  pub path-judged : (n t b : ℕ) → w ≡ To n t → b ≡ leastRefusal (ltb maxElements (get_or f at 0)) false false false → walked pathRefusal (path f at) ≡ To (min b n) t
-  path-judged n t b g v =
-      let x = walked_to elemsRefusal _ n t (sym g ∙ e) in
+  pub path_judged : (n t b : ℕ) → w ≡ To n t → b ≡ least_refusal (ltb max_elements (get_or f at 0)) false false false → walked path_refusal (path f at) ≡ To (min b n) t
+  path_judged n t b g v =
+      let x = walked_to elems_refusal _ n t (sym g ∙ e) in
       rw v (numbered n x.0 t x.1 x.2)
 
-module _ (f : List ℕ) (at : ℕ) (w : Walk) (e : w ≡ walked pathRefusal (path f at)) where
-  pub no-path : w ≡ Unread → isPathIn f (path f at) ≡ false
-  unfolding isPathIn
-  no-path g = rw (walked-not pathRefusal _ (sym g ∙ e))
+module _ (f : List ℕ) (at : ℕ) (w : Walk) (e : w ≡ walked path_refusal (path f at)) where
+  pub no_path : w ≡ Unread → is_path_in f (path f at) ≡ false
+  unfolding is_path_in
+  no_path g = rw (walked_not path_refusal _ (sym g ∙ e))
 
-  good-path : (n t : ℕ) (p : Path) → path f at ≡ got p t → n ≡ pathRefusal p → isPathIn f (path f at) ≡ (eqb t (length f) and eqb n clear)
-  unfolding isPathIn
-  good-path n t p g i = rw (g, i, path-clear p)
+  good_path_lem : (n t : ℕ) (p : Path) → path f at ≡ got p t → n ≡ path_refusal p → is_path_in f (path f at) ≡ (eqb t (length f) and eqb n clear)
+  unfolding is_path_in
+  good_path_lem n t p g i = rw (g, i, path_clear p)
 
-  pub a-path : (n t : ℕ) → w ≡ To n t → isPathIn f (path f at) ≡ (eqb t (length f) and eqb n clear)
-  a-path n t g =
-      let x = walked_to pathRefusal _ n t (sym g ∙ e) in
-      good-path n t x.0 x.1 x.2
+  pub a_path : (n t : ℕ) → w ≡ To n t → is_path_in f (path f at) ≡ (eqb t (length f) and eqb n clear)
+  a_path n t g =
+      let x = walked_to path_refusal _ n t (sym g ∙ e) in
+      good_path_lem n t x.0 x.1 x.2

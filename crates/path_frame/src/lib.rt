@@ -2,7 +2,7 @@
 ghost use Rattle.std.specs.Prelude.{◌≡◌, false};
 ghost use Rattle.text.specs.Frame.{times};
 ghost use Rattle.path.specs.Bytes.{key, element, path};
-ghost use Rattle.path.specs.Walk.{keysRefusal, elemRefusal, elemsRefusal, hasName, twiceIn, isPathIn, isPath, pathRefusal};
+ghost use Rattle.path.specs.Walk.{keys_refusal, elem_refusal, elems_refusal, has_name, twice_in, is_path_in, is_path, path_refusal};
 ghost use Rattle.path_frame.specs.Walked.{walked};
 
 use text::frame::End;
@@ -17,7 +17,7 @@ pub enum Walk {
 
 // One of the `count` keys from `at` on has the name. (False where they do not read.)
 fn has_key(f: &[u8], at: usize, count: usize, name: &[u8]) -> bool
-    ensures { result ≡ hasName false name.now (times count key f.now at) }
+    ensures { result ≡ has_name false name.now (times count key f.now at) }
 {
     let mut found = false;
     let mut p = at;
@@ -41,7 +41,7 @@ fn has_key(f: &[u8], at: usize, count: usize, name: &[u8]) -> bool
 
 // Two of the `count` keys from `at` on have the same name. (False where they do not read.)
 pub fn has_twice(f: &[u8], at: usize, count: usize) -> bool
-    ensures { result ≡ twiceIn (times count key f.now at) }
+    ensures { result ≡ twice_in (times count key f.now at) }
 {
     let mut p = at;
     let mut left = count;
@@ -66,7 +66,7 @@ pub fn has_twice(f: &[u8], at: usize, count: usize) -> bool
 
 // The number of a key; `again`: a later key of its element has the same name.
 fn key_refusal(name: &[u8], value: &[u8], again: bool) -> u8
-    ensures { result ≡ Rattle.path.specs.Walk.keyRefusal name.now value.now again }
+    ensures { result ≡ Rattle.path.specs.Walk.key_refusal name.now value.now again }
 {
     let n = path::refusal::name_refusal(name);
     let v = path::refusal::value_refusal(value);
@@ -76,7 +76,7 @@ fn key_refusal(name: &[u8], value: &[u8], again: bool) -> u8
 
 // The `count` keys from `at` on.
 fn read_keys(f: &[u8], at: usize, count: usize) -> Walk
-    ensures { result ≡ walked keysRefusal (times count key f.now at) }
+    ensures { result ≡ walked keys_refusal (times count key f.now at) }
 {
     let mut refusal = limits::CLEAR;
     let mut p = at;
@@ -107,7 +107,7 @@ fn read_keys(f: &[u8], at: usize, count: usize) -> Walk
 
 // The element at `at`.
 fn read_element(f: &[u8], at: usize) -> Walk
-    ensures { result ≡ walked elemRefusal (element f.now at) }
+    ensures { result ≡ walked elem_refusal (element f.now at) }
 {
     let n = text::frame::string_end(f, at);
     let End::At(middle) = n else {
@@ -132,7 +132,7 @@ fn read_element(f: &[u8], at: usize) -> Walk
 
 // The `count` elements from `at` on.
 fn read_elements(f: &[u8], at: usize, count: usize) -> Walk
-    ensures { result ≡ walked elemsRefusal (times count element f.now at) }
+    ensures { result ≡ walked elems_refusal (times count element f.now at) }
 {
     let mut refusal = limits::CLEAR;
     let mut p = at;
@@ -154,7 +154,7 @@ fn read_elements(f: &[u8], at: usize, count: usize) -> Walk
 
 // The path at `at` of a longer frame.
 pub fn read_path(f: &[u8], at: usize) -> Walk
-    ensures { result ≡ walked pathRefusal (path f.now at) }
+    ensures { result ≡ walked path_refusal (path f.now at) }
 {
     if f.len() <= at {
         return Walk::Unread;
@@ -173,7 +173,7 @@ pub fn read_path(f: &[u8], at: usize) -> Walk
 
 // The bytes from `at` on are those of one good path, and nothing more.
 pub fn is_path_from(f: &[u8], at: usize) -> bool
-    ensures { result ≡ isPathIn f.now (path f.now at) }
+    ensures { result ≡ is_path_in f.now (path f.now at) }
 {
     let w = read_path(f, at);
     let Walk::To { refusal, next } = w else {
@@ -184,7 +184,7 @@ pub fn is_path_from(f: &[u8], at: usize) -> bool
 
 // All the bytes are.
 pub fn is_path(f: &[u8]) -> bool
-    ensures { result ≡ isPath f.now }
+    ensures { result ≡ is_path f.now }
 {
     is_path_from(f, 0)
 }

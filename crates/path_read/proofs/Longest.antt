@@ -8,120 +8,120 @@ use native.Mathlib.Omega.{arith}
 use borrow.Author.Tests.{ltb-false}
 use lib.Dec.{ltb}
 use lib.ListN.{length, length-append}
-use Rattle.limits.specs.Limits.{maxElements, maxKeys, maxString}
-use Rattle.limits.specs.Sizes.{maxKeyBytes, maxElemBytes, maxPathBytes, maxKeyText, maxElemText, maxPathText}
+use Rattle.limits.specs.Limits.{max_elements, max_keys, max_string}
+use Rattle.limits.specs.Sizes.{max_key_bytes, max_elem_bytes, max_path_bytes, max_key_text, max_elem_text, max_path_text}
 use Rattle.text.specs.Test.{◌or◌, if◌then◌else◌, any}
 use Rattle.text.specs.String.{Str, joined}
-use Rattle.text.specs.Frame.{stringBytes}
-use Rattle.text.proofs.Tests.{by, or-false-l, or-false-r}
+use Rattle.text.specs.Frame.{string_bytes}
+use Rattle.text.proofs.Tests.{by, or_false_l, or_false_r}
 use Rattle.path.specs.Path.{Key, Elem, Path}
-use Rattle.path.specs.Bytes.{counted, keyBytes, elemBytes, pathBytes}
-use Rattle.path.specs.Spells.{Spells, Reads, readBytes}
-use Rattle.path.proofs.Bytes.{bytes-reader}
-use Rattle.path.specs.Refusal.{unsized, keyOver, elemOver, overLimit, goodPath}
-use Rattle.path_read.specs.Text.{isMark, escaped, keyText, elemText, path_text}
+use Rattle.path.specs.Bytes.{counted, key_bytes, elem_bytes, path_bytes}
+use Rattle.path.specs.Spells.{Spells, Reads, read_bytes}
+use Rattle.path.proofs.Bytes.{bytes_reader}
+use Rattle.path.specs.Refusal.{unsized, key_over, elem_over, over_limit, good_path}
+use Rattle.path_read.specs.Text.{is_mark, escaped, key_text, elem_text, path_text}
 use Rattle.path_read.proofs.Complete.{sized}
-use Rattle.path_read.specs.TextReader.{readText}
-use Rattle.path_read.specs.Calls.{bytesFor, textFor}
-use Rattle.path_read.proofs.RoundTrip.{within-limits, text-reader}
+use Rattle.path_read.specs.TextReader.{read_text}
+use Rattle.path_read.specs.Calls.{bytes_for, text_for}
+use Rattle.path_read.proofs.RoundTrip.{within_limits, text_reader}
 
-escaped-length : (b : ℕ) → length (escaped b) ≤ 2
+escaped_length : (b : ℕ) → length (escaped b) ≤ 2
 unfolding escaped if◌then◌else◌
-escaped-length b = by (isMark b) (λ e. rw e (omega arith)) (λ e. rw e (omega arith))
+escaped_length b = by (is_mark b) (λ e. rw e (omega arith)) (λ e. rw e (omega arith))
 
-pub value-length : (v : Str) → length (joined escaped v) ≤ 2 * length v
+pub value_length : (v : Str) → length (joined escaped v) ≤ 2 * length v
 unfolding joined
-value-length [] = omega arith
-value-length (b ∷ v) = omega (arith, length-append (escaped b) (joined escaped v), escaped-length b, value-length v)
+value_length [] = omega arith
+value_length (b ∷ v) = omega (arith, length-append (escaped b) (joined escaped v), escaped_length b, value_length v)
 
 -- no part is too long where each thing is at most n bytes
 joined_length : {A : Type 0} (w : A → Str) (over : A → Bool) (n : ℕ) → ((a : A) → over a ≡ false → length (w a) ≤ n) → (xs : List A) → any over xs ≡ false → length (joined w xs) ≤ n * length xs
 unfolding joined any
 joined_length w over n h [] g = omega arith
 joined_length w over n h (x ∷ xs) g =
-    omega (arith, length-append (w x) (joined w xs), h x (or-false-l (over x) (any over xs) g), joined_length w over n h xs (or-false-r (over x) (any over xs) g))
+    omega (arith, length-append (w x) (joined w xs), h x (or_false_l (over x) (any over xs) g), joined_length w over n h xs (or_false_r (over x) (any over xs) g))
 
-key-text : (k : Key) → keyOver k ≡ false → length (keyText k) ≤ maxKeyText
-unfolding keyText keyOver
-key-text k g =
-    let n = sized k.name (or-false-l _ _ g) in
-    let v = sized k.value (or-false-r _ _ g) in
-    let m = value-length k.value in
+key_text_lem : (k : Key) → key_over k ≡ false → length (key_text k) ≤ max_key_text
+unfolding key_text key_over
+key_text_lem k g =
+    let n = sized k.name (or_false_l _ _ g) in
+    let v = sized k.value (or_false_r _ _ g) in
+    let m = value_length k.value in
     simp length-append (omega arith)
 
-key-bytes : (k : Key) → keyOver k ≡ false → length (keyBytes k) ≤ maxKeyBytes
-unfolding keyBytes stringBytes keyOver
-key-bytes k g =
-    let n = sized k.name (or-false-l _ _ g) in
-    let v = sized k.value (or-false-r _ _ g) in
+key_bytes_lem : (k : Key) → key_over k ≡ false → length (key_bytes k) ≤ max_key_bytes
+unfolding key_bytes string_bytes key_over
+key_bytes_lem k g =
+    let n = sized k.name (or_false_l _ _ g) in
+    let v = sized k.value (or_false_r _ _ g) in
     simp length-append (omega arith)
 
-module _ (e : Elem) (g : elemOver e ≡ false) where
-  name-sized : length e.name ≤ maxString
-  unfolding elemOver
-  name-sized = sized e.name (or-false-l _ _ g)
+module _ (e : Elem) (g : elem_over e ≡ false) where
+  name_sized : length e.name ≤ max_string
+  unfolding elem_over
+  name_sized = sized e.name (or_false_l _ _ g)
 
-  few-keys : length e.keys ≤ maxKeys
-  unfolding elemOver
-  few-keys = ltb-false maxKeys (length e.keys) (or-false-l _ _ (or-false-r (unsized e.name) _ g))
+  few_keys : length e.keys ≤ max_keys
+  unfolding elem_over
+  few_keys = ltb-false max_keys (length e.keys) (or_false_l _ _ (or_false_r (unsized e.name) _ g))
 
-  keys-fine : any keyOver e.keys ≡ false
-  unfolding elemOver
-  keys-fine = or-false-r (ltb maxKeys (length e.keys)) _ (or-false-r (unsized e.name) _ g)
+  keys_fine : any key_over e.keys ≡ false
+  unfolding elem_over
+  keys_fine = or_false_r (ltb max_keys (length e.keys)) _ (or_false_r (unsized e.name) _ g)
 
-elem-text : (e : Elem) → elemOver e ≡ false → length (elemText e) ≤ maxElemText
-unfolding elemText
-elem-text e g =
-    let n = name-sized e g in
-    let f = few-keys e g in
-    let k = joined_length keyText keyOver maxKeyText key-text e.keys (keys-fine e g) in
+elem_text_lem : (e : Elem) → elem_over e ≡ false → length (elem_text e) ≤ max_elem_text
+unfolding elem_text
+elem_text_lem e g =
+    let n = name_sized e g in
+    let f = few_keys e g in
+    let k = joined_length key_text key_over max_key_text key_text_lem e.keys (keys_fine e g) in
     simp length-append (omega arith)
 
-elem-bytes : (e : Elem) → elemOver e ≡ false → length (elemBytes e) ≤ maxElemBytes
-unfolding elemBytes stringBytes counted
-elem-bytes e g =
-    let n = name-sized e g in
-    let f = few-keys e g in
-    let k = joined_length keyBytes keyOver maxKeyBytes key-bytes e.keys (keys-fine e g) in
+elem_bytes_lem : (e : Elem) → elem_over e ≡ false → length (elem_bytes e) ≤ max_elem_bytes
+unfolding elem_bytes string_bytes counted
+elem_bytes_lem e g =
+    let n = name_sized e g in
+    let f = few_keys e g in
+    let k = joined_length key_bytes key_over max_key_bytes key_bytes_lem e.keys (keys_fine e g) in
     simp length-append (omega arith)
 
-module _ (p : Path) (g : goodPath p ≡ true) where
-  few-elements : length p ≤ maxElements
-  unfolding overLimit
-  few-elements = ltb-false maxElements (length p) (or-false-l _ _ (within-limits p g))
+module _ (p : Path) (g : good_path p ≡ true) where
+  few_elements : length p ≤ max_elements
+  unfolding over_limit
+  few_elements = ltb-false max_elements (length p) (or_false_l _ _ (within_limits p g))
 
-  elems-fine : any elemOver p ≡ false
-  unfolding overLimit
-  elems-fine = or-false-r (ltb maxElements (length p)) _ (within-limits p g)
+  elems_fine : any elem_over p ≡ false
+  unfolding over_limit
+  elems_fine = or_false_r (ltb max_elements (length p)) _ (within_limits p g)
 
-  pub bytes-length : length (pathBytes p) ≤ maxPathBytes
-  unfolding pathBytes counted
-  bytes-length = omega (arith, few-elements, joined_length elemBytes elemOver maxElemBytes elem-bytes p elems-fine)
+  pub bytes_length : length (path_bytes p) ≤ max_path_bytes
+  unfolding path_bytes counted
+  bytes_length = omega (arith, few_elements, joined_length elem_bytes elem_over max_elem_bytes elem_bytes_lem p elems_fine)
 
-pub text-length : (p : Path) → goodPath p ≡ true → length (path_text p) ≤ maxPathText
+pub text_length : (p : Path) → good_path p ≡ true → length (path_text p) ≤ max_path_text
 unfolding path_text
-text-length [] g = omega arith
-text-length (e ∷ es) g = omega (arith, few-elements (e ∷ es) g, joined_length elemText elemOver maxElemText elem-text (e ∷ es) (elems-fine (e ∷ es) g))
+text_length [] g = omega arith
+text_length (e ∷ es) g = omega (arith, few_elements (e ∷ es) g, joined_length elem_text elem_over max_elem_text elem_text_lem (e ∷ es) (elems_fine (e ∷ es) g))
 
 -- ---- the text, and the bytes
 
-key_twice : (k : Key) → length (keyText k) ≤ 2 * length (keyBytes k)
-unfolding keyText keyBytes stringBytes
-key_twice k = let m = value-length k.value in simp length-append (omega arith)
+key_twice : (k : Key) → length (key_text k) ≤ 2 * length (key_bytes k)
+unfolding key_text key_bytes string_bytes
+key_twice k = let m = value_length k.value in simp length-append (omega arith)
 
-joined-twice : {A : Type 0} (w b : A → Str) → ((a : A) → length (w a) ≤ 2 * length (b a)) → (xs : List A) → length (joined w xs) ≤ 2 * length (joined b xs)
+joined_twice : {A : Type 0} (w b : A → Str) → ((a : A) → length (w a) ≤ 2 * length (b a)) → (xs : List A) → length (joined w xs) ≤ 2 * length (joined b xs)
 unfolding joined
-joined-twice w b h [] = omega arith
-joined-twice w b h (x ∷ xs) = omega (arith, length-append (w x) (joined w xs), length-append (b x) (joined b xs), h x, joined-twice w b h xs)
+joined_twice w b h [] = omega arith
+joined_twice w b h (x ∷ xs) = omega (arith, length-append (w x) (joined w xs), length-append (b x) (joined b xs), h x, joined_twice w b h xs)
 
-elem-twice : (e : Elem) → length (elemText e) ≤ 2 * length (elemBytes e)
-unfolding elemText elemBytes stringBytes counted
-elem-twice e = let k = joined-twice keyText keyBytes key_twice e.keys in simp length-append (omega arith)
+elem_twice : (e : Elem) → length (elem_text e) ≤ 2 * length (elem_bytes e)
+unfolding elem_text elem_bytes string_bytes counted
+elem_twice e = let k = joined_twice key_text key_bytes key_twice e.keys in simp length-append (omega arith)
 
-path-twice : (p : Path) → length (path_text p) ≤ 2 * length (pathBytes p)
-unfolding path_text pathBytes counted
-path-twice [] = omega arith
-path-twice (e ∷ es) = omega (arith, joined-twice elemText elemBytes elem-twice (e ∷ es))
+path_twice : (p : Path) → length (path_text p) ≤ 2 * length (path_bytes p)
+unfolding path_text path_bytes counted
+path_twice [] = omega arith
+path_twice (e ∷ es) = omega (arith, joined_twice elem_text elem_bytes elem_twice (e ∷ es))
 
 -- ---- what the calls make is no longer
 
@@ -136,14 +136,14 @@ bound read was write n r s f h e = go (read s) refl e
         let l = h p (r.only s p i) in
         rw j at l
 
-pub bytes-bound : (s f : Str) → bytesFor s ≡ some f → length f ≤ maxPathBytes
-unfolding bytesFor
-bytes-bound s f e = bound readText path_text pathBytes maxPathBytes text-reader s f (λ p h. bytes-length p h.good) e
+pub bytes_bound : (s f : Str) → bytes_for s ≡ some f → length f ≤ max_path_bytes
+unfolding bytes_for
+bytes_bound s f e = bound read_text path_text path_bytes max_path_bytes text_reader s f (λ p h. bytes_length p h.good) e
 
-pub text-bound : (f s : Str) → textFor f ≡ some s → length s ≤ maxPathText
-unfolding textFor
-text-bound f s e = bound readBytes pathBytes path_text maxPathText bytes-reader f s (λ p h. text-length p h.good) e
+pub text_bound : (f s : Str) → text_for f ≡ some s → length s ≤ max_path_text
+unfolding text_for
+text_bound f s e = bound read_bytes path_bytes path_text max_path_text bytes_reader f s (λ p h. text_length p h.good) e
 
-pub text-twice : (f s : Str) → textFor f ≡ some s → length s ≤ 2 * length f
-unfolding textFor
-text-twice f s e = bound readBytes pathBytes path_text (2 * length f) bytes-reader f s (λ p h. rw h.text (path-twice p)) e
+pub text_twice : (f s : Str) → text_for f ≡ some s → length s ≤ 2 * length f
+unfolding text_for
+text_twice f s e = bound read_bytes path_bytes path_text (2 * length f) bytes_reader f s (λ p h. rw h.text (path_twice p)) e

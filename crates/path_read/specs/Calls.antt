@@ -4,20 +4,20 @@ use Rattle.std.proofs.Math.Option.{Option, none, some, map}
 use Rattle.text.specs.Test.{if◌then◌else◌}
 use Rattle.text.specs.String.{Str}
 use Rattle.text.specs.Fill.{put}
-use Rattle.path.specs.Bytes.{pathBytes}
-use Rattle.path.specs.Spells.{readBytes}
+use Rattle.path.specs.Bytes.{path_bytes}
+use Rattle.path.specs.Spells.{read_bytes}
 use Rattle.path_read.specs.Text.{path_text}
-use Rattle.path_read.specs.TextReader.{readText}
+use Rattle.path_read.specs.TextReader.{read_text}
 use Rattle.path_read.specs.declared.Filled.{Filled}
 use Rattle.path_read.specs.declared.Filled.TheVariants.{Length, Refused}
 
 -- path text to path bytes; none where it is not the text of a good path
-unfoldable pub bytesFor : Str → Option Str
-bytesFor s = map pathBytes (readText s)
+unfoldable pub bytes_for : Str → Option Str
+bytes_for s = map path_bytes (read_text s)
 
 -- path bytes to path text; none where they are not the bytes of a good path
-unfoldable pub textFor : Str → Option Str
-textFor f = map path_text (readBytes f)
+unfoldable pub text_for : Str → Option Str
+text_for f = map path_text (read_bytes f)
 
 -- 22: "path text, or path bytes given to the writer"; 23: "the path result doesn't fit the lent buffer"
 unfoldable pub answer : List ℕ → Option Str → Filled

@@ -1,7 +1,7 @@
 -- The answers of the programs that read path text step by step, said of what is read there.
 use Rattle.std.specs.Prelude.{ℕ, ◌+◌, ◌-◌, ◌≤◌, ◌≡◌, Bool, not, List, eqb, length, get_or}
 use Rattle.std.proofs.Math.Option.{Option, none, some}
-use Rattle.limits.specs.Limits.{maxElements, maxKeys, maxString}
+use Rattle.limits.specs.Limits.{max_elements, max_keys, max_string}
 use Rattle.text.specs.Test.{if◌then◌else◌, twice}
 use Rattle.text.specs.String.{Str}
 use Rattle.text.specs.Frame.{Parsed, got, unread, Reader}
@@ -10,7 +10,7 @@ use Rattle.text.specs.Steps.{Wrote}
 use Rattle.text_search.specs.Search.{until}
 use Rattle.path.specs.Path.{Key, Elem, Path}
 use Rattle.path.specs.Refusal.{same_name}
-use Rattle.path.specs.Walk.{noName, nameRefusal, valueRefusal, aloneRefusal, elemRefusal, good}
+use Rattle.path.specs.Walk.{no_name, name_refusal, value_refusal, alone_refusal, elem_refusal, good}
 use Rattle.path_read.specs.Calls.{answer, lent}
 use Rattle.path_read.specs.TextReader.{name, item, value, each, key, element}
 use Rattle.path_read.specs.declared.Filled.{Filled}
@@ -20,28 +20,28 @@ use Rattle.path_read.specs.declared.reader.Item.{Item}
 use Rattle.path_read.specs.declared.reader.Item.TheVariants as items
 
 -- a path's bytes are at most so many more than its text: the count, and for each element one more than its text has
-abbrev pub maxGrowth : ℕ
-maxGrowth = 1 + maxElements
+abbrev pub max_growth : ℕ
+max_growth = 1 + max_elements
 
 -- the array that short texts are read into, and the longest text whose bytes surely fit it
-abbrev pub shortBytes : ℕ
-shortBytes = 256
+abbrev pub short_bytes : ℕ
+short_bytes = 256
 
-abbrev pub shortText : ℕ
-shortText = shortBytes - maxGrowth
+abbrev pub short_text : ℕ
+short_text = short_bytes - max_growth
 
 -- the next byte of a value
-unfoldable pub itemIn : Parsed ℕ → Item
-itemIn (got b t) = items.Byte b t
-itemIn unread = items.Unread
+unfoldable pub item_in : Parsed ℕ → Item
+item_in (got b t) = items.Byte b t
+item_in unread = items.Unread
 
 -- and the end of the value, where its ] (93) stands
 unfoldable pub item_of : Str → ℕ → Item
-item_of s at = if eqb (get_or s at 0) 93 then items.End else itemIn (item s at)
+item_of s at = if eqb (get_or s at 0) 93 then items.End else item_in (item s at)
 
 -- how many bytes at the start belong to a name
-abbrev pub nameRun : Str → ℕ
-nameRun s = until noName s
+abbrev pub name_run : Str → ℕ
+name_run s = until no_name s
 
 -- what was read, where it passes
 unfoldable pub pass : {A : Type 0} → (A → Bool) → Parsed A → Parsed A
@@ -52,26 +52,26 @@ abbrev pub passing : {A : Type 0} → (A → Bool) → Reader A → Reader A
 passing ok r s at = pass ok (r s at)
 
 -- the parts of a good path; each name is followed by a, by b or by nothing
-abbrev pub goodName : ℕ → ℕ → Reader Str
-goodName a b = passing (good nameRefusal) (name a b)
+abbrev pub good_name : ℕ → ℕ → Reader Str
+good_name a b = passing (good name_refusal) (name a b)
 
-abbrev pub goodValue : Reader Str
-goodValue = passing (good valueRefusal) (value maxString)
+abbrev pub good_value : Reader Str
+good_value = passing (good value_refusal) (value max_string)
 
-abbrev pub goodKey : Reader Key
-goodKey = passing (good aloneRefusal) key
+abbrev pub good_key : Reader Key
+good_key = passing (good alone_refusal) key
 
 abbrev pub distinct : List Key → Bool
 distinct ks = not (twice same_name ks)
 
-abbrev pub goodKeys : Reader (List Key)
-goodKeys = passing distinct (each 91 maxKeys goodKey)
+abbrev pub good_keys : Reader (List Key)
+good_keys = passing distinct (each 91 max_keys good_key)
 
-abbrev pub goodElement : Reader Elem
-goodElement = passing (good elemRefusal) element
+abbrev pub good_element : Reader Elem
+good_element = passing (good elem_refusal) element
 
-abbrev pub goodElements : Reader Path
-goodElements = each 47 maxElements goodElement
+abbrev pub good_elements : Reader Path
+good_elements = each 47 max_elements good_element
 
 -- a string, written as it is
 abbrev pub plainly : Str → Str
@@ -96,8 +96,8 @@ pub data Stores {A : Type 0} (most more : ℕ) (w : A → Str) (r : Reader A) (s
 
 -- the bytes fill the start of d, and nothing else does; where there are none, nothing is said of d
 pub data Transcribed : Option Str → List ℕ → List ℕ → Stored → Type 0 where
-  filled-up : {f : Str} {d d' : List ℕ} {next end : ℕ} → end ≡ length f → end ≤ length d → d' ≡ put d 0 f → Transcribed (some f) d d' (stored.To next end)
-  not-filled : {d d' : List ℕ} → Transcribed none d d' stored.Unread
+  filled_up : {f : Str} {d d' : List ℕ} {next end : ℕ} → end ≡ length f → end ≤ length d → d' ≡ put d 0 f → Transcribed (some f) d d' (stored.To next end)
+  not_filled : {d d' : List ℕ} → Transcribed none d d' stored.Unread
 
 -- r is the answer where `out` was lent for this result, and out' what is left of it
 abbrev pub Delivers : List ℕ → Option Str → List ℕ → Filled → Type 0

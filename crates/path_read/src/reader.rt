@@ -4,20 +4,20 @@
 // bytes at most (`limits` computes how many), and so many more than were read of the text.
 ghost use Rattle.std.specs.Prelude.{◌≡◌, false, [], ◌∷◌, ◌+◌, ◌≤◌, length, drop, get_or};
 ghost use Rattle.std.proofs.Math.Option.{some};
-ghost use Rattle.limits.specs.Limits.{maxString};
-ghost use Rattle.limits.specs.Sizes.{maxStringBytes, maxKeyBytes, maxKeysBytes, maxElemBytes, maxPathBytes};
-ghost use Rattle.text.specs.Byte.{isName};
+ghost use Rattle.limits.specs.Limits.{max_string};
+ghost use Rattle.limits.specs.Sizes.{max_string_bytes, max_key_bytes, max_keys_bytes, max_elem_bytes, max_path_bytes};
+ghost use Rattle.text.specs.Byte.{is_name};
 ghost use Rattle.text.specs.String.{bytes, same};
-ghost use Rattle.text.specs.Frame.{stringBytes};
-ghost use Rattle.path.specs.Bytes.{counted, keyBytes, elemBytes};
+ghost use Rattle.text.specs.Frame.{string_bytes};
+ghost use Rattle.path.specs.Bytes.{counted, key_bytes, elem_bytes};
 ghost use Rattle.path_read.specs.TextReader.{value};
-ghost use Rattle.path_read.specs.Calls.{bytesFor};
-ghost use Rattle.path_read.specs.Steps.{maxGrowth, shortText, nameRun, item_of, Room, Stores, plainly, Transcribed, Delivers};
-ghost use Rattle.path_read.specs.Steps.{goodName, goodValue, goodKey, goodKeys, goodElement, goodElements};
+ghost use Rattle.path_read.specs.Calls.{bytes_for};
+ghost use Rattle.path_read.specs.Steps.{max_growth, short_text, name_run, item_of, Room, Stores, plainly, Transcribed, Delivers};
+ghost use Rattle.path_read.specs.Steps.{good_name, good_value, good_key, good_keys, good_element, good_elements};
 
 use crate::Filled;
 
-// So many bytes more than its text a path can have: `maxGrowth` of the definitions.
+// So many bytes more than its text a path can have: `max_growth` of the definitions.
 const MAX_GROWTH: usize = 1 + limits::MAX_ELEMENTS;
 
 // The array that short texts are read into, and the longest text whose bytes surely fit it. Clearing an array for the longest path costs more than
@@ -52,7 +52,7 @@ fn byte_at(s: &[u8], at: usize) -> u8
 // Where the name from `at` on ends.
 fn name_end(text: &[u8], at: usize) -> usize
     requires { at ≤ length text.now }
-    ensures { result ≡ at + nameRun (drop at text.now) }
+    ensures { result ≡ at + name_run (drop at text.now) }
 {
     let mut i = at;
     while i < text.len() {
@@ -66,8 +66,8 @@ fn name_end(text: &[u8], at: usize) -> usize
 
 // A good name with its length byte. a, b or nothing comes after it.
 fn read_name(text: &[u8], at: usize, a: u8, b: u8, out: &mut [u8], to: usize) -> Stored
-    requires { Room maxStringBytes 1 text.now at out.old to × (isName a ≡ false) × (isName b ≡ false) }
-    ensures { Stores maxStringBytes 1 stringBytes (goodName a b) text.now at out.old to out.new result }
+    requires { Room max_string_bytes 1 text.now at out.old to × (is_name a ≡ false) × (is_name b ≡ false) }
+    ensures { Stores max_string_bytes 1 string_bytes (good_name a b) text.now at out.old to out.new result }
 {
     let next = name_end(text, at);
     let c = byte_at(text, next);
@@ -116,8 +116,8 @@ fn read_item(text: &[u8], at: usize) -> Item
 
 // The bytes of a value, up to its ].
 fn read_plain(text: &[u8], at: usize, out: &mut [u8], to: usize) -> Stored
-    requires { Room maxString 0 text.now at out.old to }
-    ensures { Stores maxString 0 plainly (value maxString) text.now at out.old to out.new result }
+    requires { Room max_string 0 text.now at out.old to }
+    ensures { Stores max_string 0 plainly (value max_string) text.now at out.old to out.new result }
 {
     let mut p = at;
     let mut q = to;
@@ -149,8 +149,8 @@ fn read_plain(text: &[u8], at: usize, out: &mut [u8], to: usize) -> Stored
 
 // A value with its length byte.
 pub fn read_value(text: &[u8], at: usize, out: &mut [u8], to: usize) -> Stored
-    requires { Room maxStringBytes 1 text.now at out.old to }
-    ensures { Stores maxStringBytes 1 stringBytes (value maxString) text.now at out.old to out.new result }
+    requires { Room max_string_bytes 1 text.now at out.old to }
+    ensures { Stores max_string_bytes 1 string_bytes (value max_string) text.now at out.old to out.new result }
 {
     let start = to + 1;
     let v = read_plain(text, at, out, start);
@@ -166,8 +166,8 @@ pub fn read_value(text: &[u8], at: usize, out: &mut [u8], to: usize) -> Stored
 
 // A good value with its length byte.
 fn read_good_value(text: &[u8], at: usize, out: &mut [u8], to: usize) -> Stored
-    requires { Room maxStringBytes 1 text.now at out.old to }
-    ensures { Stores maxStringBytes 1 stringBytes goodValue text.now at out.old to out.new result }
+    requires { Room max_string_bytes 1 text.now at out.old to }
+    ensures { Stores max_string_bytes 1 string_bytes good_value text.now at out.old to out.new result }
 {
     let v = read_value(text, at, out, to);
     let Stored::To { next, end } = v else {
@@ -185,8 +185,8 @@ fn read_good_value(text: &[u8], at: usize, out: &mut [u8], to: usize) -> Stored
 
 // name=value], after its [.
 fn read_key(text: &[u8], at: usize, out: &mut [u8], to: usize) -> Stored
-    requires { Room maxKeyBytes 1 text.now at out.old to }
-    ensures { Stores maxKeyBytes 1 keyBytes goodKey text.now at out.old to out.new result }
+    requires { Room max_key_bytes 1 text.now at out.old to }
+    ensures { Stores max_key_bytes 1 key_bytes good_key text.now at out.old to out.new result }
 {
     let n = read_name(text, at, b'=', b'=', out, to);
     let Stored::To { next, end } = n else {
@@ -200,8 +200,8 @@ fn read_key(text: &[u8], at: usize, out: &mut [u8], to: usize) -> Stored
 
 // The keys of an element, each in brackets; their count is stored before them.
 fn read_keys(text: &[u8], at: usize, out: &mut [u8], to: usize) -> Stored
-    requires { Room maxKeysBytes 1 text.now at out.old to }
-    ensures { Stores maxKeysBytes 1 (counted keyBytes) goodKeys text.now at out.old to out.new result }
+    requires { Room max_keys_bytes 1 text.now at out.old to }
+    ensures { Stores max_keys_bytes 1 (counted key_bytes) good_keys text.now at out.old to out.new result }
 {
     let start = to + 1;
     let mut p = at;
@@ -226,8 +226,8 @@ fn read_keys(text: &[u8], at: usize, out: &mut [u8], to: usize) -> Stored
 
 // An element, after its /.
 fn read_element(text: &[u8], at: usize, out: &mut [u8], to: usize) -> Stored
-    requires { Room maxElemBytes 2 text.now at out.old to }
-    ensures { Stores maxElemBytes 2 elemBytes goodElement text.now at out.old to out.new result }
+    requires { Room max_elem_bytes 2 text.now at out.old to }
+    ensures { Stores max_elem_bytes 2 elem_bytes good_element text.now at out.old to out.new result }
 {
     let n = read_name(text, at, b'/', b'[', out, to);
     let Stored::To { next, end } = n else {
@@ -241,8 +241,8 @@ fn read_element(text: &[u8], at: usize, out: &mut [u8], to: usize) -> Stored
 
 // The elements of a path; their count is stored before them.
 fn read_elements(text: &[u8], out: &mut [u8]) -> Stored
-    requires { Room maxPathBytes maxGrowth text.now 0 out.old 0 }
-    ensures { Stores maxPathBytes maxGrowth (counted elemBytes) goodElements text.now 0 out.old 0 out.new result }
+    requires { Room max_path_bytes max_growth text.now 0 out.old 0 }
+    ensures { Stores max_path_bytes max_growth (counted elem_bytes) good_elements text.now 0 out.old 0 out.new result }
 {
     let mut p = 0;
     let mut q = 1;
@@ -263,8 +263,8 @@ fn read_elements(text: &[u8], out: &mut [u8]) -> Stored
 
 // The bytes of the good path, not the root, whose text this is.
 fn transcribe(text: &[u8], out: &mut [u8]) -> Stored
-    requires { Room maxPathBytes maxGrowth text.now 0 out.old 0 × (same text.now (bytes "/") ≡ false) }
-    ensures { Transcribed (bytesFor text.now) out.old out.new result }
+    requires { Room max_path_bytes max_growth text.now 0 out.old 0 × (same text.now (bytes "/") ≡ false) }
+    ensures { Transcribed (bytes_for text.now) out.old out.new result }
 {
     if text.len() == 0 {
         return Stored::Unread;
@@ -284,8 +284,8 @@ fn transcribe(text: &[u8], out: &mut [u8]) -> Stored
 
 // The bytes are made apart, and copied where they fit.
 fn read_apart(text: &[u8], apart: &mut [u8], out: &mut [u8]) -> Filled
-    requires { Room maxPathBytes maxGrowth text.now 0 apart.old 0 × (same text.now (bytes "/") ≡ false) }
-    ensures { Delivers out.old (bytesFor text.now) out.new result }
+    requires { Room max_path_bytes max_growth text.now 0 apart.old 0 × (same text.now (bytes "/") ≡ false) }
+    ensures { Delivers out.old (bytes_for text.now) out.new result }
 {
     let t = transcribe(text, apart);
     let Stored::To { next, end } = t else {
@@ -300,8 +300,8 @@ fn read_apart(text: &[u8], apart: &mut [u8], out: &mut [u8]) -> Filled
 
 // A short text.
 fn read_short(text: &[u8], out: &mut [u8]) -> Filled
-    requires { (length text.now ≤ shortText) × (same text.now (bytes "/") ≡ false) }
-    ensures { Delivers out.old (bytesFor text.now) out.new result }
+    requires { (length text.now ≤ short_text) × (same text.now (bytes "/") ≡ false) }
+    ensures { Delivers out.old (bytes_for text.now) out.new result }
 {
     let mut apart = [0u8; SHORT_BYTES];
     read_apart(text, &mut apart, out)
@@ -310,7 +310,7 @@ fn read_short(text: &[u8], out: &mut [u8]) -> Filled
 // Any text, with room for the longest path bytes.
 fn read_long(text: &[u8], out: &mut [u8]) -> Filled
     requires { same text.now (bytes "/") ≡ false }
-    ensures { Delivers out.old (bytesFor text.now) out.new result }
+    ensures { Delivers out.old (bytes_for text.now) out.new result }
 {
     let mut apart = [0u8; limits::MAX_PATH_BYTES];
     read_apart(text, &mut apart, out)
@@ -329,7 +329,7 @@ fn read_root(out: &mut [u8]) -> Filled
 
 // Path text to path bytes, at the start of out. Nothing is stored there before all is checked.
 pub fn read_text(text: &[u8], out: &mut [u8]) -> Filled
-    ensures { Delivers out.old (bytesFor text.now) out.new result }
+    ensures { Delivers out.old (bytes_for text.now) out.new result }
 {
     if path::refusal::is_byte(text, b'/') {
         return read_root(out);

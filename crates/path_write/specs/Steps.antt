@@ -6,9 +6,9 @@ use Rattle.text.specs.Steps.{Wrote}
 use Rattle.path_write.specs.declared.Place.{Place}
 
 -- something was read
-abbrev pub isRead : {A : Type 0} → Parsed A → Bool
-isRead (got a t) = true
-isRead unread = false
+abbrev pub is_read : {A : Type 0} → Parsed A → Bool
+is_read (got a t) = true
+is_read unread = false
 
 -- what w writes for what was read
 abbrev pub written : {A : Type 0} → (A → Str) → Parsed A → Str
@@ -22,7 +22,7 @@ end_at unread = 0
 
 -- x was read, and d has room from `to` on for what w writes of it
 pub record Fits {A : Type 0} (w : A → Str) (x : Parsed A) (d : List ℕ) (to : ℕ) : Type 0 where
-  pub reads : isRead x ≡ true
+  pub reads : is_read x ≡ true
   pub room : to + length (written w x) ≤ length d
 
 -- what w writes of x was stored into d from `to` on, which made it d'; r is where reading and storing go on

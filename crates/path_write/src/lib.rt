@@ -4,9 +4,9 @@ ghost use Rattle.text.specs.String.{joined};
 ghost use Rattle.text.specs.Frame.{times};
 ghost use Rattle.text.specs.Steps.{Wrote};
 ghost use Rattle.path.specs.Bytes.{key, element, path};
-ghost use Rattle.path.specs.Walk.{isPath};
-ghost use Rattle.path_read.specs.Text.{escaped, keyText, elemText, path_text};
-ghost use Rattle.path_read.specs.Calls.{textFor};
+ghost use Rattle.path.specs.Walk.{is_path};
+ghost use Rattle.path_read.specs.Text.{escaped, key_text, elem_text, path_text};
+ghost use Rattle.path_read.specs.Calls.{text_for};
 ghost use Rattle.path_read.specs.Steps.{Delivers};
 ghost use Rattle.path_write.specs.Steps.{written, Fits, Writes};
 
@@ -50,8 +50,8 @@ pub fn write_value(v: &[u8], out: &mut [u8], at: usize) -> usize
 
 // [name=value]
 fn write_key(name: &[u8], value: &[u8], out: &mut [u8], at: usize) -> usize
-    requires { at + length (keyText (record { name = name.now; value = value.now })) ≤ length out.old }
-    ensures { Wrote out.old at (keyText (record { name = name.entry.now; value = value.now })) out.new result }
+    requires { at + length (key_text (record { name = name.now; value = value.now })) ≤ length out.old }
+    ensures { Wrote out.old at (key_text (record { name = name.entry.now; value = value.now })) out.new result }
 {
     out[at] = b'[';
     text::fill::copy(name, out, at + 1);
@@ -64,8 +64,8 @@ fn write_key(name: &[u8], value: &[u8], out: &mut [u8], at: usize) -> usize
 
 // The text of the `count` keys from `from` on.
 fn write_keys(f: &[u8], from: usize, count: usize, out: &mut [u8], to: usize) -> Place
-    requires { Fits (joined keyText) (times count key f.now from) out.old to }
-    ensures { Writes (joined keyText) (times count key f.now from) out.old to out.new result }
+    requires { Fits (joined key_text) (times count key f.now from) out.old to }
+    ensures { Writes (joined key_text) (times count key f.now from) out.old to out.new result }
 {
     let mut p = from;
     let mut q = to;
@@ -90,8 +90,8 @@ fn write_keys(f: &[u8], from: usize, count: usize, out: &mut [u8], to: usize) ->
 
 // The text of the element at `from`.
 fn write_element(f: &[u8], from: usize, out: &mut [u8], to: usize) -> Place
-    requires { Fits elemText (element f.now from) out.old to }
-    ensures { Writes elemText (element f.now from) out.old to out.new result }
+    requires { Fits elem_text (element f.now from) out.old to }
+    ensures { Writes elem_text (element f.now from) out.old to out.new result }
 {
     let n = text::frame::string_end(f, from);
     let End::At(middle) = n else {
@@ -110,8 +110,8 @@ fn write_element(f: &[u8], from: usize, out: &mut [u8], to: usize) -> Place
 
 // The text of the `count` elements from `from` on.
 fn write_elements(f: &[u8], from: usize, count: usize, out: &mut [u8], to: usize) -> Place
-    requires { Fits (joined elemText) (times count element f.now from) out.old to }
-    ensures { Writes (joined elemText) (times count element f.now from) out.old to out.new result }
+    requires { Fits (joined elem_text) (times count element f.now from) out.old to }
+    ensures { Writes (joined elem_text) (times count element f.now from) out.old to out.new result }
 {
     let mut p = from;
     let mut q = to;
@@ -144,8 +144,8 @@ fn write_path(f: &[u8], out: &mut [u8]) -> usize
 
 // The text of a good path, made apart, and copied where it fits.
 fn write_apart(f: &[u8], out: &mut [u8]) -> Filled
-    requires { true ≡ isPath f.now }
-    ensures { Delivers out.old (textFor f.now) out.new result }
+    requires { true ≡ is_path f.now }
+    ensures { Delivers out.old (text_for f.now) out.new result }
 {
     let mut text = [0u8; limits::MAX_PATH_TEXT];
     let n = write_path(f, &mut text);
@@ -158,7 +158,7 @@ fn write_apart(f: &[u8], out: &mut [u8]) -> Filled
 
 // Path bytes to path text, at the start of out. Nothing is stored there before all is checked.
 pub fn write_text(f: &[u8], out: &mut [u8]) -> Filled
-    ensures { Delivers out.old (textFor f.now) out.new result }
+    ensures { Delivers out.old (text_for f.now) out.new result }
 {
     if !path_frame::is_path(f) {
         return Filled::Refused(22);

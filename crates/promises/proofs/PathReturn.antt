@@ -8,23 +8,23 @@ use native.Mathlib.Omega.{arith}
 use borrow.Author.Tests.{le-leb, lt-leb}
 use lib.Dec.{ltb}
 use lib.ListN.{length, length-append, drop}
-use Rattle.limits.specs.Limits.{maxElements}
+use Rattle.limits.specs.Limits.{max_elements}
 use Rattle.text.specs.Test.{◌and◌, ◌or◌, if◌then◌else◌, any, twice}
 use Rattle.text.specs.String.{Str, same, joined}
-use Rattle.text.specs.Frame.{stringBytes}
+use Rattle.text.specs.Frame.{string_bytes}
 use Rattle.text.specs.Fill.{put}
 use Rattle.text.proofs.Tests.{neither}
 use Rattle.path.specs.Path.{Key, Elem, Path}
-use Rattle.path.specs.Bytes.{counted, keyBytes, elemBytes, pathBytes}
-use Rattle.path.specs.Refusal.{unsized, keyOver, elemOver, overLimit, outsideName, outsideValue, keyStray, elemStray, strayByte, halfWild, keyMisplaced, elemMisplaced, misplaced, same_name, keyTwice, goodPath}
-use Rattle.path.specs.Spells.{readBytes}
-use Rattle.path.proofs.Bytes.{bytes-reader}
-use Rattle.path_read.specs.Text.{escaped, keyText, elemText, path_text}
-use Rattle.path_read.specs.TextReader.{readText}
+use Rattle.path.specs.Bytes.{counted, key_bytes, elem_bytes, path_bytes}
+use Rattle.path.specs.Refusal.{unsized, key_over, elem_over, over_limit, outside_name, outside_value, key_stray, elem_stray, stray_byte, half_wild, key_misplaced, elem_misplaced, misplaced, same_name, key_twice, good_path}
+use Rattle.path.specs.Spells.{read_bytes}
+use Rattle.path.proofs.Bytes.{bytes_reader}
+use Rattle.path_read.specs.Text.{escaped, key_text, elem_text, path_text}
+use Rattle.path_read.specs.TextReader.{read_text}
 use Rattle.path_read.specs.Calls.{answer, lent}
 use Rattle.path_read.specs.declared.Filled.TheVariants.{Length, Refused}
-use Rattle.path_read.proofs.RoundTrip.{text-reader, reads-one, read-write, write_read, good-text, good-bytes}
-use Rattle.path_read.proofs.Longest.{text-length, bytes-length}
+use Rattle.path_read.proofs.RoundTrip.{text_reader, reads_one, read_write, write_read, good_text, good_bytes}
+use Rattle.path_read.proofs.Longest.{text_length, bytes_length}
 use Rattle.promises.specs.PathReturn.{PathReturn, FillPromise}
 
 -- ---- a longest path
@@ -34,87 +34,87 @@ copies zero x = []
 copies (suc n) x = x ∷ copies n x
 
 -- a name of 64 letters, the first of them b, and the value of 64 times `\`
-longKey : ℕ → Key
-longKey b = record { name = b ∷ copies 63 97; value = copies 64 92 }
+long_key : ℕ → Key
+long_key b = record { name = b ∷ copies 63 97; value = copies 64 92 }
 
-longElem : Elem
-longElem = record { name = copies 64 97; keys = longKey 97 ∷ longKey 98 ∷ longKey 99 ∷ longKey 100 ∷ [] }
+long_elem : Elem
+long_elem = record { name = copies 64 97; keys = long_key 97 ∷ long_key 98 ∷ long_key 99 ∷ long_key 100 ∷ [] }
 
-longPath : Path
-longPath = copies 16 longElem
+long_path : Path
+long_path = copies 16 long_elem
 
 module _ {A : Type 0} (x : A) where
-  none-copied : (f : A → Bool) → f x ≡ false → (n : ℕ) → any f (copies n x) ≡ false
+  none_copied : (f : A → Bool) → f x ≡ false → (n : ℕ) → any f (copies n x) ≡ false
   unfolding any copies
-  none-copied f e zero = refl
-  none-copied f e (suc n) = neither _ _ e (none-copied f e n)
+  none_copied f e zero = refl
+  none_copied f e (suc n) = neither _ _ e (none_copied f e n)
 
-  joined-copies : (w : A → Str) (k : ℕ) → length (w x) ≡ k → (n : ℕ) → length (joined w (copies n x)) ≡ n * k
+  joined_copies : (w : A → Str) (k : ℕ) → length (w x) ≡ k → (n : ℕ) → length (joined w (copies n x)) ≡ n * k
   unfolding joined copies
-  joined-copies w k e zero = omega arith
-  joined-copies w k e (suc n) = omega (arith, length-append (w x) (joined w (copies n x)), e, joined-copies w k e n)
+  joined_copies w k e zero = omega arith
+  joined_copies w k e (suc n) = omega (arith, length-append (w x) (joined w (copies n x)), e, joined_copies w k e n)
 
-long-limits : elemOver longElem ≡ false
-unfolding longElem longKey copies elemOver unsized keyOver any ◌or◌
-long-limits = refl
+long_limits : elem_over long_elem ≡ false
+unfolding long_elem long_key copies elem_over unsized key_over any ◌or◌
+long_limits = refl
 
-long-bytes : elemStray longElem ≡ false
-unfolding longElem longKey copies elemStray keyStray outsideName outsideValue any ◌or◌
-long-bytes = refl
+long_bytes : elem_stray long_elem ≡ false
+unfolding long_elem long_key copies elem_stray key_stray outside_name outside_value any ◌or◌
+long_bytes = refl
 
-long-stars : elemMisplaced longElem ≡ false
-unfolding longElem longKey copies elemMisplaced keyMisplaced halfWild same any ◌or◌ ◌and◌
-long-stars = refl
+long_stars : elem_misplaced long_elem ≡ false
+unfolding long_elem long_key copies elem_misplaced key_misplaced half_wild same any ◌or◌ ◌and◌
+long_stars = refl
 
-long-keys : twice same_name longElem.keys ≡ false
-unfolding longElem longKey copies twice same any ◌or◌ ◌and◌
-long-keys = refl
+long_keys : twice same_name long_elem.keys ≡ false
+unfolding long_elem long_key copies twice same any ◌or◌ ◌and◌
+long_keys = refl
 
-long-few : ltb maxElements (length longPath) ≡ false
-unfolding longPath copies
-long-few = refl
+long_few : ltb max_elements (length long_path) ≡ false
+unfolding long_path copies
+long_few = refl
 
-long-good : goodPath longPath ≡ true
-unfolding longPath goodPath overLimit strayByte misplaced keyTwice ◌or◌
-long-good = rw (
-  long-few,
-  none-copied longElem elemOver long-limits 16,
-  none-copied longElem elemStray long-bytes 16,
-  none-copied longElem elemMisplaced long-stars 16,
-  none-copied longElem (λ (e : Elem). twice same_name e.keys) long-keys 16,
+long_good : good_path long_path ≡ true
+unfolding long_path good_path over_limit stray_byte misplaced key_twice ◌or◌
+long_good = rw (
+  long_few,
+  none_copied long_elem elem_over long_limits 16,
+  none_copied long_elem elem_stray long_bytes 16,
+  none_copied long_elem elem_misplaced long_stars 16,
+  none_copied long_elem (λ (e : Elem). twice same_name e.keys) long_keys 16,
 )
 
-elem-text : length (elemText longElem) ≡ 845
-unfolding longElem longKey copies elemText keyText joined escaped if◌then◌else◌
-elem-text = refl
+elem_text_lem : length (elem_text long_elem) ≡ 845
+unfolding long_elem long_key copies elem_text key_text joined escaped if◌then◌else◌
+elem_text_lem = refl
 
-elem-bytes : length (elemBytes longElem) ≡ 586
-unfolding longElem longKey copies elemBytes counted keyBytes stringBytes joined
-elem-bytes = refl
+elem_bytes_lem : length (elem_bytes long_elem) ≡ 586
+unfolding long_elem long_key copies elem_bytes counted key_bytes string_bytes joined
+elem_bytes_lem = refl
 
-long-text : length (path_text longPath) ≡ 13520
-unfolding longPath path_text copies joined
-long-text = joined-copies longElem elemText 845 elem-text 16
+long_text : length (path_text long_path) ≡ 13520
+unfolding long_path path_text copies joined
+long_text = joined_copies long_elem elem_text 845 elem_text_lem 16
 
-long-written : length (pathBytes longPath) ≡ 9377
-unfolding longPath pathBytes counted
-long-written = omega (arith, joined-copies longElem elemBytes 586 elem-bytes 16)
+long_written : length (path_bytes long_path) ≡ 9377
+unfolding long_path path_bytes counted
+long_written = omega (arith, joined_copies long_elem elem_bytes 586 elem_bytes_lem 16)
 
 -- ---- the promise
 
-pub path-return : PathReturn
-path-return = record {
-  text-reader = text-reader;
-  bytes-reader = bytes-reader;
-  one-text = λ s p q. reads-one path_text readText text-reader;
-  one-bytes = λ s p q. reads-one pathBytes readBytes bytes-reader;
-  text-back = read-write;
+pub path_return : PathReturn
+path_return = record {
+  text_reader = text_reader;
+  bytes_reader = bytes_reader;
+  one_text = λ s p q. reads_one path_text read_text text_reader;
+  one_bytes = λ s p q. reads_one path_bytes read_bytes bytes_reader;
+  text_back = read_write;
   bytes_back = write_read;
-  every-text = good-text;
-  every-bytes = good-bytes;
-  longest-text = text-length;
-  longest-bytes = bytes-length;
-  longest-path = (longPath, long-good, long-text, long-written);
+  every_text = good_text;
+  every_bytes = good_bytes;
+  longest_text = text_length;
+  longest_bytes = bytes_length;
+  longest_path = (long_path, long_good, long_text, long_written);
 }
 
 -- ---- a lent buffer
@@ -132,5 +132,5 @@ module _ (out : Str) (result : Option Str) where
   unfolding answer if◌then◌else◌
   too_long s e h = rw (e, lt-leb _ _ h)
 
-  pub fill-promise : FillPromise out result
-  fill-promise = record { fits = fits; unspelled = unspelled; too_long = too_long }
+  pub fill_promise : FillPromise out result
+  fill_promise = record { fits = fits; unspelled = unspelled; too_long = too_long }

@@ -8,13 +8,13 @@ use Rattle.table.specs.Table.{Member, Rule, Table}
 use Rattle.table.specs.declared.Checked.{Checked}
 use Rattle.table.specs.declared.Checked.TheVariants.{Accepted}
 use Rattle.verdict.specs.Verdict.{decider}
-use Rattle.verdict_request.specs.Calls.{decidedBy, pathVerdict, treeVerdict}
+use Rattle.verdict_request.specs.Calls.{decided_by, path_verdict, tree_verdict}
 use Rattle.verdict_request.specs.declared.PathAnswer.{PathAnswer}
 use Rattle.verdict_request.specs.declared.PathAnswer.TheVariants.{Permit, Deny, Default}
 use Rattle.verdict_request.specs.declared.TreeAnswer.{TreeAnswer}
 use Rattle.verdict_request.specs.declared.TreeAnswer.TheVariants.{All, None, Mixed}
 use Rattle.rpc.specs.Pattern.{matches}
-use Rattle.season.specs.Calls.{fault, reportOf}
+use Rattle.season.specs.Calls.{fault, report_of}
 
 -- ---- questions and answers
 
@@ -25,11 +25,11 @@ pub data Answer : Type 0 where
   reported : Checked → Str → Answer
 
 -- by the rule of this number
-abbrev permitBy : ℕ → Answer
-permitBy n = verdict (Permit (record { 0 = n }))
+abbrev permit_by : ℕ → Answer
+permit_by n = verdict (Permit (record { 0 = n }))
 
-abbrev denyBy : ℕ → Answer
-denyBy n = verdict (Deny (record { 0 = n }))
+abbrev deny_by : ℕ → Answer
+deny_by n = verdict (Deny (record { 0 = n }))
 
 -- ---- A to D: "Stevie is in admin and engineers. All rules read, as are the requests; origin is empty."
 
@@ -45,8 +45,8 @@ nq n p = elem "network-instances" [] ∷ elem "network-instance" (key "name" n �
 
 -- the action, the kind of subject, the subject, the id and the path
 rule : Bool → Bool → String → String → Path → Rule
-rule permit byGroup subject id path =
-    record { permit = permit; mode = 1; byGroup = byGroup; subject = bytes subject; id = bytes id; origin = []; path = path }
+rule permit by_group subject id path =
+    record { permit = permit; mode = 1; by_group = by_group; subject = bytes subject; id = bytes id; origin = []; path = path }
 
 -- a rule's subject and action
 user : Bool
@@ -65,12 +65,12 @@ member : String → Member
 member g = record { group = bytes g; user = bytes "stevie" }
 
 -- his groups, and two rules
-twoRules : Rule → Rule → Table
-twoRules r s = record { groups = bytes "admin" ∷ bytes "engineers" ∷ []; members = member "admin" ∷ member "engineers" ∷ []; rules = r ∷ s ∷ [] }
+two_rules : Rule → Rule → Table
+two_rules r s = record { groups = bytes "admin" ∷ bytes "engineers" ∷ []; members = member "admin" ∷ member "engineers" ∷ []; rules = r ∷ s ∷ [] }
 
 -- "In A to D he asks for N[name=DEFAULT]Q[identifier=BGP]"
 stevie : Rule → Rule → Answer
-stevie r s = verdict (decidedBy (decider (twoRules r s) (record { user = bytes "stevie"; mode = 1; origin = []; path = nq "DEFAULT" "BGP" })))
+stevie r s = verdict (decided_by (decider (two_rules r s) (record { user = bytes "stevie"; mode = 1; origin = []; path = nq "DEFAULT" "BGP" })))
 
 -- ---- E to K: "this table, whole"
 
@@ -81,17 +81,17 @@ small : Str
 small = line "010276310000000000000001" ++ line "020167" ++ line "0301670175" ++ line "04010101016701720001016101016b012a"
 
 -- user, mode and path text
-pathOf : String → ℕ → String → Answer
-pathOf user mode text = verdict (pathVerdict small (bytes user) mode [] (bytes text))
+path_of : String → ℕ → String → Answer
+path_of user mode text = verdict (path_verdict small (bytes user) mode [] (bytes text))
 
 tree_of : String → ℕ → String → Answer
-tree_of user mode text = tree (treeVerdict small (bytes user) mode [] (bytes text))
+tree_of user mode text = tree (tree_verdict small (bytes user) mode [] (bytes text))
 
 -- ---- the season report of that table
 
 -- of a log of one line
-reportOn : String → Answer
-reportOn l = reported (fault small (line l)) (reportOf small (line l))
+report_on : String → Answer
+report_on l = reported (fault small (line l)) (report_of small (line l))
 
 -- so many lines with 0
 zeros : ℕ → Str
@@ -101,26 +101,26 @@ zeros n = joined line (replicate n "0")
 
 -- what is asked, and the answer of the rules
 unfoldable pub examples : List (Answer × Answer)
-unfolding key elem nq rule user group permits denies member twoRules stevie line small pathOf tree_of reportOn zeros
+unfolding key elem nq rule user group permits denies member two_rules stevie line small path_of tree_of report_on zeros
 examples =
     -- A: admin permits; stevie denied on N[name=*]Q[identifier=BGP]
-    (stevie (rule permits group "admin" "1" (nq "DEFAULT" "BGP")) (rule denies user "stevie" "2" (nq "*" "BGP")), permitBy 0)
+    (stevie (rule permits group "admin" "1" (nq "DEFAULT" "BGP")) (rule denies user "stevie" "2" (nq "*" "BGP")), permit_by 0)
     -- B: stevie permits, admin denies
-    ∷ (stevie (rule permits user "stevie" "1" (nq "DEFAULT" "BGP")) (rule denies group "admin" "2" (nq "DEFAULT" "BGP")), permitBy 0)
+    ∷ (stevie (rule permits user "stevie" "1" (nq "DEFAULT" "BGP")) (rule denies group "admin" "2" (nq "DEFAULT" "BGP")), permit_by 0)
     -- C: stevie permits on N[name=DEFAULT]Q[identifier=*], stevie denied on N[name=*]Q[identifier=BGP]
-    ∷ (stevie (rule permits user "stevie" "1" (nq "DEFAULT" "*")) (rule denies user "stevie" "2" (nq "*" "BGP")), denyBy 1)
+    ∷ (stevie (rule permits user "stevie" "1" (nq "DEFAULT" "*")) (rule denies user "stevie" "2" (nq "*" "BGP")), deny_by 1)
     -- D: admin permits, engineers denies
-    ∷ (stevie (rule permits group "admin" "1" (nq "DEFAULT" "BGP")) (rule denies group "engineers" "2" (nq "DEFAULT" "BGP")), denyBy 1)
+    ∷ (stevie (rule permits group "admin" "1" (nq "DEFAULT" "BGP")) (rule denies group "engineers" "2" (nq "DEFAULT" "BGP")), deny_by 1)
     -- E
-    ∷ (pathOf "u" 1 "/a/b", permitBy 0)
+    ∷ (path_of "u" 1 "/a/b", permit_by 0)
     -- F
-    ∷ (pathOf "u" 1 "/ab", verdict Default)
+    ∷ (path_of "u" 1 "/ab", verdict Default)
     -- G
-    ∷ (pathOf "v" 1 "/a", verdict Default)
+    ∷ (path_of "v" 1 "/a", verdict Default)
     -- H
-    ∷ (pathOf "u" 1 "/a[k=9]", permitBy 0)
+    ∷ (path_of "u" 1 "/a[k=9]", permit_by 0)
     -- I
-    ∷ (pathOf "u" 1 "/", verdict Default)
+    ∷ (path_of "u" 1 "/", verdict Default)
     ∷ (tree_of "u" 1 "/", tree (Mixed (record { 0 = 0 })))
     -- J
     ∷ (tree_of "u" 1 "/a", tree All)
@@ -131,7 +131,7 @@ examples =
     ∷ (matched (matches (bytes "*abc") (bytes "xabc")), matched true)
     ∷ (matched (matches (bytes "*abc") (bytes "abcx")), matched false)
     -- "lines 1 and 257 are 1 and all others 0"
-    ∷ (reportOn "0101750002016100016200", reported Accepted (line "1" ++ zeros 255 ++ line "1" ++ zeros 5))
+    ∷ (report_on "0101750002016100016200", reported Accepted (line "1" ++ zeros 255 ++ line "1" ++ zeros 5))
     ∷ []
 
 -- the one statement: the first of each pair is the second

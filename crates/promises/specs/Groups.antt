@@ -4,13 +4,13 @@ use Rattle.text.specs.Test.{any, only}
 use Rattle.text.specs.String.{Str}
 use Rattle.table.specs.Table.{Table}
 use Rattle.table.specs.Text.{check, table_of}
-use Rattle.table.specs.Group.{lists, badUser, groupCount}
+use Rattle.table.specs.Group.{lists, bad_user, group_count}
 use Rattle.table.specs.declared.Checked.TheVariants.{Accepted, Refused}
 use Rattle.table.specs.declared.Counted.TheVariants.{Count, NoGroup, Declined}
 use Rattle.promises.specs.First.{First}
 
 -- an accepted table text, and a user as a table allows
-module _ (x user : Str) (ok : check x ≡ Accepted) (fine : badUser user ≡ false) where
+module _ (x user : Str) (ok : check x ≡ Accepted) (fine : bad_user user ≡ false) where
   abbrev pub t : Table
   t = table_of x
 
@@ -21,12 +21,12 @@ module _ (x user : Str) (ok : check x ≡ Accepted) (fine : badUser user ≡ fal
   pub record GroupPromise : Type 0 where
     -- where a group lists him: the number of groups that do, and the number of the first
     pub counted : any listing t.groups ≡ true
-        → (g : ℕ) × (groupCount x user ≡ Count (length (only listing t.groups)) (record { 0 = g })) × First listing g t.groups
+        → (g : ℕ) × (group_count x user ≡ Count (length (only listing t.groups)) (record { 0 = g })) × First listing g t.groups
     -- where none does
-    pub none : any listing t.groups ≡ false → groupCount x user ≡ NoGroup
+    pub none : any listing t.groups ≡ false → group_count x user ≡ NoGroup
 
 -- any table text and any user: "text before request"
 pub record CountRefusals (x user : Str) : Type 0 where
-  pub text : (number line : ℕ) → check x ≡ Refused number line → groupCount x user ≡ Declined number line
+  pub text : (number line : ℕ) → check x ≡ Refused number line → group_count x user ≡ Declined number line
   -- 20: "user .. not as a table allows"
-  pub user-declined : check x ≡ Accepted → badUser user ≡ true → groupCount x user ≡ Declined 20 0
+  pub user_declined : check x ≡ Accepted → bad_user user ≡ true → group_count x user ≡ Declined 20 0

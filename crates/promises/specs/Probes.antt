@@ -6,18 +6,18 @@ use Rattle.std.specs.Prelude.{ℕ, ◌≡◌, true, false, length}
 use Rattle.std.proofs.Math.Option.{none, some}
 use Rattle.text.specs.String.{Str}
 use Rattle.text.specs.Refusal.{clear}
-use Rattle.verdict_request.specs.Calls.{requestRefusal, pathVerdict, treeVerdict}
+use Rattle.verdict_request.specs.Calls.{request_refusal, path_verdict, tree_verdict}
 use Rattle.verdict_request.specs.declared.PathAnswer.{PathAnswer}
 use Rattle.verdict_request.specs.declared.PathAnswer.TheVariants as path
 use Rattle.verdict_request.specs.declared.TreeAnswer.{TreeAnswer}
 use Rattle.verdict_request.specs.declared.TreeAnswer.TheVariants as trees
-use Rattle.rpc.specs.Request.{rpcRefusal}
-use Rattle.rpc.specs.Call.{rpcVerdict}
+use Rattle.rpc.specs.Request.{rpc_refusal}
+use Rattle.rpc.specs.Call.{rpc_verdict}
 use Rattle.rpc.specs.declared.verdict.Verdict.TheVariants as rpc
-use Rattle.rotation.specs.State.{given, shortStore, badRecord, candidateSlot, textIn}
+use Rattle.rotation.specs.State.{given, short_store, bad_record, candidate_slot, text_in}
 use Rattle.rotation.specs.Machine.{Lent, Whole}
-use Rattle.rotation_probe.specs.Probe.{probePath, probeTree}
-use Rattle.rotation_probe.specs.Rpc.{probeRpc}
+use Rattle.rotation_probe.specs.Probe.{probe_path, probe_tree}
+use Rattle.rotation_probe.specs.Rpc.{probe_rpc}
 use Rattle.rotation_probe.specs.declared.rpcs.RpcAnswer.{RpcAnswer}
 use Rattle.rotation_probe.specs.declared.rpcs.RpcAnswer.TheVariants.{PermitAll, Judged}
 use Rattle.promises.specs.Rotation.{force}
@@ -41,59 +41,59 @@ pub record Taken (kind : ℕ) (l : Lent) : Type 0 where
 -- what the probe answers on a record and a store, any that are lent
 pub record Answers {A : Type 0} (p : Probe A) (l : Lent) (answer : A) : Type 0 where
   -- 11: "store shorter than 65,536 bytes"
-  pub short-store : shortStore (length l.store) ≡ true → answer ≡ p.refused 11
+  pub short_store_lem : short_store (length l.store) ≡ true → answer ≡ p.refused 11
   -- 15: "record: kind not 1 or 2, slot over 1, length over 32,768, candidate while off"
-  pub bad-record : shortStore (length l.store) ≡ false → badRecord l.state ≡ true → answer ≡ p.refused 15
+  pub bad_record_lem : short_store (length l.store) ≡ false → bad_record l.state ≡ true → answer ≡ p.refused 15
   -- 16: "RPC probe on a kind 2 record, path or tree probe on a kind 1 record"; for factory too, and whatever text and request are
-  pub other-kind : Whole l → ¬ (l.state.kind ≡ p.kind) → answer ≡ p.refused 16
+  pub other_kind_lem : Whole l → ¬ (l.state.kind ≡ p.kind) → answer ≡ p.refused 16
   -- a text is in force: as the verdict call on it, which refuses the text, then the request
-  pub on-text : Taken p.kind l → (text : Str) → force l ≡ some text → answer ≡ p.verdict text
+  pub on_text : Taken p.kind l → (text : Str) → force l ≡ some text → answer ≡ p.verdict text
   -- a candidate is in force, also one that the verdict call refuses: it is not skipped for the live text
-  pub on-candidate : Taken p.kind l → given l.state.candidate_len ≡ true
-      → answer ≡ p.verdict (textIn l.store (candidateSlot l.state) l.state.candidate_len)
+  pub on_candidate : Taken p.kind l → given l.state.candidate_len ≡ true
+      → answer ≡ p.verdict (text_in l.store (candidate_slot l.state) l.state.candidate_len)
   -- "Factory has no text to judge, but the request still is."
-  pub request-refused : Taken p.kind l → force l ≡ none → ¬ (p.request ≡ clear) → answer ≡ p.refused p.request
-  pub on-factory : Taken p.kind l → force l ≡ none → p.request ≡ clear → answer ≡ p.factory
+  pub request_refused : Taken p.kind l → force l ≡ none → ¬ (p.request ≡ clear) → answer ≡ p.refused p.request
+  pub on_factory : Taken p.kind l → force l ≡ none → p.request ≡ clear → answer ≡ p.factory
 
 -- ---- the three probes
 
 -- a request for a table
 module _ (user : Str) (mode : ℕ) (origin text : Str) where
   -- factory: "kind 2 denies all", and "names no rule"
-  abbrev pub pathProbe : Probe PathAnswer
-  pathProbe = record {
+  abbrev pub path_probe : Probe PathAnswer
+  path_probe = record {
     kind = 2;
     refused = λ number. path.Refused number 0;
-    verdict = λ table. pathVerdict table user mode origin text;
-    request = requestRefusal user mode origin text;
+    verdict = λ table. path_verdict table user mode origin text;
+    request = request_refusal user mode origin text;
     factory = path.Default;
   }
 
   -- "with tree NONE"
-  abbrev pub treeProbe : Probe TreeAnswer
-  treeProbe = record {
+  abbrev pub tree_probe : Probe TreeAnswer
+  tree_probe = record {
     kind = 2;
     refused = λ number. trees.Refused number 0;
-    verdict = λ table. treeVerdict table user mode origin text;
-    request = requestRefusal user mode origin text;
+    verdict = λ table. tree_verdict table user mode origin text;
+    request = request_refusal user mode origin text;
     factory = trees.None;
   }
 
   pub record TableProbePromise (l : Lent) : Type 0 where
-    pub path-probe : Answers pathProbe l (probePath l.state l.store user mode origin text)
-    pub tree-probe : Answers treeProbe l (probeTree l.state l.store user mode origin text)
+    pub path_probe_lem : Answers path_probe l (probe_path l.state l.store user mode origin text)
+    pub tree_probe_lem : Answers tree_probe l (probe_tree l.state l.store user mode origin text)
 
 -- a request for a policy
 module _ (identity path headers : Str) where
   -- factory: "kind 1 permits all"
-  abbrev pub rpcProbe : Probe RpcAnswer
-  rpcProbe = record {
+  abbrev pub rpc_probe : Probe RpcAnswer
+  rpc_probe = record {
     kind = 1;
     refused = λ number. Judged (rpc.Refused number);
-    verdict = λ policy. Judged (rpcVerdict policy identity path headers);
-    request = rpcRefusal identity path headers;
+    verdict = λ policy. Judged (rpc_verdict policy identity path headers);
+    request = rpc_refusal identity path headers;
     factory = PermitAll;
   }
 
   pub record PolicyProbePromise (l : Lent) : Type 0 where
-    pub rpc-probe : Answers rpcProbe l (probeRpc l.state l.store identity path headers)
+    pub rpc_probe_lem : Answers rpc_probe l (probe_rpc l.state l.store identity path headers)

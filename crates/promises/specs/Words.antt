@@ -4,35 +4,35 @@ use Rattle.std.specs.Prelude.{ℕ, zero, suc, ◌+◌, ◌*◌, ◌/◌, ◌%◌
 use Rattle.std.proofs.Math.Option.{Option, none, some}
 use Rattle.text.specs.Test.{◌and◌, ◌or◌, if◌then◌else◌}
 use Rattle.text.specs.String.{Str}
-use Rattle.path_read.specs.Calls.{bytesFor, textFor, answer}
+use Rattle.path_read.specs.Calls.{bytes_for, text_for, answer}
 use Rattle.path_read.specs.declared.Filled.{Filled}
 use Rattle.path_read.specs.declared.Filled.TheVariants as filled
 use Rattle.table.specs.Text.{check}
-use Rattle.table.specs.Group.{groupCount}
+use Rattle.table.specs.Group.{group_count}
 use Rattle.table.specs.declared.Checked.{Checked}
 use Rattle.table.specs.declared.Checked.TheVariants as checked
 use Rattle.table.specs.declared.Counted.{Counted}
 use Rattle.table.specs.declared.Counted.TheVariants as counted
-use Rattle.verdict_request.specs.Calls.{pathVerdict, treeVerdict}
+use Rattle.verdict_request.specs.Calls.{path_verdict, tree_verdict}
 use Rattle.verdict_request.specs.declared.PathAnswer.{PathAnswer}
 use Rattle.verdict_request.specs.declared.PathAnswer.TheVariants as path
 use Rattle.verdict_request.specs.declared.TreeAnswer.{TreeAnswer}
 use Rattle.verdict_request.specs.declared.TreeAnswer.TheVariants as trees
-use Rattle.season.specs.Calls.{seasonAnswer}
+use Rattle.season.specs.Calls.{season_answer}
 use Rattle.season.specs.declared.Reported.{Reported}
 use Rattle.season.specs.declared.Reported.TheVariants as reported
-use Rattle.policy.specs.Policy.{policyRefusal}
-use Rattle.policy_check.specs.Answer.{checkOf}
+use Rattle.policy.specs.Policy.{policy_refusal}
+use Rattle.policy_check.specs.Answer.{check_of}
 use Rattle.policy_check.specs.declared.check.Check.{Check}
 use Rattle.policy_check.specs.declared.check.Check.TheVariants as policy
-use Rattle.rpc.specs.Call.{rpcVerdict}
+use Rattle.rpc.specs.Call.{rpc_verdict}
 use Rattle.rpc.specs.declared.verdict.Verdict.{Verdict}
 use Rattle.rpc.specs.declared.verdict.Verdict.TheVariants as rpc
 use Rattle.rotation.specs.Machine.{Call, Lent, answers}
 use Rattle.rotation.specs.declared.Record.{Record}
-use Rattle.rotation_upload.specs.Offered.{offeredCheck}
-use Rattle.rotation_probe.specs.Probe.{probePath, probeTree}
-use Rattle.rotation_probe.specs.Rpc.{probeRpc}
+use Rattle.rotation_upload.specs.Offered.{offered_check}
+use Rattle.rotation_probe.specs.Probe.{probe_path, probe_tree}
+use Rattle.rotation_probe.specs.Rpc.{probe_rpc}
 use Rattle.rotation_probe.specs.declared.rpcs.RpcAnswer.{RpcAnswer}
 use Rattle.rotation_probe.specs.declared.rpcs.RpcAnswer.TheVariants as probe
 use Rattle.burgee.specs.Calls.{PathRead, PathWrite, TableCheck, GroupCount, PathVerdict, TreeVerdict, SeasonReport, PolicyCheck, RpcVerdict, word}
@@ -54,8 +54,8 @@ unfoldable pub accepted : ℕ → ℕ
 accepted w = if eqb (refusal w) 0 then w / 2 ^ 8 else 0
 
 -- burgee_answer_length
-abbrev pub filledLength : ℕ → ℕ
-filledLength w = accepted w % 2 ^ 32
+abbrev pub filled_length : ℕ → ℕ
+filled_length w = accepted w % 2 ^ 32
 
 -- burgee_answer_group_count
 abbrev pub count : ℕ → ℕ
@@ -97,85 +97,85 @@ unfoldable pub beside : ℕ → Option ℕ → ℕ
 beside a none = a
 beside a (some n) = a + suc n * 2 ^ 8
 
-abbrev pub toldFilled : ℕ → Option Filled
-toldFilled w = told (filled.Refused (refusal w)) (some (filled.Length (filledLength w))) (filledLength w) w
+abbrev pub told_filled : ℕ → Option Filled
+told_filled w = told (filled.Refused (refusal w)) (some (filled.Length (filled_length w))) (filled_length w) w
 
-abbrev pub toldChecked : ℕ → Option Checked
-toldChecked w = told (checked.Refused (refusal w) (line w)) (some checked.Accepted) 0 w
+abbrev pub told_checked : ℕ → Option Checked
+told_checked w = told (checked.Refused (refusal w) (line w)) (some checked.Accepted) 0 w
 
-unfoldable pub countedBy : ℕ → Option ℕ → Option Counted
-countedBy n none = only_if (eqb n 0) (some counted.NoGroup)
-countedBy n (some g) = some (counted.Count n (record { 0 = g }))
+unfoldable pub counted_by : ℕ → Option ℕ → Option Counted
+counted_by n none = only_if (eqb n 0) (some counted.NoGroup)
+counted_by n (some g) = some (counted.Count n (record { 0 = g }))
 
-abbrev pub toldCounted : ℕ → Option Counted
-toldCounted w = told (counted.Declined (refusal w) (line w)) (countedBy (count w) (number w)) (beside (count w) (number w)) w
+abbrev pub told_counted : ℕ → Option Counted
+told_counted w = told (counted.Declined (refusal w) (line w)) (counted_by (count w) (number w)) (beside (count w) (number w)) w
 
-unfoldable pub pathBy : Bool → Option ℕ → Option PathAnswer
-pathBy permits none = if permits then none else some path.Default
-pathBy permits (some r) = some (if permits then path.Permit (record { 0 = r }) else path.Deny (record { 0 = r }))
+unfoldable pub path_by : Bool → Option ℕ → Option PathAnswer
+path_by permits none = if permits then none else some path.Default
+path_by permits (some r) = some (if permits then path.Permit (record { 0 = r }) else path.Deny (record { 0 = r }))
 
-abbrev pub toldPath : ℕ → Option PathAnswer
-toldPath w = told (path.Refused (refusal w) (line w)) (pathBy (permitted w) (number w)) (beside (action w) (number w)) w
+abbrev pub told_path : ℕ → Option PathAnswer
+told_path w = told (path.Refused (refusal w) (line w)) (path_by (permitted w) (number w)) (beside (action w) (number w)) w
 
-unfoldable pub treeBy : ℕ → Option ℕ → Option TreeAnswer
-treeBy n none = if eqb n 0 then some trees.None else if eqb n 1 then some trees.All else none
-treeBy n (some r) = if eqb n 2 then some (trees.Mixed (record { 0 = r })) else none
+unfoldable pub tree_by : ℕ → Option ℕ → Option TreeAnswer
+tree_by n none = if eqb n 0 then some trees.None else if eqb n 1 then some trees.All else none
+tree_by n (some r) = if eqb n 2 then some (trees.Mixed (record { 0 = r })) else none
 
-abbrev pub toldTree : ℕ → Option TreeAnswer
-toldTree w = told (trees.Refused (refusal w) (line w)) (treeBy (tree w) (number w)) (beside (tree w) (number w)) w
+abbrev pub told_tree : ℕ → Option TreeAnswer
+told_tree w = told (trees.Refused (refusal w) (line w)) (tree_by (tree w) (number w)) (beside (tree w) (number w)) w
 
-abbrev pub toldReported : ℕ → Option Reported
-toldReported w = told (reported.Refused (refusal w) (line w)) (some (reported.Length (filledLength w))) (filledLength w) w
+abbrev pub told_reported : ℕ → Option Reported
+told_reported w = told (reported.Refused (refusal w) (line w)) (some (reported.Length (filled_length w))) (filled_length w) w
 
-abbrev pub toldPolicy : ℕ → Option Check
-toldPolicy w = told (policy.Refused (refusal w)) (some policy.Accepted) 0 w
+abbrev pub told_policy : ℕ → Option Check
+told_policy w = told (policy.Refused (refusal w)) (some policy.Accepted) 0 w
 
-abbrev byRule : Bool → ℕ → Verdict
-byRule permits r = if permits then rpc.Permitted r else rpc.Denied r
+abbrev by_rule : Bool → ℕ → Verdict
+by_rule permits r = if permits then rpc.Permitted r else rpc.Denied r
 
-unfoldable pub rpcBy : Bool → Option ℕ → Option Verdict
-rpcBy permits none = if permits then none else some rpc.Default
-rpcBy permits (some r) = some (byRule permits r)
+unfoldable pub rpc_by : Bool → Option ℕ → Option Verdict
+rpc_by permits none = if permits then none else some rpc.Default
+rpc_by permits (some r) = some (by_rule permits r)
 
-abbrev pub toldRpc : ℕ → Option Verdict
-toldRpc w = told (rpc.Refused (refusal w)) (rpcBy (permitted w) (number w)) (beside (action w) (number w)) w
+abbrev pub told_rpc : ℕ → Option Verdict
+told_rpc w = told (rpc.Refused (refusal w)) (rpc_by (permitted w) (number w)) (beside (action w) (number w)) w
 
 -- a permit that names no rule is factory's
-unfoldable pub probeBy : Bool → Option ℕ → Option RpcAnswer
-probeBy permits none = some (if permits then probe.PermitAll else probe.Judged rpc.Default)
-probeBy permits (some r) = some (probe.Judged (byRule permits r))
+unfoldable pub probe_by : Bool → Option ℕ → Option RpcAnswer
+probe_by permits none = some (if permits then probe.PermitAll else probe.Judged rpc.Default)
+probe_by permits (some r) = some (probe.Judged (by_rule permits r))
 
-abbrev pub toldProbe : ℕ → Option RpcAnswer
-toldProbe w = told (probe.Judged (rpc.Refused (refusal w))) (probeBy (permitted w) (number w)) (beside (action w) (number w)) w
+abbrev pub told_probe : ℕ → Option RpcAnswer
+told_probe w = told (probe.Judged (rpc.Refused (refusal w))) (probe_by (permitted w) (number w)) (beside (action w) (number w)) w
 
 -- ---- the promise
 
 -- each call's answer, from its word
 pub record Words : Type 0 where
-  pub path-read : (text out : Str) → toldFilled (word (PathRead text out)) ≡ some (answer out (bytesFor text))
-  pub path-write : (bytes out : Str) → toldFilled (word (PathWrite bytes out)) ≡ some (answer out (textFor bytes))
-  pub table-check : (table : Str) → toldChecked (word (TableCheck table)) ≡ some (check table)
-  pub group-count : (table user : Str) → toldCounted (word (GroupCount table user)) ≡ some (groupCount table user)
-  pub path-verdict : (table user : Str) (mode : ℕ) (origin path : Str)
-      → toldPath (word (PathVerdict table user mode origin path)) ≡ some (pathVerdict table user mode origin path)
-  pub tree-verdict : (table user : Str) (mode : ℕ) (origin path : Str)
-      → toldTree (word (TreeVerdict table user mode origin path)) ≡ some (treeVerdict table user mode origin path)
-  pub season-report : (table log out : Str) → toldReported (word (SeasonReport table log out)) ≡ some (seasonAnswer table log out)
-  pub policy-check : (policy : Str) → toldPolicy (word (PolicyCheck policy)) ≡ some (checkOf (policyRefusal policy))
-  pub rpc-verdict : (policy identity path headers : Str)
-      → toldRpc (word (RpcVerdict policy identity path headers)) ≡ some (rpcVerdict policy identity path headers)
-  pub stepped : (c : Call) (l : Lent) → toldChecked (word (publicly c l)) ≡ some (answers offeredCheck c l)
-  pub probe-path : (rec : Record) (store user : Str) (mode : ℕ) (origin path : Str)
-      → toldPath (word (ProbePath rec store user mode origin path)) ≡ some (probePath rec store user mode origin path)
-  pub probe-tree : (rec : Record) (store user : Str) (mode : ℕ) (origin path : Str)
-      → toldTree (word (ProbeTree rec store user mode origin path)) ≡ some (probeTree rec store user mode origin path)
-  pub probe-rpc : (rec : Record) (store identity path headers : Str)
-      → toldProbe (word (ProbeRpc rec store identity path headers)) ≡ some (probeRpc rec store identity path headers)
+  pub path_read : (text out : Str) → told_filled (word (PathRead text out)) ≡ some (answer out (bytes_for text))
+  pub path_write : (bytes out : Str) → told_filled (word (PathWrite bytes out)) ≡ some (answer out (text_for bytes))
+  pub table_check : (table : Str) → told_checked (word (TableCheck table)) ≡ some (check table)
+  pub group_count_lem : (table user : Str) → told_counted (word (GroupCount table user)) ≡ some (group_count table user)
+  pub path_verdict_lem : (table user : Str) (mode : ℕ) (origin path : Str)
+      → told_path (word (PathVerdict table user mode origin path)) ≡ some (path_verdict table user mode origin path)
+  pub tree_verdict_lem : (table user : Str) (mode : ℕ) (origin path : Str)
+      → told_tree (word (TreeVerdict table user mode origin path)) ≡ some (tree_verdict table user mode origin path)
+  pub season_report : (table log out : Str) → told_reported (word (SeasonReport table log out)) ≡ some (season_answer table log out)
+  pub policy_check : (policy : Str) → told_policy (word (PolicyCheck policy)) ≡ some (check_of (policy_refusal policy))
+  pub rpc_verdict_lem : (policy identity path headers : Str)
+      → told_rpc (word (RpcVerdict policy identity path headers)) ≡ some (rpc_verdict policy identity path headers)
+  pub stepped : (c : Call) (l : Lent) → told_checked (word (publicly c l)) ≡ some (answers offered_check c l)
+  pub probe_path_lem : (rec : Record) (store user : Str) (mode : ℕ) (origin path : Str)
+      → told_path (word (ProbePath rec store user mode origin path)) ≡ some (probe_path rec store user mode origin path)
+  pub probe_tree_lem : (rec : Record) (store user : Str) (mode : ℕ) (origin path : Str)
+      → told_tree (word (ProbeTree rec store user mode origin path)) ≡ some (probe_tree rec store user mode origin path)
+  pub probe_rpc_lem : (rec : Record) (store identity path headers : Str)
+      → told_probe (word (ProbeRpc rec store identity path headers)) ≡ some (probe_rpc rec store identity path headers)
 
 -- of a refusal every reader gives the safe value: deny, NONE, no rule, no group, 0
 pub record Safe (w : ℕ) (refused : refusal w ≡ 0 → ⊥) : Type 0 where
   pub denies : permitted w ≡ false
-  pub none-of-tree : tree w ≡ 0
+  pub none_of_tree : tree w ≡ 0
   pub unnumbered : number w ≡ none
   pub uncounted : count w ≡ 0
-  pub unfilled : filledLength w ≡ 0
+  pub unfilled : filled_length w ≡ 0

@@ -10,7 +10,7 @@ use Rattle.text.specs.Test.{if◌then◌else◌}
 use Rattle.text.specs.String.{Str}
 use Rattle.text.specs.Fill.{put}
 use Rattle.text.specs.Steps.{Wrote}
-use Rattle.text.proofs.Filling.{wrote-long, wrote-more, wrote_nothing}
+use Rattle.text.proofs.Filling.{wrote_long, wrote_more, wrote_nothing}
 use Rattle.table_line.specs.Lines.{lines}
 use Rattle.path_read.specs.declared.reader.Stored.TheVariants.{Unread}
 use Rattle.readable.specs.Texts.{onward, ending, storing, stored}
@@ -22,14 +22,14 @@ module _ (g : Str → Option Str) (room n at : ℕ) (l : Str) (ls : List Str) wh
   unfolding ending onward stored storing
   end_none e = (rw e, rw e)
 
-  end-full : (w : Str) → g l ≡ some w → room - at < length w → (ending g room n at (l ∷ ls) ≡ ended.Full) × (stored g room at (l ∷ ls) ≡ [])
+  end_full : (w : Str) → g l ≡ some w → room - at < length w → (ending g room n at (l ∷ ls) ≡ ended.Full) × (stored g room at (l ∷ ls) ≡ [])
   unfolding ending onward stored storing if◌then◌else◌
-  end-full w e h = (rw (e, lt-leb _ _ h), rw (e, lt-leb _ _ h))
+  end_full w e h = (rw (e, lt-leb _ _ h), rw (e, lt-leb _ _ h))
 
-  end-some : (w : Str) → g l ≡ some w → length w ≤ room - at
+  end_some : (w : Str) → g l ≡ some w → length w ≤ room - at
       → (ending g room n at (l ∷ ls) ≡ ending g room (n + 1) (at + length w) ls) × (stored g room at (l ∷ ls) ≡ w ++ stored g room (at + length w) ls)
   unfolding ending onward stored storing if◌then◌else◌
-  end-some w e h = (rw (e, le-leb _ _ h), rw (e, le-leb _ _ h))
+  end_some w e h = (rw (e, le-leb _ _ h), rw (e, le-leb _ _ h))
 
 -- the lines before `from` were converted, so that `out` has come of d; the next line has that number, and is to be stored at `at`
 pub record Laying (g : Str → Option Str) (text : Str) (d : List ℕ) (from at number : ℕ) (out : List ℕ) : Type 0 where
@@ -42,36 +42,36 @@ pub record Laying (g : Str → Option Str) (text : Str) (d : List ℕ) (from at 
   pub inside : from ≤ length text
 
 module _ (g : Str → Option Str) (text : Str) (d : List ℕ) where
-  pub laying-start : Laying g text d 0 0 1 d
-  laying-start = record { so_far = []; ends = refl; same = refl; wrote = wrote_nothing d 0; fits = omega arith; counts = omega arith; inside = omega arith }
+  pub laying_start : Laying g text d 0 0 1 d
+  laying_start = record { so_far = []; ends = refl; same = refl; wrote = wrote_nothing d 0; fits = omega arith; counts = omega arith; inside = omega arith }
 
   module _ (from at number : ℕ) (out : List ℕ) (s : Laying g text d from at number out) where
-    pub laying-long : length out ≡ length d
-    laying-long = wrote-long d 0 s.so_far out at s.wrote (omega (arith, s.wrote.ends, s.fits))
+    pub laying_long : length out ≡ length d
+    laying_long = wrote_long d 0 s.so_far out at s.wrote (omega (arith, s.wrote.ends, s.fits))
 
-    pub laying-stop : (l : Str) (ls : List Str) → lines (drop from text) ≡ l ∷ ls → g l ≡ none
+    pub laying_stop : (l : Str) (ls : List Str) → lines (drop from text) ≡ l ∷ ls → g l ≡ none
         → (ended.Unread number ≡ ending g (length d) 1 0 (lines text)) × (out ≡ put d 0 (stored g (length d) 0 (lines text)))
-    laying-stop l ls e i =
+    laying_stop l ls e i =
         let a = end_none g (length d) number at l ls i in
         let x : ending g (length d) 1 0 (lines text) ≡ ended.Unread number = s.ends ∙ ap (ending g (length d) number at) e ∙ a.0 in
         let y : stored g (length d) 0 (lines text) ≡ s.so_far = s.same ∙ ap (λ (m : List Str). s.so_far ++ stored g (length d) at m) e ∙ ap (λ (m : Str). s.so_far ++ m) a.1 ∙ append-nil s.so_far in
         (sym x, s.wrote.same ∙ ap (put d 0) (sym y))
 
     module _ (l w : Str) (next end : ℕ) (e : lines (drop from text) ≡ l ∷ lines (drop next text)) (i : g l ≡ some w) (z piece : List ℕ) (v : Wrote z 0 w piece end) where
-      is-end : end ≡ length w
-      is-end = omega (arith, v.ends)
+      is_end : end ≡ length w
+      is_end = omega (arith, v.ends)
 
-      pub laying-full : length out - at < end → (ended.Full ≡ ending g (length d) 1 0 (lines text)) × (out ≡ put d 0 (stored g (length d) 0 (lines text)))
-      laying-full h =
-          let a = end-full g (length d) number at l (lines (drop next text)) w i (omega (arith, is-end, laying-long)) in
+      pub laying_full : length out - at < end → (ended.Full ≡ ending g (length d) 1 0 (lines text)) × (out ≡ put d 0 (stored g (length d) 0 (lines text)))
+      laying_full h =
+          let a = end_full g (length d) number at l (lines (drop next text)) w i (omega (arith, is_end, laying_long)) in
           let x : ending g (length d) 1 0 (lines text) ≡ ended.Full = s.ends ∙ ap (ending g (length d) number at) e ∙ a.0 in
           let y : stored g (length d) 0 (lines text) ≡ s.so_far = s.same ∙ ap (λ (m : List Str). s.so_far ++ stored g (length d) at m) e ∙ ap (λ (m : Str). s.so_far ++ m) a.1 ∙ append-nil s.so_far in
           (sym x, s.wrote.same ∙ ap (put d 0) (sym y))
 
-      pub laying-turn : end ≤ length out - at → from < next → next ≤ length text → (out' : List ℕ) → out' ≡ put out at (take end piece) → Laying g text d next (at + end) (number + 1) out'
-      laying-turn h k m out' o =
-          let a = end-some g (length d) number at l (lines (drop next text)) w i (omega (arith, is-end, laying-long)) in
-          let j : at + end ≡ at + length w = omega (arith, is-end) in
+      pub laying_turn : end ≤ length out - at → from < next → next ≤ length text → (out' : List ℕ) → out' ≡ put out at (take end piece) → Laying g text d next (at + end) (number + 1) out'
+      laying_turn h k m out' o =
+          let a = end_some g (length d) number at l (lines (drop next text)) w i (omega (arith, is_end, laying_long)) in
+          let j : at + end ≡ at + length w = omega (arith, is_end) in
           let p : take end piece ≡ w = front z w piece end v in
           rw j
           (record {
@@ -80,24 +80,24 @@ module _ (g : Str → Option Str) (text : Str) (d : List ℕ) where
             same =
                 s.same ∙ ap (λ (q : List Str). s.so_far ++ stored g (length d) at q) e ∙ ap (λ (q : Str). s.so_far ++ q) a.1
                 ∙ sym (append_assoc s.so_far w (stored g (length d) (at + length w) (lines (drop next text))));
-            wrote = wrote-more d 0 s.so_far out at s.wrote (omega (arith, s.wrote.ends, s.fits)) w out' (at + length w) (record { ends = refl; same = o ∙ ap (put out at) p });
-            fits = omega (arith, is-end, laying-long, s.fits);
+            wrote = wrote_more d 0 s.so_far out at s.wrote (omega (arith, s.wrote.ends, s.fits)) w out' (at + length w) (record { ends = refl; same = o ∙ ap (put out at) p });
+            fits = omega (arith, is_end, laying_long, s.fits);
             counts = omega (arith, s.counts);
             inside = m;
           })
 
-    pub laying-done : length text ≤ from → (ended.All at ≡ ending g (length d) 1 0 (lines text)) × (out ≡ put d 0 (stored g (length d) 0 (lines text)))
-    laying-done h =
+    pub laying_done : length text ≤ from → (ended.All at ≡ ending g (length d) 1 0 (lines text)) × (out ≡ put d 0 (stored g (length d) 0 (lines text)))
+    laying_done h =
         let e : lines (drop from text) ≡ [] = ap lines (drop_of_length-le text h) ∙ no_lines in
-        let x : ending g (length d) 1 0 (lines text) ≡ ended.All at = s.ends ∙ ap (ending g (length d) number at) e ∙ end-nil in
-        let y : stored g (length d) 0 (lines text) ≡ s.so_far = s.same ∙ ap (λ (m : List Str). s.so_far ++ stored g (length d) at m) e ∙ ap (λ (m : Str). s.so_far ++ m) stored-nil ∙ append-nil s.so_far in
+        let x : ending g (length d) 1 0 (lines text) ≡ ended.All at = s.ends ∙ ap (ending g (length d) number at) e ∙ end_nil in
+        let y : stored g (length d) 0 (lines text) ≡ s.so_far = s.same ∙ ap (λ (m : List Str). s.so_far ++ stored g (length d) at m) e ∙ ap (λ (m : Str). s.so_far ++ m) stored_nil ∙ append-nil s.so_far in
         (sym x, s.wrote.same ∙ ap (put d 0) (sym y))
       where
         no_lines : lines [] ≡ []
         no_lines = unfold lines in refl
 
-        end-nil : ending g (length d) number at [] ≡ ended.All at
-        end-nil = unfold ending in refl
+        end_nil : ending g (length d) number at [] ≡ ended.All at
+        end_nil = unfold ending in refl
 
-        stored-nil : stored g (length d) at [] ≡ []
-        stored-nil = unfold stored in refl
+        stored_nil : stored g (length d) at [] ≡ []
+        stored_nil = unfold stored in refl

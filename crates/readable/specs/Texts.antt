@@ -1,7 +1,7 @@
 -- Whole texts, converted line by line; and what the two calls answer and leave in the lent buffer.
 use Rattle.std.specs.Prelude.{ℕ, ◌+◌, ◌-◌, ◌≡◌, List, [], ◌∷◌, ◌++◌, leb, length}
 use Rattle.std.proofs.Math.Option.{Option, none, some}
-use Rattle.limits.specs.Limits.{maxTableText}
+use Rattle.limits.specs.Limits.{max_table_text}
 use Rattle.text.specs.Test.{if◌then◌else◌}
 use Rattle.text.specs.String.{Str}
 use Rattle.text.specs.Fill.{put}
@@ -9,7 +9,7 @@ use Rattle.table_line.specs.Lines.{lines}
 use Rattle.table.specs.Text.{check}
 use Rattle.table.specs.declared.Checked.{Checked}
 use Rattle.table.specs.declared.Checked.TheVariants as checked
-use Rattle.readable_lines.specs.Lines.{shownLine, packedLine}
+use Rattle.readable_lines.specs.Lines.{shown_line, packed_line}
 use Rattle.readable.specs.declared.Converted.{Converted}
 use Rattle.readable.specs.declared.Converted.TheVariants.{Length, Refused, Unread, NoRoom}
 use Rattle.readable.specs.declared.Ended.{Ended}
@@ -40,47 +40,47 @@ stored g room at (l ∷ ls) = storing room at (g l) (λ to. stored g room to ls)
 -- ---- the calls
 
 -- the answer of `show`, by how its lines ended
-unfoldable pub shownAs : Ended → Converted
-shownAs (ended.All n) = Length n
-shownAs (ended.Unread l) = Unread l
-shownAs ended.Full = NoRoom
+unfoldable pub shown_as : Ended → Converted
+shown_as (ended.All n) = Length n
+shown_as (ended.Unread l) = Unread l
+shown_as ended.Full = NoRoom
 
 -- the table's refusal; or its readable text, line by line, as far as there is room
-unfoldable pub showAnswer : Checked → Str → List ℕ → Converted
-showAnswer (checked.Refused n l) text out = Refused n l
-showAnswer checked.Accepted text out = shownAs (ending shownLine (length out) 1 0 (lines text))
+unfoldable pub show_answer : Checked → Str → List ℕ → Converted
+show_answer (checked.Refused n l) text out = Refused n l
+show_answer checked.Accepted text out = shown_as (ending shown_line (length out) 1 0 (lines text))
 
 -- with a refusal "nothing lent is stored to"
-unfoldable pub showLent : Checked → Str → List ℕ → List ℕ
-showLent (checked.Refused n l) text out = out
-showLent checked.Accepted text out = put out 0 (stored shownLine (length out) 0 (lines text))
+unfoldable pub show_lent : Checked → Str → List ℕ → List ℕ
+show_lent (checked.Refused n l) text out = out
+show_lent checked.Accepted text out = put out 0 (stored shown_line (length out) 0 (lines text))
 
 -- the refusal of the table that was made; or that table, where there is room
-unfoldable pub madeAnswer : Checked → Str → List ℕ → Converted
-madeAnswer (checked.Refused n l) table out = Refused n l
-madeAnswer checked.Accepted table out = if leb (length table) (length out) then Length (length table) else NoRoom
+unfoldable pub made_answer : Checked → Str → List ℕ → Converted
+made_answer (checked.Refused n l) table out = Refused n l
+made_answer checked.Accepted table out = if leb (length table) (length out) then Length (length table) else NoRoom
 
-unfoldable pub madeLent : Checked → Str → List ℕ → List ℕ
-madeLent (checked.Refused n l) table out = out
-madeLent checked.Accepted table out = if leb (length table) (length out) then put out 0 table else out
+unfoldable pub made_lent : Checked → Str → List ℕ → List ℕ
+made_lent (checked.Refused n l) table out = out
+made_lent checked.Accepted table out = if leb (length table) (length out) then put out 0 table else out
 
 -- the number of the first line that is not of the readable form; 1 for "table text over 32,768 bytes (line 0)"; or by the table that was made
-unfoldable pub packAnswer : Ended → Str → List ℕ → Converted
-packAnswer (ended.All n) table out = madeAnswer (check table) table out
-packAnswer (ended.Unread l) table out = Unread l
-packAnswer ended.Full table out = Refused 1 0
+unfoldable pub pack_answer : Ended → Str → List ℕ → Converted
+pack_answer (ended.All n) table out = made_answer (check table) table out
+pack_answer (ended.Unread l) table out = Unread l
+pack_answer ended.Full table out = Refused 1 0
 
-unfoldable pub packLent : Ended → Str → List ℕ → List ℕ
-packLent (ended.All n) table out = madeLent (check table) table out
-packLent (ended.Unread l) table out = out
-packLent ended.Full table out = out
+unfoldable pub pack_lent : Ended → Str → List ℕ → List ℕ
+pack_lent (ended.All n) table out = made_lent (check table) table out
+pack_lent (ended.Unread l) table out = out
+pack_lent ended.Full table out = out
 
 -- the table is made in a buffer of its own, which has room for the longest
-unfoldable pub packedEnd : Str → Ended
-packedEnd text = ending packedLine maxTableText 1 0 (lines text)
+unfoldable pub packed_end : Str → Ended
+packed_end text = ending packed_line max_table_text 1 0 (lines text)
 
-unfoldable pub packedTable : Str → Str
-packedTable text = stored packedLine maxTableText 0 (lines text)
+unfoldable pub packed_table : Str → Str
+packed_table text = stored packed_line max_table_text 0 (lines text)
 
 -- ---- what each function answers, r, and makes of the buffer `out`, out'
 
@@ -89,11 +89,11 @@ abbrev pub Converts : (Str → Option Str) → Str → List ℕ → List ℕ →
 Converts g text out out' r = (r ≡ ending g (length out) 1 0 (lines text)) × (out' ≡ put out 0 (stored g (length out) 0 (lines text)))
 
 abbrev pub Shows : Str → List ℕ → List ℕ → Converted → Type 0
-Shows table out out' r = (r ≡ showAnswer (check table) table out) × (out' ≡ showLent (check table) table out)
+Shows table out out' r = (r ≡ show_answer (check table) table out) × (out' ≡ show_lent (check table) table out)
 
 -- a table that was made, handed out
 abbrev pub Makes : Str → List ℕ → List ℕ → Converted → Type 0
-Makes table out out' r = (r ≡ madeAnswer (check table) table out) × (out' ≡ madeLent (check table) table out)
+Makes table out out' r = (r ≡ made_answer (check table) table out) × (out' ≡ made_lent (check table) table out)
 
 abbrev pub Packs : Str → List ℕ → List ℕ → Converted → Type 0
-Packs text out out' r = (r ≡ packAnswer (packedEnd text) (packedTable text) out) × (out' ≡ packLent (packedEnd text) (packedTable text) out)
+Packs text out out' r = (r ≡ pack_answer (packed_end text) (packed_table text) out) × (out' ≡ pack_lent (packed_end text) (packed_table text) out)

@@ -1,7 +1,7 @@
 // The readable form of a rule table: `show` makes it, `pack` makes the table's text of it.
 ghost use Rattle.std.specs.Prelude.{◌≡◌, false, ◌≤◌, ◌<◌, length};
-ghost use Rattle.limits.specs.Limits.{maxTableText};
-ghost use Rattle.readable_lines.specs.Lines.{lineBy};
+ghost use Rattle.limits.specs.Limits.{max_table_text};
+ghost use Rattle.readable_lines.specs.Lines.{line_by};
 ghost use Rattle.readable.specs.Texts.{Converts, Shows, Makes, Packs};
 
 use path_read::reader::Stored;
@@ -32,8 +32,8 @@ pub enum Ended {
 
 // Converts the lines one after another into out.
 fn convert_lines(packing: bool, text: &[u8], out: &mut [u8]) -> Ended
-    requires { packing ≡ false → length text.now ≤ maxTableText }
-    ensures { Converts (lineBy false packing) text.now out.old out.new result }
+    requires { packing ≡ false → length text.now ≤ max_table_text }
+    ensures { Converts (line_by false packing) text.now out.old out.new result }
 {
     let mut piece = [0u8; readable_lines::MAX_MADE_LINE];
     let mut from = 0;

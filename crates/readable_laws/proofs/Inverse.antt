@@ -10,7 +10,7 @@ use Rattle.text.specs.Test.{◌and◌}
 use Rattle.text.specs.String.{Str}
 use Rattle.text.specs.Frame.{got, and_then, Reader, ◌>>=◌, ret}
 use Rattle.text.proofs.Tests.{by, and_l, and_r}
-use Rattle.text.proofs.Codec.{then-got, got-move, Took, took-both, took-none, Gives, then-gives}
+use Rattle.text.proofs.Codec.{then_got, got_move, Took, took_both, took_none, Gives, then_gives}
 use Rattle.readable_parts.specs.Parts.{Parts, part_of}
 use Rattle.readable_lines.specs.Form.{parts}
 
@@ -38,41 +38,41 @@ module _ (P : Str → Type 0) (p q : Parts) (each : (c : ℕ) → is_last c ≡ 
       by (is_last c) (λ u. last c u s at b t x l e)
       (λ u. let m = each c u s at b t x l e in (m.0, m.1, λ f k i. m.2 f k [] (i ∙ sym (append-nil b))))
 
-  pub parts-back : (form : Str) → proper form ≡ true → (s : Str) (at : ℕ) (b : Str) (t : ℕ) → P s → at ≤ length s → parts p form s at ≡ got b t
+  pub parts_back : (form : Str) → proper form ≡ true → (s : Str) (at : ℕ) (b : Str) (t : ℕ) → P s → at ≤ length s → parts p form s at ≡ got b t
       → (w : Str) × Took s at w t × ((f : Str) (k : ℕ) → drop k f ≡ b → Gives (parts q form f k) f w [])
   unfolding parts ◌>>=◌ ret proper
-  parts-back [] h s at b t x l e =
-      got-move (λ c u. (w : Str) × Took s at w u × ((f : Str) (k : ℕ) → drop k f ≡ c → Gives (got [] k) f w [])) e
-      ([], took-none s at l, λ f k i. (k, refl, i))
-  parts-back (c ∷ []) h s at b t x l e =
-      let a = then-got (part_of p c s at) _ e in
+  parts_back [] h s at b t x l e =
+      got_move (λ c u. (w : Str) × Took s at w u × ((f : Str) (k : ℕ) → drop k f ≡ c → Gives (got [] k) f w [])) e
+      ([], took_none s at l, λ f k i. (k, refl, i))
+  parts_back (c ∷ []) h s at b t x l e =
+      let a = then_got (part_of p c s at) _ e in
       let m = any_last c s at a.0 a.1 x l a.2 in
-      got-move
+      got_move
       (λ d u. (w : Str) × Took s at w u × ((f : Str) (k : ℕ) → drop k f ≡ d → Gives (and_then (part_of q c f k) (λ v z. got (v ++ []) z)) f w [])) a.3 (
         m.0 ++ [],
-        took-both s at a.1 a.1 m.0 [] m.1 (took-none s a.1 m.1.fits),
-        λ f k i. then-gives (part_of q c f k) _ f m.0 _ [] [] (m.2 f k (i ∙ append-nil a.0)) (λ z j. (z, refl, j)),
+        took_both s at a.1 a.1 m.0 [] m.1 (took_none s a.1 m.1.fits),
+        λ f k i. then_gives (part_of q c f k) _ f m.0 _ [] [] (m.2 f k (i ∙ append-nil a.0)) (λ z j. (z, refl, j)),
       )
-  parts-back (c ∷ d ∷ cs) h s at b t x l e =
-      let a = then-got (part_of p c s at) _ e in
-      let n = then-got (parts p (d ∷ cs) s a.1) _ a.3 in
+  parts_back (c ∷ d ∷ cs) h s at b t x l e =
+      let a = then_got (part_of p c s at) _ e in
+      let n = then_got (parts p (d ∷ cs) s a.1) _ a.3 in
       let u : is_last c ≡ false = not-true (is_last c) (and_l _ _ h) in
       let m = each c u s at a.0 a.1 x l a.2 in
-      let o = parts-back (d ∷ cs) (and_r (not (is_last c)) _ h) s a.1 n.0 n.1 x m.1.fits n.2 in
-      got-move
+      let o = parts_back (d ∷ cs) (and_r (not (is_last c)) _ h) s a.1 n.0 n.1 x m.1.fits n.2 in
+      got_move
       (λ g z. (w : Str) × Took s at w z × ((f : Str) (k : ℕ) → drop k f ≡ g → Gives (and_then (part_of q c f k) (λ v y. and_then (parts q (d ∷ cs) f y) (λ v' y'. got (v ++ v') y'))) f w [])) n.3 (
         m.0 ++ o.0,
-        took-both s at a.1 n.1 m.0 o.0 m.1 o.1,
-        λ f k i. then-gives (part_of q c f k) _ f m.0 _ n.0 [] (m.2 f k n.0 i)
-            (λ y j. then-gives (parts q (d ∷ cs) f y) _ f o.0 _ [] [] (o.2 f y j) (λ z v. (z, refl, v))),
+        took_both s at a.1 n.1 m.0 o.0 m.1 o.1,
+        λ f k i. then_gives (part_of q c f k) _ f m.0 _ n.0 [] (m.2 f k n.0 i)
+            (λ y j. then_gives (parts q (d ∷ cs) f y) _ f o.0 _ [] [] (o.2 f y j) (λ z v. (z, refl, v))),
       )
 
 -- reading ends within what is read
 module _ (p : Parts) (stays : (c : ℕ) (s : Str) (at : ℕ) (b : Str) (t : ℕ) → at ≤ length s → part_of p c s at ≡ got b t → t ≤ length s) where
-  pub parts-inside : (form s : Str) (at : ℕ) (b : Str) (t : ℕ) → at ≤ length s → parts p form s at ≡ got b t → t ≤ length s
+  pub parts_inside : (form s : Str) (at : ℕ) (b : Str) (t : ℕ) → at ≤ length s → parts p form s at ≡ got b t → t ≤ length s
   unfolding parts ◌>>=◌ ret
-  parts-inside [] s at b t l e = got-move (λ c u. u ≤ length s) e l
-  parts-inside (c ∷ cs) s at b t l e =
-      let a = then-got (part_of p c s at) _ e in
-      let n = then-got (parts p cs s a.1) _ a.3 in
-      got-move (λ d u. u ≤ length s) n.3 (parts-inside cs s a.1 n.0 n.1 (stays c s at a.0 a.1 l a.2) n.2)
+  parts_inside [] s at b t l e = got_move (λ c u. u ≤ length s) e l
+  parts_inside (c ∷ cs) s at b t l e =
+      let a = then_got (part_of p c s at) _ e in
+      let n = then_got (parts p cs s a.1) _ a.3 in
+      got_move (λ d u. u ≤ length s) n.3 (parts_inside cs s a.1 n.0 n.1 (stays c s at a.0 a.1 l a.2) n.2)

@@ -7,106 +7,106 @@ use Prim.Native.Nat.{ℕ, ◌≤◌}
 use native.Mathlib.Omega.{arith}
 use borrow.Author.Tests.{not-true, not-false}
 use lib.ListN.{length, take}
-use Rattle.limits.specs.Sizes.{maxReadableLine}
+use Rattle.limits.specs.Sizes.{max_readable_line}
 use Rattle.text.specs.Test.{if◌then◌else◌, absent, all}
-use Rattle.text.specs.Byte.{isPrint}
+use Rattle.text.specs.Byte.{is_print}
 use Rattle.text.specs.String.{Str}
 use Rattle.text.specs.Refusal.{clear}
 use Rattle.text.specs.Frame.{Parsed, got, unread}
 use Rattle.text.proofs.Tests.{by}
 use Rattle.path.specs.Bytes.{path}
-use Rattle.path.specs.Walk.{isPathIn}
-use Rattle.log.specs.Request.{goodRequest}
-use Rattle.log.specs.Heading.{Head, heading, headRefusal, headed}
+use Rattle.path.specs.Walk.{is_path_in}
+use Rattle.log.specs.Request.{good_request}
+use Rattle.log.specs.Heading.{Head, heading, head_refusal, headed}
 use Rattle.log.specs.declared.Heading.{Heading}
 use Rattle.log.specs.declared.Heading.TheVariants as headings
-use Rattle.log.proofs.Headings.{no-heading, bad-heading, bad-path, good-path}
+use Rattle.log.proofs.Headings.{no_heading_lem, bad_heading, bad_path, good_path_lem}
 use Rattle.path_read.specs.declared.reader.Stored.{Stored}
 use Rattle.path_read.specs.declared.reader.Stored.TheVariants.{To}
 use Rattle.readable_parts.specs.Parts.{shown, packed}
 use Rattle.readable_parts.specs.Steps.{Puts}
-use Rattle.readable_parts.proofs.Stored.{put-to, front}
-use Rattle.readable_lines.specs.Form.{parts, requestForm, shownBy, packedBy}
-use Rattle.readable_lines.specs.Request.{good, shownRequest, packedRequest}
+use Rattle.readable_parts.proofs.Stored.{put_to, front}
+use Rattle.readable_lines.specs.Form.{parts, request_form, shown_by, packed_by}
+use Rattle.readable_lines.specs.Request.{good, shown_request, packed_request}
 use Rattle.readable_lines.specs.Steps.{room_for, Fills, fills}
-use Rattle.readable_lines.proofs.Converting.{room-request, packed-is}
+use Rattle.readable_lines.proofs.Converting.{room_request, packed_is}
 
 -- ---- whether a request is good
 
 -- what an answer of `read_heading` tells
-headed-unread : (x : Parsed Head) → headed x ≡ headings.Unread → x ≡ unread
+headed_unread : (x : Parsed Head) → headed x ≡ headings.Unread → x ≡ unread
 unfolding headed
-headed-unread (got h t) e = let z : ◌≡◌ {A = ℕ} 0 1 = cc in absurd (omega arith)
-headed-unread unread e = refl
+headed_unread (got h t) e = let z : ◌≡◌ {A = ℕ} 0 1 = cc in absurd (omega arith)
+headed_unread unread e = refl
 
-headed-at : (x : Parsed Head) (n o p : ℕ) → headed x ≡ headings.At n o p → (h : Head) × (x ≡ got h p) × (headRefusal h ≡ n)
+headed_at : (x : Parsed Head) (n o p : ℕ) → headed x ≡ headings.At n o p → (h : Head) × (x ≡ got h p) × (head_refusal h ≡ n)
 unfolding headed
-headed-at (got h t) n o p e = let i : t ≡ p = cc in let j : headRefusal h ≡ n = cc in (h, ap (got h) i, j)
-headed-at unread n o p e = let z : ◌≡◌ {A = ℕ} 0 1 = cc in absurd (omega arith)
+headed_at (got h t) n o p e = let i : t ≡ p = cc in let j : head_refusal h ≡ n = cc in (h, ap (got h) i, j)
+headed_at unread n o p e = let z : ◌≡◌ {A = ℕ} 0 1 = cc in absurd (omega arith)
 
 module _ (f : Str) {r : Heading} (e : r ≡ headed (heading f 0)) where
-  pub good-unread : r ≡ headings.Unread → false ≡ not (absent (goodRequest f))
+  pub good_unread : r ≡ headings.Unread → false ≡ not (absent (good_request f))
   unfolding absent
-  good-unread g = rw (no-heading f (headed-unread (heading f 0) (sym e ∙ g)))
+  good_unread g = rw (no_heading_lem f (headed_unread (heading f 0) (sym e ∙ g)))
 
   module _ {n o p : ℕ} (g : r ≡ headings.At n o p) where
-    pub good-refused : (n ≡ clear → ⊥) → false ≡ not (absent (goodRequest f))
+    pub good_refused : (n ≡ clear → ⊥) → false ≡ not (absent (good_request f))
     unfolding absent
-    good-refused c =
-        let h = headed-at (heading f 0) n o p (sym e ∙ g) in
-        rw (bad-heading f h.0 p h.1 (λ z. c (sym h.2 ∙ z)))
+    good_refused c =
+        let h = headed_at (heading f 0) n o p (sym e ∙ g) in
+        rw (bad_heading f h.0 p h.1 (λ z. c (sym h.2 ∙ z)))
 
-    pub good-by-path : n ≡ clear → isPathIn f (path f p) ≡ not (absent (goodRequest f))
+    pub good_by_path : n ≡ clear → is_path_in f (path f p) ≡ not (absent (good_request f))
     unfolding absent
-    good-by-path c =
-        let h = headed-at (heading f 0) n o p (sym e ∙ g) in
-        by (isPathIn f (path f p))
-        (λ y. rw (y, good-path f h.0 p h.1 (h.2 ∙ c) y))
-        (λ y. rw (y, bad-path f h.0 p h.1 (h.2 ∙ c) y))
+    good_by_path c =
+        let h = headed_at (heading f 0) n o p (sym e ∙ g) in
+        by (is_path_in f (path f p))
+        (λ y. rw (y, good_path_lem f h.0 p h.1 (h.2 ∙ c) y))
+        (λ y. rw (y, bad_path f h.0 p h.1 (h.2 ∙ c) y))
 
 -- ---- shown and packed
 
 module _ (f : Str) where
-  pub good-no : not (absent (goodRequest f)) ≡ false → good f ≡ none
+  pub good_no : not (absent (good_request f)) ≡ false → good f ≡ none
   unfolding good if◌then◌else◌
-  good-no e = rw (not-false (absent (goodRequest f)) e)
+  good_no e = rw (not-false (absent (good_request f)) e)
 
-  pub good-yes : not (absent (goodRequest f)) ≡ true → good f ≡ some f
+  pub good_yes : not (absent (good_request f)) ≡ true → good f ≡ some f
   unfolding good if◌then◌else◌
-  good-yes e = rw (not-true (absent (goodRequest f)) e)
+  good_yes e = rw (not-true (absent (good_request f)) e)
 
-  pub request-bad : not (absent (goodRequest f)) ≡ false → shownRequest f ≡ none
-  unfolding shownRequest bind
-  request-bad e = rw (good-no e)
+  pub request_bad : not (absent (good_request f)) ≡ false → shown_request f ≡ none
+  unfolding shown_request bind
+  request_bad e = rw (good_no e)
 
-  pub request-shown : not (absent (goodRequest f)) ≡ true → shownRequest f ≡ shownBy (parts shown requestForm) 0 f
-  unfolding shownRequest bind
-  request-shown e = rw (good-yes e)
+  pub request_shown : not (absent (good_request f)) ≡ true → shown_request f ≡ shown_by (parts shown request_form) 0 f
+  unfolding shown_request bind
+  request_shown e = rw (good_yes e)
 
 module _ (s : Str) where
-  pub pack-none : packedBy (parts packed requestForm) s ≡ none → packedRequest s ≡ none
-  unfolding packedRequest bind
-  pack-none e = rw e
+  pub pack_none : packed_by (parts packed request_form) s ≡ none → packed_request s ≡ none
+  unfolding packed_request bind
+  pack_none e = rw e
 
-  module _ {w : Str} (e : packedBy (parts packed requestForm) s ≡ some w) where
-    pack-bad : not (absent (goodRequest w)) ≡ false → packedRequest s ≡ none
-    unfolding packedRequest bind
-    pack-bad g = rw (e, good-no w g)
+  module _ {w : Str} (e : packed_by (parts packed request_form) s ≡ some w) where
+    pack_bad : not (absent (good_request w)) ≡ false → packed_request s ≡ none
+    unfolding packed_request bind
+    pack_bad g = rw (e, good_no w g)
 
-    pack-good : not (absent (goodRequest w)) ≡ true → packedRequest s ≡ some w
-    unfolding packedRequest bind
-    pack-good g = rw (e, good-yes w g)
+    pack_good : not (absent (good_request w)) ≡ true → packed_request s ≡ some w
+    unfolding packed_request bind
+    pack_good g = rw (e, good_yes w g)
 
   -- the request was packed whole, to the start of d'
-  module _ (a : all isPrint s ≡ true) {d d' : List ℕ} {q : Stored} (e : Puts (room_for requestForm) (parts packed requestForm) s 0 d 0 d' q) {next end : ℕ} (g : q ≡ To next end) (n : next ≡ length s) where
-    made : take end d' ≡ (put-to e g).0
-    made = front d (put-to e g).0 d' end (put-to e g).2
+  module _ (a : all is_print s ≡ true) {d d' : List ℕ} {q : Stored} (e : Puts (room_for request_form) (parts packed request_form) s 0 d 0 d' q) {next end : ℕ} (g : q ≡ To next end) (n : next ≡ length s) where
+    made : take end d' ≡ (put_to e g).0
+    made = front d (put_to e g).0 d' end (put_to e g).2
 
-    pub request-short : end ≤ maxReadableLine
-    request-short = let u = put-to e g in omega (arith, u.2.ends, u.3, room-request)
+    pub request_short : end ≤ max_readable_line
+    request_short = let u = put_to e g in omega (arith, u.2.ends, u.3, room_request)
 
-    pub request-refused : not (absent (goodRequest (take end d'))) ≡ false → packedRequest s ≡ none
-    request-refused h = pack-bad (packed-is _ s a e g n) (rw made at h)
+    pub request_refused : not (absent (good_request (take end d'))) ≡ false → packed_request s ≡ none
+    request_refused h = pack_bad (packed_is _ s a e g n) (rw made at h)
 
-    pub request-fills : not (absent (goodRequest (take end d'))) ≡ true → Fills (packedRequest s) d d' (To next end)
-    request-fills h = rw (pack-good (packed-is _ s a e g n) (rw made at h)) (fills (put-to e g).2 (omega (arith, request-short)))
+    pub request_fills : not (absent (good_request (take end d'))) ≡ true → Fills (packed_request s) d d' (To next end)
+    request_fills h = rw (pack_good (packed_is _ s a e g n) (rw made at h)) (fills (put_to e g).2 (omega (arith, request_short)))

@@ -2,7 +2,7 @@
 use Rattle.std.specs.Prelude.{ℕ, [], ◌∷◌, ◌++◌, eqb, get_or}
 use Rattle.std.proofs.Math.Option.{Option, none, some, map}
 use Rattle.text.specs.Test.{if◌then◌else◌, all}
-use Rattle.text.specs.Byte.{isPrint}
+use Rattle.text.specs.Byte.{is_print}
 use Rattle.text.specs.String.{Str, bytes}
 use Rattle.text.specs.Frame.{Reader, ◌>>=◌, ret}
 use Rattle.table.specs.Frame.{unknown, whole}
@@ -17,8 +17,8 @@ parts p (c ∷ cs) = do
   ret (w ++ v)
 
 -- the parts of each kind of frame, in order, after its kind byte
-unfoldable pub formBy : Parts → ℕ → Reader Str
-formBy p k =
+unfoldable pub form_by : Parts → ℕ → Reader Str
+form_by p k =
     if eqb k 1 then parts p (bytes "version S time T")
     else if eqb k 2 then parts p (bytes "group S")
     else if eqb k 3 then parts p (bytes "member S S")
@@ -26,34 +26,34 @@ formBy p k =
     else unknown
 
 -- the parts of a request in a log, which has no kind byte: "mode, S user, S origin, path"
-abbrev pub requestForm : Str
-requestForm = bytes "M S origin S P"
+abbrev pub request_form : Str
+request_form = bytes "M S origin S P"
 
 -- ---- shown, from a frame
 
 -- only printable text, so in one line
 unfoldable pub printed : Option Str → Option Str
 printed none = none
-printed (some w) = if all isPrint w then some w else none
+printed (some w) = if all is_print w then some w else none
 
 -- the whole of f from `at` on, as r shows it
-unfoldable pub shownBy : Reader Str → ℕ → Str → Option Str
-shownBy r at f = printed (whole f (r f at))
+unfoldable pub shown_by : Reader Str → ℕ → Str → Option Str
+shown_by r at f = printed (whole f (r f at))
 
 -- the readable form of a frame of a table, without its LF
-unfoldable pub shownFrame : Str → Option Str
-shownFrame f = shownBy (formBy shown (get_or f 0 0)) 1 f
+unfoldable pub shown_frame : Str → Option Str
+shown_frame f = shown_by (form_by shown (get_or f 0 0)) 1 f
 
 -- ---- packed, from a readable line
 
 -- the kind of a line, by its first letter: v (118), g (103), m (109) or r (114)
-unfoldable pub kindBy : ℕ → ℕ
-kindBy b = if eqb b 118 then 1 else if eqb b 103 then 2 else if eqb b 109 then 3 else if eqb b 114 then 4 else 0
+unfoldable pub kind_by : ℕ → ℕ
+kind_by b = if eqb b 118 then 1 else if eqb b 103 then 2 else if eqb b 109 then 3 else if eqb b 114 then 4 else 0
 
 -- the whole of a printable line, given without its LF, as r packs it
-unfoldable pub packedBy : Reader Str → Str → Option Str
-packedBy r s = if all isPrint s then whole s (r s 0) else none
+unfoldable pub packed_by : Reader Str → Str → Option Str
+packed_by r s = if all is_print s then whole s (r s 0) else none
 
 -- the frame of a readable line of a table: the kind byte, and the parts
-unfoldable pub packedFrame : Str → Option Str
-packedFrame s = map (λ (f : Str). kindBy (get_or s 0 0) ∷ f) (packedBy (formBy packed (kindBy (get_or s 0 0))) s)
+unfoldable pub packed_frame : Str → Option Str
+packed_frame s = map (λ (f : Str). kind_by (get_or s 0 0) ∷ f) (packed_by (form_by packed (kind_by (get_or s 0 0))) s)

@@ -4,9 +4,9 @@ use Rattle.std.proofs.Math.Option.{Option, none, some, bind, map}
 use Rattle.text.specs.Test.{if◌then◌else◌}
 use Rattle.text.specs.String.{Str}
 use Rattle.table_line.specs.Lines.{frame}
-use Rattle.readable_parts.specs.Parts.{hexText}
-use Rattle.readable_lines.specs.Form.{shownFrame, packedFrame}
-use Rattle.readable_lines.specs.Request.{shownRequest, packedRequest}
+use Rattle.readable_parts.specs.Parts.{hex_text}
+use Rattle.readable_lines.specs.Form.{shown_frame, packed_frame}
+use Rattle.readable_lines.specs.Request.{shown_request, packed_request}
 
 -- with its LF
 unfoldable pub lined : Option Str → Option Str
@@ -18,37 +18,37 @@ unfoldable pub unlined : Str → Option Str
 unlined l = if eqb (get_or l (length l - 1) 0) 10 then some (take (length l - 1) l) else none
 
 -- a hex line to its readable line, by what is shown of its frame
-unfoldable pub shownLineBy : (Str → Option Str) → (Str → Option Str)
-shownLineBy show l = lined (bind (frame l) show)
+unfoldable pub shown_line_by : (Str → Option Str) → (Str → Option Str)
+shown_line_by show l = lined (bind (frame l) show)
 
 -- a readable line to its hex line, by the frame that is packed of it
-unfoldable pub packedLineBy : (Str → Option Str) → (Str → Option Str)
-packedLineBy pack l = lined (map hexText (bind (unlined l) pack))
+unfoldable pub packed_line_by : (Str → Option Str) → (Str → Option Str)
+packed_line_by pack l = lined (map hex_text (bind (unlined l) pack))
 
 -- ---- lines of a table
 
-unfoldable pub shownLine : Str → Option Str
-shownLine = shownLineBy shownFrame
+unfoldable pub shown_line : Str → Option Str
+shown_line = shown_line_by shown_frame
 
-unfoldable pub packedLine : Str → Option Str
-packedLine = packedLineBy packedFrame
+unfoldable pub packed_line : Str → Option Str
+packed_line = packed_line_by packed_frame
 
 -- ---- lines of a log: a line that is bad is not shown, and none is packed
 
-unfoldable pub shownLogLine : Str → Option Str
-shownLogLine = shownLineBy shownRequest
+unfoldable pub shown_log_line : Str → Option Str
+shown_log_line = shown_line_by shown_request
 
-unfoldable pub packedLogLine : Str → Option Str
-packedLogLine = packedLineBy packedRequest
+unfoldable pub packed_log_line : Str → Option Str
+packed_log_line = packed_line_by packed_request
 
 -- ---- any of the four, for programs
 
 -- of a log, or of a table
-unfoldable pub shownFor : Bool → (Str → Option Str)
-shownFor log = if log then shownRequest else shownFrame
+unfoldable pub shown_for : Bool → (Str → Option Str)
+shown_for log = if log then shown_request else shown_frame
 
-unfoldable pub packedFor : Bool → (Str → Option Str)
-packedFor log = if log then packedRequest else packedFrame
+unfoldable pub packed_for : Bool → (Str → Option Str)
+packed_for log = if log then packed_request else packed_frame
 
-unfoldable pub lineBy : Bool → Bool → (Str → Option Str)
-lineBy log packing = if packing then packedLineBy (packedFor log) else shownLineBy (shownFor log)
+unfoldable pub line_by : Bool → Bool → (Str → Option Str)
+line_by log packing = if packing then packed_line_by (packed_for log) else shown_line_by (shown_for log)

@@ -2,16 +2,16 @@
 use Rattle.std.proofs.Math.Option.{Option, none, some, bind}
 use Rattle.text.specs.Test.{if◌then◌else◌, absent}
 use Rattle.text.specs.String.{Str}
-use Rattle.log.specs.Request.{goodRequest}
+use Rattle.log.specs.Request.{good_request}
 use Rattle.readable_parts.specs.Parts.{shown, packed}
-use Rattle.readable_lines.specs.Form.{parts, requestForm, shownBy, packedBy}
+use Rattle.readable_lines.specs.Form.{parts, request_form, shown_by, packed_by}
 
 -- f, where it holds a good request
 unfoldable pub good : Str → Option Str
-good f = if absent (goodRequest f) then none else some f
+good f = if absent (good_request f) then none else some f
 
-unfoldable pub shownRequest : Str → Option Str
-shownRequest f = bind (good f) (shownBy (parts shown requestForm) 0)
+unfoldable pub shown_request : Str → Option Str
+shown_request f = bind (good f) (shown_by (parts shown request_form) 0)
 
-unfoldable pub packedRequest : Str → Option Str
-packedRequest s = bind (packedBy (parts packed requestForm) s) good
+unfoldable pub packed_request : Str → Option Str
+packed_request s = bind (packed_by (parts packed request_form) s) good

@@ -1,9 +1,9 @@
 -- The answers of the programs that convert line by line, said of what is read there.
 use Rattle.std.specs.Prelude.{ℕ, ◌+◌, ◌*◌, ◌≤◌, ◌<◌, ◌≡◌, Bool, List, [], ◌∷◌, eqb, length, take, drop}
 use Rattle.std.proofs.Math.Option.{Option, none, some}
-use Rattle.limits.specs.Sizes.{maxReadableLine}
+use Rattle.limits.specs.Sizes.{max_readable_line}
 use Rattle.text.specs.Test.{◌and◌, if◌then◌else◌, all}
-use Rattle.text.specs.Byte.{isPrint}
+use Rattle.text.specs.Byte.{is_print}
 use Rattle.text.specs.String.{Str}
 use Rattle.text.specs.Steps.{Wrote}
 use Rattle.table_line.specs.Lines.{lines}
@@ -13,16 +13,16 @@ use Rattle.readable_parts.specs.Parts.{Parts, shown, packed}
 use Rattle.readable_parts.specs.Steps.{longest}
 
 -- a frame that is made of a readable line: its kind byte, and its parts
-abbrev pub maxMadeFrame : ℕ
-maxMadeFrame = 1 + maxReadableLine
+abbrev pub max_made_frame : ℕ
+max_made_frame = 1 + max_readable_line
 
 -- and its line of the table: two digits a byte, and the LF
-abbrev pub maxMadeLine : ℕ
-maxMadeLine = 2 * maxMadeFrame + 1
+abbrev pub max_made_line : ℕ
+max_made_line = 2 * max_made_frame + 1
 
 -- the readers for either direction
-unfoldable pub partsBy : Bool → Parts
-partsBy packing = if packing then packed else shown
+unfoldable pub parts_by : Bool → Parts
+parts_by packing = if packing then packed else shown
 
 -- the longest that such parts can be
 unfoldable pub room_for : Str → ℕ
@@ -31,17 +31,17 @@ room_for (c ∷ cs) = longest c + room_for cs
 
 -- what there is, a frame or a line of either form, fills the start of d, and nothing else does; where there is nothing, nothing is said of d
 pub data Fills : Option Str → List ℕ → List ℕ → Stored → Type 0 where
-  fills : {w : Str} {d d' : List ℕ} {next end : ℕ} → Wrote d 0 w d' end → end ≤ maxMadeFrame → Fills (some w) d d' (stored.To next end)
+  fills : {w : Str} {d d' : List ℕ} {next end : ℕ} → Wrote d 0 w d' end → end ≤ max_made_frame → Fills (some w) d d' (stored.To next end)
   nothing : {d d' : List ℕ} → Fills none d d' stored.Unread
 
 -- where what was stored ends
-unfoldable pub storedEnd : Stored → ℕ
-storedEnd (stored.To next end) = end
-storedEnd stored.Unread = 0
+unfoldable pub stored_end : Stored → ℕ
+stored_end (stored.To next end) = end
+stored_end stored.Unread = 0
 
 -- a reading that took all of `size` bytes and stored printable text at the start of `out`
 unfoldable pub closed : ℕ → List ℕ → Stored → Stored
-closed size out (stored.To next end) = if eqb next size and all isPrint (take end out) then stored.To next end else stored.Unread
+closed size out (stored.To next end) = if eqb next size and all is_print (take end out) then stored.To next end else stored.Unread
 closed size out stored.Unread = stored.Unread
 
 -- the line of the text that starts at `from` was converted by g to the start of d, and the next one starts at `next`; or g does not convert it

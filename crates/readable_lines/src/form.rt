@@ -1,17 +1,17 @@
 // Frames and readable lines, part by part.
 ghost use Rattle.std.specs.Prelude.{◌≡◌, ◌+◌, ◌≤◌, length};
-ghost use Rattle.limits.specs.Sizes.{maxReadableLine};
+ghost use Rattle.limits.specs.Sizes.{max_readable_line};
 ghost use Rattle.readable_parts.specs.Parts.{part_of};
-ghost use Rattle.readable_lines.specs.Form.{parts, formBy, shownFrame, kindBy, packedFrame};
+ghost use Rattle.readable_lines.specs.Form.{parts, form_by, shown_frame, kind_by, packed_frame};
 ghost use Rattle.readable_parts.specs.Steps.{longest, Puts};
-ghost use Rattle.readable_lines.specs.Steps.{maxMadeFrame, partsBy, room_for, Fills, storedEnd, closed};
+ghost use Rattle.readable_lines.specs.Steps.{max_made_frame, parts_by, room_for, Fills, stored_end, closed};
 
 use path_read::reader::Stored;
 
 // The part that c names, packed or shown.
 fn convert_part(packing: bool, c: u8, s: &[u8], at: usize, out: &mut [u8], to: usize) -> Stored
     requires { (to + longest c ≤ length out.old) × (at ≤ length s.now) }
-    ensures { Puts (longest c) (part_of (partsBy packing) c) s.now at out.old to out.new result }
+    ensures { Puts (longest c) (part_of (parts_by packing) c) s.now at out.old to out.new result }
 {
     if packing {
         return readable_packed::part(c, s, at, out, to);
@@ -29,7 +29,7 @@ pub fn convert_parts(
     to: usize,
 ) -> Stored
     requires { (to + room_for form.now ≤ length out.old) × (at ≤ length s.now) }
-    ensures { Puts (room_for form.now) (parts (partsBy packing) form.now)
+    ensures { Puts (room_for form.now) (parts (parts_by packing) form.now)
         s.now at out.old to out.new result }
 {
     let mut p = at;
@@ -49,8 +49,8 @@ pub fn convert_parts(
 
 // The parts of a frame of that kind.
 fn by_kind(packing: bool, kind: u8, s: &[u8], at: usize, out: &mut [u8], to: usize) -> Stored
-    requires { (to + maxReadableLine ≤ length out.old) × (at ≤ length s.now) }
-    ensures { Puts maxReadableLine (formBy (partsBy packing) kind) s.now at out.old to out.new result }
+    requires { (to + max_readable_line ≤ length out.old) × (at ≤ length s.now) }
+    ensures { Puts max_readable_line (form_by (parts_by packing) kind) s.now at out.old to out.new result }
 {
     if kind == 1 {
         return convert_parts(packing, b"version S time T", s, at, out, to);
@@ -69,7 +69,7 @@ fn by_kind(packing: bool, kind: u8, s: &[u8], at: usize, out: &mut [u8], to: usi
 
 // What was shown of a frame of `size` bytes, where it is all of the frame, and printable.
 pub fn close_shown(shown: Stored, size: usize, out: &[u8]) -> Stored
-    requires { storedEnd shown ≤ length out.now }
+    requires { stored_end shown ≤ length out.now }
     ensures { result ≡ closed size out.now shown }
 {
     let Stored::To { next, end } = shown else {
@@ -89,8 +89,8 @@ pub fn close_shown(shown: Stored, size: usize, out: &[u8]) -> Stored
 
 // The readable form of a frame of a table, without its LF.
 pub fn show_frame(f: &[u8], out: &mut [u8]) -> Stored
-    requires { maxMadeFrame ≤ length out.old }
-    ensures { Fills (shownFrame f.now) out.old out.new result }
+    requires { max_made_frame ≤ length out.old }
+    ensures { Fills (shown_frame f.now) out.old out.new result }
 {
     if f.len() == 0 {
         return Stored::Unread;
@@ -101,7 +101,7 @@ pub fn show_frame(f: &[u8], out: &mut [u8]) -> Stored
 
 // The kind of a readable line, by its first letter; 0 for none.
 fn kind_by(b: u8) -> u8
-    ensures { result ≡ kindBy b }
+    ensures { result ≡ kind_by b }
 {
     if b == b'v' {
         return 1;
@@ -120,8 +120,8 @@ fn kind_by(b: u8) -> u8
 
 // The frame of a readable line of a table, which is given without its LF.
 pub fn pack_frame(s: &[u8], out: &mut [u8]) -> Stored
-    requires { maxMadeFrame ≤ length out.old }
-    ensures { Fills (packedFrame s.now) out.old out.new result }
+    requires { max_made_frame ≤ length out.old }
+    ensures { Fills (packed_frame s.now) out.old out.new result }
 {
     if !text::string::all_print(s) {
         return Stored::Unread;

@@ -1,8 +1,8 @@
 // A line of a table or of a log to its readable line, and back. `log` says which.
 ghost use Rattle.std.specs.Prelude.{◌≡◌, false, ◌≤◌, ◌<◌, length};
-ghost use Rattle.limits.specs.Limits.{maxTableText};
-ghost use Rattle.readable_lines.specs.Lines.{shownFor, packedFor, shownLineBy, packedLineBy, lineBy};
-ghost use Rattle.readable_lines.specs.Steps.{maxMadeFrame, maxMadeLine, Fills, Lays};
+ghost use Rattle.limits.specs.Limits.{max_table_text};
+ghost use Rattle.readable_lines.specs.Lines.{shown_for, packed_for, shown_line_by, packed_line_by, line_by};
+ghost use Rattle.readable_lines.specs.Steps.{max_made_frame, max_made_line, Fills, Lays};
 
 use path_read::reader::Stored;
 use table_line::Line;
@@ -10,15 +10,15 @@ use table_line::Line;
 pub mod form;
 mod request;
 
-// The longest frame that is made of a readable line, and its line: `maxMadeFrame` and `maxMadeLine` of the definitions.
+// The longest frame that is made of a readable line, and its line: `max_made_frame` and `max_made_line` of the definitions.
 const MAX_MADE_FRAME: usize = 1 + limits::MAX_READABLE_LINE;
 
 pub const MAX_MADE_LINE: usize = 2 * MAX_MADE_FRAME + 1;
 
 // The readable form of a frame, without its LF.
 fn show_frame(log: bool, f: &[u8], out: &mut [u8]) -> Stored
-    requires { maxMadeFrame ≤ length out.old }
-    ensures { Fills (shownFor log f.now) out.old out.new result }
+    requires { max_made_frame ≤ length out.old }
+    ensures { Fills (shown_for log f.now) out.old out.new result }
 {
     if log {
         return crate::request::show_request(f, out);
@@ -28,8 +28,8 @@ fn show_frame(log: bool, f: &[u8], out: &mut [u8]) -> Stored
 
 // The readable line of the hex line that starts at `from`.
 fn show_line(log: bool, text: &[u8], from: usize, out: &mut [u8]) -> Stored
-    requires { (from < length text.now) × (length text.now ≤ maxTableText) × (maxMadeLine ≤ length out.old) }
-    ensures { Lays (shownLineBy (shownFor log)) text.now from out.old out.new result }
+    requires { (from < length text.now) × (length text.now ≤ max_table_text) × (max_made_line ≤ length out.old) }
+    ensures { Lays (shown_line_by (shown_for log)) text.now from out.old out.new result }
 {
     let mut frame = [0u8; limits::MAX_TABLE_BYTES];
     let hex = text::byte::hex_table();
@@ -50,8 +50,8 @@ fn show_line(log: bool, text: &[u8], from: usize, out: &mut [u8]) -> Stored
 
 // The frame of a readable line, which is given without its LF.
 fn pack_frame(log: bool, s: &[u8], out: &mut [u8]) -> Stored
-    requires { maxMadeFrame ≤ length out.old }
-    ensures { Fills (packedFor log s.now) out.old out.new result }
+    requires { max_made_frame ≤ length out.old }
+    ensures { Fills (packed_for log s.now) out.old out.new result }
 {
     if log {
         return crate::request::pack_request(s, out);
@@ -61,8 +61,8 @@ fn pack_frame(log: bool, s: &[u8], out: &mut [u8]) -> Stored
 
 // The hex line of the readable line that starts at `from`.
 fn pack_line(log: bool, text: &[u8], from: usize, out: &mut [u8]) -> Stored
-    requires { (from < length text.now) × (maxMadeLine ≤ length out.old) }
-    ensures { Lays (packedLineBy (packedFor log)) text.now from out.old out.new result }
+    requires { (from < length text.now) × (max_made_line ≤ length out.old) }
+    ensures { Lays (packed_line_by (packed_for log)) text.now from out.old out.new result }
 {
     let stop = text_search::find(text, from, b'\n');
     if text.len() <= stop {
@@ -83,8 +83,8 @@ fn pack_line(log: bool, text: &[u8], from: usize, out: &mut [u8]) -> Stored
 
 // Either of the two: `packing` makes the hex line of a readable one.
 pub fn convert_line(log: bool, packing: bool, text: &[u8], from: usize, out: &mut [u8]) -> Stored
-    requires { (from < length text.now) × (packing ≡ false → length text.now ≤ maxTableText) × (maxMadeLine ≤ length out.old) }
-    ensures { Lays (lineBy log packing) text.now from out.old out.new result }
+    requires { (from < length text.now) × (packing ≡ false → length text.now ≤ max_table_text) × (max_made_line ≤ length out.old) }
+    ensures { Lays (line_by log packing) text.now from out.old out.new result }
 {
     if packing {
         return pack_line(log, text, from, out);

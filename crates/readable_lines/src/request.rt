@@ -1,9 +1,9 @@
 // Requests of a log: frames and readable lines, part by part.
 ghost use Rattle.std.specs.Prelude.{◌≡◌, not, ◌≤◌, length};
 ghost use Rattle.text.specs.Test.{absent};
-ghost use Rattle.log.specs.Request.{goodRequest};
-ghost use Rattle.readable_lines.specs.Request.{shownRequest, packedRequest};
-ghost use Rattle.readable_lines.specs.Steps.{maxMadeFrame, Fills};
+ghost use Rattle.log.specs.Request.{good_request};
+ghost use Rattle.readable_lines.specs.Request.{shown_request, packed_request};
+ghost use Rattle.readable_lines.specs.Steps.{max_made_frame, Fills};
 
 use crate::form;
 use log::Heading;
@@ -11,7 +11,7 @@ use path_read::reader::Stored;
 
 // Whether the frame holds a good request.
 fn is_good(f: &[u8]) -> bool
-    ensures { result ≡ not (absent (goodRequest f.now)) }
+    ensures { result ≡ not (absent (good_request f.now)) }
 {
     let h = log::read_heading(f);
     let Heading::At {
@@ -30,8 +30,8 @@ fn is_good(f: &[u8]) -> bool
 
 // The readable form of a good request, without its LF.
 pub fn show_request(f: &[u8], out: &mut [u8]) -> Stored
-    requires { maxMadeFrame ≤ length out.old }
-    ensures { Fills (shownRequest f.now) out.old out.new result }
+    requires { max_made_frame ≤ length out.old }
+    ensures { Fills (shown_request f.now) out.old out.new result }
 {
     if !is_good(f) {
         return Stored::Unread;
@@ -42,8 +42,8 @@ pub fn show_request(f: &[u8], out: &mut [u8]) -> Stored
 
 // The frame of a readable request, which is given without its LF.
 pub fn pack_request(s: &[u8], out: &mut [u8]) -> Stored
-    requires { maxMadeFrame ≤ length out.old }
-    ensures { Fills (packedRequest s.now) out.old out.new result }
+    requires { max_made_frame ≤ length out.old }
+    ensures { Fills (packed_request s.now) out.old out.new result }
 {
     if !text::string::all_print(s) {
         return Stored::Unread;

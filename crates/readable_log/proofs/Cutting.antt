@@ -9,21 +9,21 @@ use borrow.Author.Tests.{ltb-true, ltb-false, not-true}
 use lib.Dec.{eqb, ltb}
 use lib.ListN.{length, take, drop, length-drop}
 use lib.Seq.{take_all, drop-drop, drop-length, length-take-le}
-use Rattle.limits.specs.Sizes.{maxLogLine}
+use Rattle.limits.specs.Sizes.{max_log_line}
 use Rattle.text.specs.Test.{if◌then◌else◌}
 use Rattle.text.specs.String.{Str}
 use Rattle.text.specs.Frame.{part}
 use Rattle.text.proofs.Tests.{by, and_left, and_right}
 use Rattle.text_search.specs.Search.{until, is}
-use Rattle.text_search.proofs.Searching.{until-fits}
+use Rattle.text_search.proofs.Searching.{until_fits}
 use Rattle.table_line.specs.Lines.{lines, onto}
 use Rattle.path_read.specs.declared.reader.Stored.{Stored}
 use Rattle.path_read.specs.declared.reader.Stored.TheVariants.{To, Unread}
-use Rattle.readable_lines.specs.Lines.{shownFor, shownLogLine, lineBy}
+use Rattle.readable_lines.specs.Lines.{shown_for, shown_log_line, line_by}
 use Rattle.readable_lines.specs.Steps.{Lays, lays, fails}
-use Rattle.readable_lines.proofs.Lining.{unended-line}
-use Rattle.readable_lines.proofs.Stored.{laid-to, laid-not}
-use Rattle.readable_laws.proofs.LogLines.{shown-line-good, good-line-short}
+use Rattle.readable_lines.proofs.Lining.{unended_line}
+use Rattle.readable_lines.proofs.Stored.{laid_to, laid_not}
+use Rattle.readable_laws.proofs.LogLines.{shown_line_good, good_line_short}
 use Rattle.readable_log.specs.Run.{LineEnds}
 
 -- ---- where a line ends
@@ -34,8 +34,8 @@ ended [] h = absurd (omega arith)
 ended (x ∷ s) h = by (eqb x 10) (λ u. rw u) (λ u. let h' = rw u at h in let i = ended s (omega arith) in rw (u, i))
 
 module _ (text : Str) (from : ℕ) (h : from < length text) (stop : ℕ) (e : stop ≡ from + until (is 10) (drop from text)) where
-  pub ends-after : stop < length text → LineEnds text from (stop + 1)
-  ends-after l =
+  pub ends_after : stop < length text → LineEnds text from (stop + 1)
+  ends_after l =
       let k : stop + 1 - from ≡ suc (until (is 10) (drop from text)) = omega arith in
       let m : from + suc (until (is 10) (drop from text)) ≡ stop + 1 = omega arith in
       let i = ended (drop from text) (omega (arith, length-drop from text)) in
@@ -45,9 +45,9 @@ module _ (text : Str) (from : ℕ) (h : from < length text) (stop : ℕ) (e : st
   ends_open l =
       let s = drop from text in
       let n = length-drop from text in
-      let f = until-fits (is 10) s in
+      let f = until_fits (is 10) s in
       let z : stop ≡ length text = omega arith in
-      let i = unended-line s (omega arith) (omega arith) in
+      let i = unended_line s (omega arith) (omega arith) in
       record {
         past = omega arith;
         inside = omega arith;
@@ -80,40 +80,40 @@ module _ (g : Str → Option Str) (text : Str) (from end : ℕ) (e : LineEnds te
   only : lines (part text from end) ≡ part text from end ∷ []
   only = alone (drop from text) (part text from end) (lines (drop end text)) e.first
 
-  pub cut-fails : {d d' : List ℕ} → g (part text from end) ≡ none → Lays g text from d d' Unread
-  cut-fails h = fails e.first h
+  pub cut_fails : {d d' : List ℕ} → g (part text from end) ≡ none → Lays g text from d d' Unread
+  cut_fails h = fails e.first h
 
   module _ {d d' : List ℕ} {q : Stored} (c : Lays g (part text from end) 0 d d' q) where
-    pub cut-unread : q ≡ Unread → Lays g text from d d' Unread
-    cut-unread h =
-        let u = laid-not c h in
+    pub cut_unread : q ≡ Unread → Lays g text from d d' Unread
+    cut_unread h =
+        let u = laid_not c h in
         let i : u.0 ∷ u.1 ≡ part text from end ∷ [] = sym u.2 ∙ only in
         let j : u.0 ≡ part text from end = cc in
         fails e.first (rw j at u.3)
 
-    pub cut-lays : {next made : ℕ} → q ≡ To next made → Lays g text from d d' (To end made)
-    cut-lays {next = next} h =
-        let u = laid-to c h in
+    pub cut_lays : {next made : ℕ} → q ≡ To next made → Lays g text from d d' (To end made)
+    cut_lays {next = next} h =
+        let u = laid_to c h in
         let i : u.0 ∷ lines (drop next (part text from end)) ≡ part text from end ∷ [] = sym u.2 ∙ only in
         let j : u.0 ≡ part text from end = cc in
         lays {next = end} e.first (rw j at u.3) u.4 u.5 e.past e.inside
 
-  pub cut-long : length (part text from end) ≡ end - from
-  cut-long = length-take-le (end - from) (drop from text) (omega (arith, e.inside, length-drop from text))
+  pub cut_long : length (part text from end) ≡ end - from
+  cut_long = length-take-le (end - from) (drop from text) (omega (arith, e.inside, length-drop from text))
 
 -- ---- a line that is too long
 
-too_long : (l : Str) → maxLogLine < length l → (o : Option Str) → shownLogLine l ≡ o → o ≡ none
+too_long : (l : Str) → max_log_line < length l → (o : Option Str) → shown_log_line l ≡ o → o ≡ none
 too_long l h none e = refl
-too_long l h (some r) e = let q = shown-line-good l r e in absurd (omega (arith, good-line-short l q.0 q.1))
+too_long l h (some r) e = let q = shown_line_good l r e in absurd (omega (arith, good_line_short l q.0 q.1))
 
 module _ (packing : Bool) (n : ℕ) where
-  pub long-line : (not packing && ltb maxLogLine n) ≡ true → (l : Str) → length l ≡ n → lineBy true packing l ≡ none
-  unfolding lineBy shownFor shownLogLine if◌then◌else◌
-  long-line h l e =
+  pub long_line : (not packing && ltb max_log_line n) ≡ true → (l : Str) → length l ≡ n → line_by true packing l ≡ none
+  unfolding line_by shown_for shown_log_line if◌then◌else◌
+  long_line h l e =
       let p : packing ≡ false = not-true packing (and_left _ _ h) in
-      let k : maxLogLine < n = ltb-true _ _ (and_right (not packing) _ h) in
-      rw p (too_long l (omega arith) (shownLogLine l) refl)
+      let k : max_log_line < n = ltb-true _ _ (and_right (not packing) _ h) in
+      rw p (too_long l (omega arith) (shown_log_line l) refl)
 
-  pub short-line : (not packing && ltb maxLogLine n) ≡ false → packing ≡ false → n ≤ maxLogLine
-  short-line h p = ltb-false maxLogLine n (rw p at h)
+  pub short_line : (not packing && ltb max_log_line n) ≡ false → packing ≡ false → n ≤ max_log_line
+  short_line h p = ltb-false max_log_line n (rw p at h)

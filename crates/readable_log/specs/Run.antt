@@ -4,7 +4,7 @@ use Rattle.std.proofs.Math.Option.{Option, none, some}
 use Rattle.text.specs.String.{Str}
 use Rattle.text.specs.Frame.{part}
 use Rattle.table_line.specs.Lines.{lines}
-use Rattle.readable_lines.specs.Steps.{maxMadeLine}
+use Rattle.readable_lines.specs.Steps.{max_made_line}
 use Rattle.readable_log.specs.declared.Run.{Run}
 
 -- w before what there is
@@ -28,14 +28,14 @@ pub record LineEnds (text : Str) (from end : ℕ) : Type 0 where
 -- stopped, g does not convert that one; elsewhere there was no more, or no more room
 pub record Runs (g : Str → Option Str) (text : Str) (most : ℕ) (d d' : List ℕ) (r : Run) : Type 0 where
   pub taken : List Str
-  pub text-is : lines text ≡ taken ++ lines (drop r.next text)
-  pub count-is : length taken ≡ r.count
+  pub text_is : lines text ≡ taken ++ lines (drop r.next text)
+  pub count_is : length taken ≡ r.count
   pub few : r.count ≤ most
   pub inside : r.next ≤ length text
   pub result : Str
-  pub result-is : converted g taken ≡ some result
+  pub result_is : converted g taken ≡ some result
   pub stands : take r.made d' ≡ result
-  pub made-is : r.made ≡ length result
+  pub made_is : r.made ≡ length result
   pub room : r.made ≤ length d'
   pub stops : r.stopped ≡ true → (l : Str) × (ls : List Str) × (lines (drop r.next text) ≡ l ∷ ls) × (g l ≡ none)
-  pub goes : r.stopped ≡ false → 0 < length text → 0 < most → maxMadeLine ≤ length d → 0 < r.next
+  pub goes : r.stopped ≡ false → 0 < length text → 0 < most → max_made_line ≤ length d → 0 < r.next

@@ -1,7 +1,7 @@
 // Lines of a log to readable lines, and back, as many at once as there is room for.
 ghost use Rattle.std.specs.Prelude.{true, ◌≤◌, ◌<◌, length};
-ghost use Rattle.readable_lines.specs.Lines.{lineBy};
-ghost use Rattle.readable_lines.specs.Steps.{maxMadeLine, Lays};
+ghost use Rattle.readable_lines.specs.Lines.{line_by};
+ghost use Rattle.readable_lines.specs.Steps.{max_made_line, Lays};
 ghost use Rattle.readable_log.specs.Run.{LineEnds, Runs};
 
 use path_read::reader::Stored;
@@ -30,8 +30,8 @@ fn line_end(text: &[u8], from: usize) -> usize
 
 // The line at `from`. `packing` makes the hex line of a readable one.
 fn convert_line(packing: bool, text: &[u8], from: usize, out: &mut [u8]) -> Stored
-    requires { (from < length text.now) × (maxMadeLine ≤ length out.old) }
-    ensures { Lays (lineBy true packing) text.now from out.old out.new result }
+    requires { (from < length text.now) × (max_made_line ≤ length out.old) }
+    ensures { Lays (line_by true packing) text.now from out.old out.new result }
 {
     let end = line_end(text, from);
     if !packing & (limits::MAX_LOG_LINE < end - from) {
@@ -49,7 +49,7 @@ fn convert_line(packing: bool, text: &[u8], from: usize, out: &mut [u8]) -> Stor
 
 // Converts lines of a text, `most` of them at most, as long as there is room in out for the longest.
 pub fn convert(packing: bool, text: &[u8], most: usize, out: &mut [u8]) -> Run
-    ensures { Runs (lineBy true packing) text.now most out.old out.new result }
+    ensures { Runs (line_by true packing) text.now most out.old out.new result }
 {
     let mut next = 0;
     let mut count = 0;

@@ -1,7 +1,7 @@
 // The parts of a readable line, as the bytes of a frame: each function stores the bytes of the part at `at` of s into out from `to` on.
 ghost use Rattle.std.specs.Prelude.{◌≡◌, ◌+◌, ◌≤◌, length};
-ghost use Rattle.limits.specs.Sizes.{maxQuoted};
-ghost use Rattle.readable_parts.specs.Parts.{packed, part_of, standsAt, packedString, packedTime, packedCode};
+ghost use Rattle.limits.specs.Sizes.{max_quoted};
+ghost use Rattle.readable_parts.specs.Parts.{packed, part_of, stands_at, packed_string, packed_time, packed_code};
 ghost use Rattle.readable_parts.specs.Steps.{Puts, longest};
 
 use path_read::reader::Stored;
@@ -9,8 +9,8 @@ use table_line::Line;
 
 // In brackets.
 fn string(s: &[u8], at: usize, out: &mut [u8], to: usize) -> Stored
-    requires { (to + maxQuoted ≤ length out.old) × (at ≤ length s.now) }
-    ensures { Puts maxQuoted packedString s.now at out.old to out.new result }
+    requires { (to + max_quoted ≤ length out.old) × (at ≤ length s.now) }
+    ensures { Puts max_quoted packed_string s.now at out.old to out.new result }
 {
     if s.len() <= at {
         return Stored::Unread;
@@ -24,7 +24,7 @@ fn string(s: &[u8], at: usize, out: &mut [u8], to: usize) -> Stored
 // The rest of the line, 16 digits.
 fn time(s: &[u8], at: usize, out: &mut [u8], to: usize) -> Stored
     requires { (to + 16 ≤ length out.old) × (at ≤ length s.now) }
-    ensures { Puts 16 packedTime s.now at out.old to out.new result }
+    ensures { Puts 16 packed_time s.now at out.old to out.new result }
 {
     if s.len() - at != 16 {
         return Stored::Unread;
@@ -49,7 +49,7 @@ fn time(s: &[u8], at: usize, out: &mut [u8], to: usize) -> Stored
 // The word w stands at `at`.
 fn stands_at(w: &[u8], s: &[u8], at: usize) -> bool
     requires { at ≤ length s.now }
-    ensures { result ≡ standsAt w.now s.now at }
+    ensures { result ≡ stands_at w.now s.now at }
 {
     if s.len() - at < w.len() {
         return false;
@@ -61,7 +61,7 @@ fn stands_at(w: &[u8], s: &[u8], at: usize) -> bool
 // The word a as the code byte n, the word b as the next one.
 fn code(s: &[u8], at: usize, n: u8, a: &[u8], b: &[u8], out: &mut [u8], to: usize) -> Stored
     requires { (to + 6 ≤ length out.old) × (at ≤ length s.now) × (n ≤ 1) }
-    ensures { Puts 6 (packedCode n a.now b.now) s.now at out.old to out.new result }
+    ensures { Puts 6 (packed_code n a.now b.now) s.now at out.old to out.new result }
 {
     if stands_at(a, s, at) {
         out[to] = n;

@@ -9,19 +9,19 @@ use borrow.Author.Tests.{lt-ltb, le-ltb, le-leb, leb-true}
 use lib.Dec.{leb}
 use lib.ListN.{length, take, drop, length-drop, drop_of_length-le}
 use lib.Seq.{take_all, drop-drop}
-use Rattle.limits.specs.Sizes.{maxPathText}
+use Rattle.limits.specs.Sizes.{max_path_text}
 use Rattle.text.specs.Test.{if◌then◌else◌}
 use Rattle.text.specs.String.{Str}
 use Rattle.text.specs.Frame.{unread}
 use Rattle.text.specs.Fill.{put}
 use Rattle.text.proofs.Tests.{by}
 use Rattle.path_read.specs.Calls.{answer, lent}
-use Rattle.path_read.proofs.Longest.{bytes-bound, text-bound}
+use Rattle.path_read.proofs.Longest.{bytes_bound, text_bound}
 use Rattle.path_read.specs.declared.Filled.{Filled}
 use Rattle.path_read.specs.declared.Filled.TheVariants.{Length, Refused}
 use Rattle.path_read.specs.declared.reader.Stored.TheVariants.{To}
-use Rattle.readable_parts.specs.Parts.{rest, ofRest}
-use Rattle.readable_parts.specs.Steps.{Puts, puts, pathFor}
+use Rattle.readable_parts.specs.Parts.{rest, of_rest}
+use Rattle.readable_parts.specs.Steps.{Puts, puts, path_for}
 
 -- what a call on path text answers
 module _ (out : List ℕ) (o : Option Str) (w : Filled) (i : w ≡ answer out o) where
@@ -60,8 +60,8 @@ unfolding put
 put_front d w = let z : 0 + length w ≡ length w = omega arith in rw z
 
 -- d, where the start of that part was filled
-pub part-put : (d : List ℕ) (to : ℕ) (w : List ℕ) → to ≤ length d → take to d ++ (put (from d to) 0 w ++ drop (length d - to) (drop to d)) ≡ put d to w
-part-put d to w h =
+pub part_put : (d : List ℕ) (to : ℕ) (w : List ℕ) → to ≤ length d → take to d ++ (put (from d to) 0 w ++ drop (length d - to) (drop to d)) ≡ put d to w
+part_put d to w h =
     let l : length (drop to d) ≤ length d - to = omega (arith, length-drop to d) in
     let a : drop (length d - to) (drop to d) ≡ [] = drop_of_length-le (drop to d) l in
     let b : put (from d to) 0 w ≡ w ++ drop (to + length w) d = ap (λ (z : List ℕ). put z 0 w) (tail d to h) ∙ put_front (drop to d) w ∙ ap (λ (z : List ℕ). w ++ z) (drop-drop (length w) to d) in
@@ -69,35 +69,35 @@ part-put d to w h =
 
 -- ---- what g makes of the rest
 
-pub rest-past : (g : Str → Option Str) (s : Str) (at : ℕ) → length s ≤ at → ofRest g s at ≡ unread
-unfolding ofRest if◌then◌else◌
-rest-past g s at h = rw (le-ltb _ _ h)
+pub rest_past : (g : Str → Option Str) (s : Str) (at : ℕ) → length s ≤ at → of_rest g s at ≡ unread
+unfolding of_rest if◌then◌else◌
+rest_past g s at h = rw (le-ltb _ _ h)
 
 module _ (g : Str → Option Str) (s : Str) (at : ℕ) (i : at < length s) where
-  rest-is : (o : Option Str) → g (from s at) ≡ o → ofRest g s at ≡ rest o (length s)
-  unfolding ofRest if◌then◌else◌
-  rest-is o e = let k : g (drop at s) ≡ o = rw (tail s at (omega arith)) at e in rw (lt-ltb _ _ i, k)
+  rest_is : (o : Option Str) → g (from s at) ≡ o → of_rest g s at ≡ rest o (length s)
+  unfolding of_rest if◌then◌else◌
+  rest_is o e = let k : g (drop at s) ≡ o = rw (tail s at (omega arith)) at e in rw (lt-ltb _ _ i, k)
 
   module _ (d : List ℕ) (to most : ℕ) (h : to + most ≤ length d) (b : (t w : Str) → g t ≡ some w → length w ≤ most) (r : Filled) (e : r ≡ answer (from d to) (g (from s at))) where
     room : length (from d to) ≡ length d - to
     room = ap length (tail d to (omega arith)) ∙ length-drop to d
 
-    pub rest-stops : (k : ℕ) → r ≡ Refused k → ofRest g s at ≡ unread
+    pub rest_stops : (k : ℕ) → r ≡ Refused k → of_rest g s at ≡ unread
     unfolding rest
-    rest-stops k f = rest-is none (unanswered (from d to) (g (from s at)) r e (λ w j. omega (arith, b (from s at) w j, room)) k f)
+    rest_stops k f = rest_is none (unanswered (from d to) (g (from s at)) r e (λ w j. omega (arith, b (from s at) w j, room)) k f)
 
     module _ (n : ℕ) (f : r ≡ Length n) where
-      pub rest-size : n ≤ most
-      rest-size = let a = answered (from d to) (g (from s at)) r e n f in omega (arith, a.2, b (from s at) a.0 a.1)
+      pub rest_size : n ≤ most
+      rest_size = let a = answered (from d to) (g (from s at)) r e n f in omega (arith, a.2, b (from s at) a.0 a.1)
 
-      pub rest-puts : (p : List ℕ) → p ≡ lent (from d to) (g (from s at)) → Puts most (ofRest g) s at d to (take to d ++ (p ++ drop (length d - to) (drop to d))) (To (length s) (to + n))
+      pub rest_puts : (p : List ℕ) → p ≡ lent (from d to) (g (from s at)) → Puts most (of_rest g) s at d to (take to d ++ (p ++ drop (length d - to) (drop to d))) (To (length s) (to + n))
       unfolding rest
-      rest-puts p j =
+      rest_puts p j =
           let a = answered (from d to) (g (from s at)) r e n f in
           let k : take to d ++ (p ++ drop (length d - to) (drop to d)) ≡ put d to a.0 =
-          ap (λ (z : List ℕ). take to d ++ (z ++ drop (length d - to) (drop to d))) (j ∙ a.4) ∙ part-put d to a.0 (omega arith) in
-          puts {to = to} {end = to + n} (rest-is (some a.0) a.1) (record { ends = omega (arith, a.2); same = k }) (b (from s at) a.0 a.1) (omega arith)
+          ap (λ (z : List ℕ). take to d ++ (z ++ drop (length d - to) (drop to d))) (j ∙ a.4) ∙ part_put d to a.0 (omega arith) in
+          puts {to = to} {end = to + n} (rest_is (some a.0) a.1) (record { ends = omega (arith, a.2); same = k }) (b (from s at) a.0 a.1) (omega arith)
 
-pub path-bound : (pack : Bool) (t w : Str) → pathFor pack t ≡ some w → length w ≤ maxPathText
-path-bound true t w e = omega (arith, bytes-bound t w e)
-path-bound false t w e = text-bound t w e
+pub path_bound : (pack : Bool) (t w : Str) → path_for pack t ≡ some w → length w ≤ max_path_text
+path_bound true t w e = omega (arith, bytes_bound t w e)
+path_bound false t w e = text_bound t w e

@@ -14,22 +14,22 @@ use Rattle.path_read.specs.declared.reader.Stored.TheVariants.{To, Unread}
 use Rattle.readable_parts.specs.Steps.{Puts, puts, stops}
 
 module _ {most : ℕ} {r : Reader Str} {s : Str} {at : ℕ} {d : List ℕ} {to : ℕ} {d' : List ℕ} where
-  pub put-to : {q : Stored} {next end : ℕ} → Puts most r s at d to d' q → q ≡ To next end
+  pub put_to : {q : Stored} {next end : ℕ} → Puts most r s at d to d' q → q ≡ To next end
       → (w : Str) × (r s at ≡ got w next) × Wrote d to w d' end × (length w ≤ most) × (next ≤ length s)
-  put-to {next = next} {end = end} (puts {w = w} {t = t} {end = e} i v b l) h =
+  put_to {next = next} {end = end} (puts {w = w} {t = t} {end = e} i v b l) h =
       let j : t ≡ next = cc in
       let k : e ≡ end = cc in
       (w, i ∙ ap (got w) j, rw k at v, b, rw j at l)
-  put-to (stops i) h = let z : ◌≡◌ {A = ℕ} 0 1 = cc in absurd (omega arith)
+  put_to (stops i) h = let z : ◌≡◌ {A = ℕ} 0 1 = cc in absurd (omega arith)
 
-  pub put-not : {q : Stored} → Puts most r s at d to d' q → q ≡ Unread → r s at ≡ unread
-  put-not (puts i v b l) h = let z : ◌≡◌ {A = ℕ} 0 1 = cc in absurd (omega arith)
-  put-not (stops i) h = i
+  pub put_not : {q : Stored} → Puts most r s at d to d' q → q ≡ Unread → r s at ≡ unread
+  put_not (puts i v b l) h = let z : ◌≡◌ {A = ℕ} 0 1 = cc in absurd (omega arith)
+  put_not (stops i) h = i
 
   -- the same of another reader that reads the same there, and of a greater bound
-  pub put-by : (r' : Reader Str) (more : ℕ) {q : Stored} → Puts most r s at d to d' q → r' s at ≡ r s at → most ≤ more → Puts more r' s at d to d' q
-  put-by r' more (puts i v b l) e h = puts (e ∙ i) v (omega arith) l
-  put-by r' more (stops i) e h = stops (e ∙ i)
+  pub put_by : (r' : Reader Str) (more : ℕ) {q : Stored} → Puts most r s at d to d' q → r' s at ≡ r s at → most ≤ more → Puts more r' s at d to d' q
+  put_by r' more (puts i v b l) e h = puts (e ∙ i) v (omega arith) l
+  put_by r' more (stops i) e h = stops (e ∙ i)
 
 -- the front of a buffer whose start was filled
 pub front : (d w d' : List ℕ) (end : ℕ) → Wrote d 0 w d' end → take end d' ≡ w

@@ -2,14 +2,14 @@
 -- a frame.
 use Rattle.std.specs.Prelude.{ℕ, ◌+◌, ◌-◌, ◌/◌, ◌%◌, Bool, cond, List, [], ◌∷◌, ◌++◌, eqb, leb, ltb, length, drop, get_or}
 use Rattle.std.proofs.Math.Option.{Option, none, some}
-use Rattle.limits.specs.Limits.{maxString}
+use Rattle.limits.specs.Limits.{max_string}
 use Rattle.text.specs.Test.{◌and◌, if◌then◌else◌}
 use Rattle.text.specs.String.{Str, bytes, same, joined}
-use Rattle.text.specs.Frame.{Parsed, got, unread, Reader, ◌>>=◌, ret, byte, part, string, stringBytes}
+use Rattle.text.specs.Frame.{Parsed, got, unread, Reader, ◌>>=◌, ret, byte, part, string, string_bytes}
 use Rattle.table_line.specs.Lines.{lines, frame}
 use Rattle.path_read.specs.Text.{escaped}
 use Rattle.path_read.specs.TextReader.{literal, value}
-use Rattle.path_read.specs.Calls.{bytesFor, textFor}
+use Rattle.path_read.specs.Calls.{bytes_for, text_for}
 use Rattle.table.specs.Frame.{unknown}
 
 -- ---- the parts of a line
@@ -42,8 +42,8 @@ rest none t = unread
 rest (some w) t = got w t
 
 -- what g makes of the rest, with which the frame or the line ends
-unfoldable pub ofRest : (Str → Option Str) → Reader Str
-ofRest g s at = if ltb at (length s) then rest (g (drop at s)) (length s) else unread
+unfoldable pub of_rest : (Str → Option Str) → Reader Str
+of_rest g s at = if ltb at (length s) then rest (g (drop at s)) (length s) else unread
 
 -- ---- shown, from a frame
 
@@ -52,48 +52,48 @@ unfoldable pub quoted : Str → Str
 quoted s = bytes "[" ++ (joined escaped s ++ bytes "]")
 
 -- the digit that stands for n
-abbrev pub hexDigit : ℕ → ℕ
-hexDigit n = cond (ltb n 10) (48 + n) (87 + n)
+abbrev pub hex_digit : ℕ → ℕ
+hex_digit n = cond (ltb n 10) (48 + n) (87 + n)
 
-unfoldable pub hexPair : ℕ → Str
-hexPair b = hexDigit (b / 16) ∷ hexDigit (b % 16) ∷ []
+unfoldable pub hex_pair : ℕ → Str
+hex_pair b = hex_digit (b / 16) ∷ hex_digit (b % 16) ∷ []
 
-unfoldable pub hexText : Str → Str
-hexText f = joined hexPair f
+unfoldable pub hex_text : Str → Str
+hex_text f = joined hex_pair f
 
 -- no string of a table is longer
-unfoldable pub shownString : Reader Str
-shownString = do
+unfoldable pub shown_string : Reader Str
+shown_string = do
   s ← string
-  if leb (length s) maxString then ret (quoted s) else unknown
+  if leb (length s) max_string then ret (quoted s) else unknown
 
 -- 8 bytes, with which the frame ends
-unfoldable pub shownTime : Reader Str
-shownTime f at = if eqb (length f - at) 8 then got (hexText (drop at f)) (length f) else unread
+unfoldable pub shown_time : Reader Str
+shown_time f at = if eqb (length f - at) 8 then got (hex_text (drop at f)) (length f) else unread
 
 -- path bytes, with which the frame ends
-unfoldable pub shownPath : Reader Str
-shownPath = ofRest textFor
+unfoldable pub shown_path : Reader Str
+shown_path = of_rest text_for
 
-unfoldable pub shownCode : ℕ → Str → Str → Reader Str
-shownCode n a b = do
+unfoldable pub shown_code : ℕ → Str → Str → Reader Str
+shown_code n a b = do
   c ← byte
   if eqb c n then ret a else if eqb c (n + 1) then ret b else unknown
 
-unfoldable pub shownPlain : ℕ → Reader Str
-shownPlain c = ret (c ∷ [])
+unfoldable pub shown_plain : ℕ → Reader Str
+shown_plain c = ret (c ∷ [])
 
 unfoldable pub shown : Parts
-shown = record { string = shownString; time = shownTime; path = shownPath; code = shownCode; plain = shownPlain }
+shown = record { string = shown_string; time = shown_time; path = shown_path; code = shown_code; plain = shown_plain }
 
 -- ---- packed, from a readable line
 
 -- [value]
-unfoldable pub packedString : Reader Str
-packedString = do
+unfoldable pub packed_string : Reader Str
+packed_string = do
   b ← literal 91
-  v ← value maxString
-  ret (stringBytes v)
+  v ← value max_string
+  ret (string_bytes v)
 
 -- the frame of a single hex line
 unfoldable pub alone : List Str → Option Str
@@ -102,25 +102,25 @@ alone (l ∷ []) = frame l
 alone (l ∷ m ∷ ls) = none
 
 -- 16 digits, with which the line ends
-unfoldable pub packedTime : Reader Str
-packedTime s at = if eqb (length s - at) 16 then rest (alone (lines (drop at s ++ (10 ∷ [])))) (length s) else unread
+unfoldable pub packed_time : Reader Str
+packed_time s at = if eqb (length s - at) 16 then rest (alone (lines (drop at s ++ (10 ∷ [])))) (length s) else unread
 
 -- path text, with which the line ends
-unfoldable pub packedPath : Reader Str
-packedPath = ofRest bytesFor
+unfoldable pub packed_path : Reader Str
+packed_path = of_rest bytes_for
 
 -- w stands at `at`
-unfoldable pub standsAt : Str → Str → ℕ → Bool
-standsAt w s at = leb (at + length w) (length s) and same (part s at (at + length w)) w
+unfoldable pub stands_at : Str → Str → ℕ → Bool
+stands_at w s at = leb (at + length w) (length s) and same (part s at (at + length w)) w
 
-unfoldable pub packedCode : ℕ → Str → Str → Reader Str
-packedCode n a b s at =
-    if standsAt a s at then got (n ∷ []) (at + length a)
-    else if standsAt b s at then got ((n + 1) ∷ []) (at + length b)
+unfoldable pub packed_code : ℕ → Str → Str → Reader Str
+packed_code n a b s at =
+    if stands_at a s at then got (n ∷ []) (at + length a)
+    else if stands_at b s at then got ((n + 1) ∷ []) (at + length b)
     else unread
 
-unfoldable pub packedPlain : ℕ → Reader Str
-packedPlain c s at = if ltb at (length s) and eqb (get_or s at 0) c then got [] (at + 1) else unread
+unfoldable pub packed_plain : ℕ → Reader Str
+packed_plain c s at = if ltb at (length s) and eqb (get_or s at 0) c then got [] (at + 1) else unread
 
 unfoldable pub packed : Parts
-packed = record { string = packedString; time = packedTime; path = packedPath; code = packedCode; plain = packedPlain }
+packed = record { string = packed_string; time = packed_time; path = packed_path; code = packed_code; plain = packed_plain }

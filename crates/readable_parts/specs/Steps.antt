@@ -1,21 +1,21 @@
 -- The answers of the programs that convert part by part, said of what is read there.
 use Rattle.std.specs.Prelude.{ℕ, ◌≤◌, ◌≡◌, Bool, true, false, List, eqb, length}
 use Rattle.std.proofs.Math.Option.{Option}
-use Rattle.limits.specs.Sizes.{maxPathText, maxQuoted}
+use Rattle.limits.specs.Sizes.{max_path_text, max_quoted}
 use Rattle.text.specs.Test.{if◌then◌else◌}
 use Rattle.text.specs.String.{Str}
 use Rattle.text.specs.Frame.{got, unread, Reader}
 use Rattle.text.specs.Steps.{Wrote}
-use Rattle.path_read.specs.Calls.{bytesFor, textFor}
+use Rattle.path_read.specs.Calls.{bytes_for, text_for}
 use Rattle.path_read.specs.declared.reader.Stored.{Stored}
 use Rattle.path_read.specs.declared.reader.Stored.TheVariants as stored
 
 -- the longest that a part can be, as text or in a frame: a string in brackets, escaped; 16 digits; the longest path text; `permit`
 unfoldable pub longest : ℕ → ℕ
 longest c =
-    if eqb c 83 then maxQuoted
+    if eqb c 83 then max_quoted
     else if eqb c 84 then 16
-    else if eqb c 80 then maxPathText
+    else if eqb c 80 then max_path_text
     else if eqb c 65 then 6
     else if eqb c 77 then 6
     else if eqb c 75 then 6
@@ -29,6 +29,6 @@ pub data Puts (most : ℕ) (r : Reader Str) (s : Str) (at : ℕ) : List ℕ → 
   stops : {d : List ℕ} {to : ℕ} {d' : List ℕ} → r s at ≡ unread → Puts most r s at d to d' stored.Unread
 
 -- what is made of a path: the bytes of its text, or the text of its bytes
-abbrev pub pathFor : Bool → Str → Option Str
-pathFor true = bytesFor
-pathFor false = textFor
+abbrev pub path_for : Bool → Str → Option Str
+path_for true = bytes_for
+path_for false = text_for

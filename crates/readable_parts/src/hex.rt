@@ -1,19 +1,19 @@
 // Bytes as hex digits.
 ghost use Rattle.std.specs.Prelude.{◌≡◌, ◌+◌, ◌≤◌, ◌<◌, length};
 ghost use Rattle.text.specs.Steps.{Wrote};
-ghost use Rattle.readable_parts.specs.Parts.{hexDigit, hexText};
+ghost use Rattle.readable_parts.specs.Parts.{hex_digit, hex_text};
 
 fn hex_digit(n: u8) -> u8
     requires { n < 16 }
-    ensures { result ≡ hexDigit n }
+    ensures { result ≡ hex_digit n }
 {
     if n < 10 { b'0' + n } else { b'a' - 10 + n }
 }
 
 // Stores the digits of f into out, from `at` on.
 pub fn write_hex(f: &[u8], out: &mut [u8], at: usize) -> usize
-    requires { at + length (hexText f.now) ≤ length out.old }
-    ensures { Wrote out.old at (hexText f.now) out.new result }
+    requires { at + length (hex_text f.now) ≤ length out.old }
+    ensures { Wrote out.old at (hex_text f.now) out.new result }
 {
     let mut p = at;
     let mut i = 0;

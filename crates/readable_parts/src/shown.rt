@@ -1,7 +1,7 @@
 // The parts of a frame, as text: each function stores the text of the part at `at` of f into out from `to` on.
 ghost use Rattle.std.specs.Prelude.{◌+◌, ◌≤◌, length};
-ghost use Rattle.limits.specs.Sizes.{maxQuoted};
-ghost use Rattle.readable_parts.specs.Parts.{shown, part_of, shownString, shownTime, shownCode};
+ghost use Rattle.limits.specs.Sizes.{max_quoted};
+ghost use Rattle.readable_parts.specs.Parts.{shown, part_of, shown_string, shown_time, shown_code};
 ghost use Rattle.readable_parts.specs.Steps.{Puts, longest};
 
 use path_read::reader::Stored;
@@ -9,8 +9,8 @@ use text::frame::End;
 
 // In brackets.
 fn string(f: &[u8], at: usize, out: &mut [u8], to: usize) -> Stored
-    requires { to + maxQuoted ≤ length out.old }
-    ensures { Puts maxQuoted shownString f.now at out.old to out.new result }
+    requires { to + max_quoted ≤ length out.old }
+    ensures { Puts max_quoted shown_string f.now at out.old to out.new result }
 {
     let e = text::frame::string_end(f, at);
     let End::At(end) = e else {
@@ -33,7 +33,7 @@ fn string(f: &[u8], at: usize, out: &mut [u8], to: usize) -> Stored
 // The rest of the frame, as 16 digits.
 fn time(f: &[u8], at: usize, out: &mut [u8], to: usize) -> Stored
     requires { (to + 16 ≤ length out.old) × (at ≤ length f.now) }
-    ensures { Puts 16 shownTime f.now at out.old to out.new result }
+    ensures { Puts 16 shown_time f.now at out.old to out.new result }
 {
     if f.len() - at != 8 {
         return Stored::Unread;
@@ -48,7 +48,7 @@ fn time(f: &[u8], at: usize, out: &mut [u8], to: usize) -> Stored
 // The code byte n as the word a, the next one as b.
 fn code(f: &[u8], at: usize, n: u8, a: &[u8], b: &[u8], out: &mut [u8], to: usize) -> Stored
     requires { (to + 6 ≤ length out.old) × (length a.now ≤ 6) × (length b.now ≤ 6) × (n ≤ 1) }
-    ensures { Puts 6 (shownCode n a.now b.now) f.now at out.old to out.new result }
+    ensures { Puts 6 (shown_code n a.now b.now) f.now at out.old to out.new result }
 {
     if f.len() <= at {
         return Stored::Unread;

@@ -6,39 +6,39 @@ use Rattle.text.specs.Refusal.{◌when◌else◌, clear}
 use Rattle.table.specs.Text.{unless}
 use Rattle.table.specs.declared.Checked.{Checked}
 use Rattle.table.specs.declared.Checked.TheVariants.{Accepted, Refused}
-use Rattle.rotation.specs.State.{noLength, given, off, on, recordRefusal, slotStart, candidateSlot, atRest}
+use Rattle.rotation.specs.State.{no_length, given, off, on, record_refusal, slot_start, candidate_slot, at_rest}
 use Rattle.rotation.specs.declared.Record.{Record}
 use Rattle.rotation.specs.declared.Stepped.{Stepped}
 
 -- ---- the refusals of each call; n is the store's length
 
 -- 12: "start while on"
-unfoldable pub startRefusal : Record → ℕ → ℕ
-startRefusal r n = recordRefusal r n (12 when on r else clear)
+unfoldable pub start_refusal : Record → ℕ → ℕ
+start_refusal r n = record_refusal r n (12 when on r else clear)
 
 -- 13: "upload, finalize or close while off"
-unfoldable pub offRefusal : Record → ℕ → ℕ
-offRefusal r n = recordRefusal r n (13 when off r else clear)
+unfoldable pub off_refusal : Record → ℕ → ℕ
+off_refusal r n = record_refusal r n (13 when off r else clear)
 
-unfoldable pub noCandidate : Record → Bool
-noCandidate r = not (given r.candidate_len)
+unfoldable pub no_candidate : Record → Bool
+no_candidate r = not (given r.candidate_len)
 
 -- 14: "finalize without candidate"
-unfoldable pub finalizeRefusal : Record → ℕ → ℕ
-finalizeRefusal r n = recordRefusal r n (13 when off r else 14 when noCandidate r else clear)
+unfoldable pub finalize_refusal : Record → ℕ → ℕ
+finalize_refusal r n = record_refusal r n (13 when off r else 14 when no_candidate r else clear)
 
-unfoldable pub otherKind : ℕ → Record → Bool
-otherKind kind r = not (eqb r.kind kind)
+unfoldable pub other_kind : ℕ → Record → Bool
+other_kind kind r = not (eqb r.kind kind)
 
 -- 16: "RPC probe on a kind 2 record, path or tree probe on a kind 1 record"; the probe is for records of that kind
-unfoldable pub probeRefusal : ℕ → Record → ℕ → ℕ
-probeRefusal kind r n = recordRefusal r n (16 when otherKind kind r else clear)
+unfoldable pub probe_refusal : ℕ → Record → ℕ → ℕ
+probe_refusal kind r n = record_refusal r n (16 when other_kind kind r else clear)
 
 -- ---- the record that an accepted call leaves
 
 -- "rotation on, no candidate"
 unfoldable pub started : Record → Record
-started r = record { kind = r.kind; live_slot = r.live_slot; live_len = r.live_len; rotating = 1; candidate_len = noLength }
+started r = record { kind = r.kind; live_slot = r.live_slot; live_len = r.live_len; rotating = 1; candidate_len = no_length }
 
 -- "the candidate gets its length"
 unfoldable pub uploaded : Record → ℕ → Record
@@ -46,11 +46,11 @@ uploaded r len = record { kind = r.kind; live_slot = r.live_slot; live_len = r.l
 
 -- "the candidate's slot and length become live, no candidate, rotation off"
 unfoldable pub finalized : Record → Record
-finalized r = atRest r (candidateSlot r) r.candidate_len
+finalized r = at_rest r (candidate_slot r) r.candidate_len
 
 -- "candidate dropped, rotation off"
 unfoldable pub closed : Record → Record
-closed r = atRest r r.live_slot r.live_len
+closed r = at_rest r r.live_slot r.live_len
 
 -- ---- the calls
 
@@ -60,28 +60,28 @@ stepped Accepted r next = record { next = next; answer = Accepted }
 stepped (Refused n l) r next = record { next = r; answer = Refused n l }
 
 unfoldable pub start : Record → ℕ → Stepped
-start r n = stepped (unless (startRefusal r n) 0 Accepted) r (started r)
+start r n = stepped (unless (start_refusal r n) 0 Accepted) r (started r)
 
 unfoldable pub finalize : Record → ℕ → Stepped
-finalize r n = stepped (unless (finalizeRefusal r n) 0 Accepted) r (finalized r)
+finalize r n = stepped (unless (finalize_refusal r n) 0 Accepted) r (finalized r)
 
 unfoldable pub close : Record → ℕ → Stepped
-close r n = stepped (unless (offRefusal r n) 0 Accepted) r (closed r)
+close r n = stepped (unless (off_refusal r n) 0 Accepted) r (closed r)
 
 -- "then the text offered": `check` judges a text, given the record's kind
 module _ (check : ℕ → Str → Checked) where
-  unfoldable pub uploadAnswer : Record → ℕ → Str → Checked
-  uploadAnswer r n text = unless (offRefusal r n) 0 (check r.kind text)
+  unfoldable pub upload_answer : Record → ℕ → Str → Checked
+  upload_answer r n text = unless (off_refusal r n) 0 (check r.kind text)
 
   unfoldable pub upload : Record → ℕ → Str → Stepped
-  upload r n text = stepped (uploadAnswer r n text) r (uploaded r (length text))
+  upload r n text = stepped (upload_answer r n text) r (uploaded r (length text))
 
 -- "stores exactly its bytes at the start of the slot that isn't live"; a refusal stores nothing
-unfoldable pub storedBy : Checked → Record → Str → Str → Str
-storedBy Accepted r store text = put store (slotStart (candidateSlot r)) text
-storedBy (Refused n l) r store text = store
+unfoldable pub stored_by : Checked → Record → Str → Str → Str
+stored_by Accepted r store text = put store (slot_start (candidate_slot r)) text
+stored_by (Refused n l) r store text = store
 
 module _ (check : ℕ → Str → Checked) where
   -- the store that an upload leaves; no other call stores to it
-  unfoldable pub uploadStore : Record → Str → Str → Str
-  uploadStore r store text = storedBy (uploadAnswer check r (length store) text) r store text
+  unfoldable pub upload_store : Record → Str → Str → Str
+  upload_store r store text = stored_by (upload_answer check r (length store) text) r store text

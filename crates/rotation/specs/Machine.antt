@@ -4,11 +4,11 @@ use Rattle.std.proofs.Math.Option.{Option, none, some}
 use Rattle.text.specs.Test.{if◌then◌else◌, absent}
 use Rattle.text.specs.String.{Str}
 use Rattle.text.specs.Refusal.{◌when◌else◌, clear}
-use Rattle.table.specs.Text.{unless, isAccepted}
+use Rattle.table.specs.Text.{unless, is_accepted}
 use Rattle.table.specs.declared.Checked.{Checked}
 use Rattle.table.specs.declared.Checked.TheVariants.{Accepted}
-use Rattle.rotation.specs.State.{given, on, shortStore, badRecord, candidateSlot, textIn}
-use Rattle.rotation.specs.Calls.{start, upload, uploadStore, finalize, close}
+use Rattle.rotation.specs.State.{given, on, short_store, bad_record, candidate_slot, text_in}
+use Rattle.rotation.specs.Calls.{start, upload, upload_store, finalize, close}
 use Rattle.rotation.specs.declared.Record.{Record}
 use Rattle.rotation.specs.declared.InForce.{InForce}
 use Rattle.rotation.specs.declared.InForce.TheVariants.{Text, Factory}
@@ -29,18 +29,18 @@ pub record Machine : Type 0 where
   pub rotating : Bool
 
 -- 12, 13 and 14
-unfoldable pub machineRefusal : Call → Machine → ℕ
-machineRefusal Start m = 12 when m.rotating else clear
-machineRefusal (Upload text) m = 13 when not m.rotating else clear
-machineRefusal Finalize m = 13 when not m.rotating else 14 when absent m.candidate else clear
-machineRefusal Close m = 13 when not m.rotating else clear
+unfoldable pub machine_refusal : Call → Machine → ℕ
+machine_refusal Start m = 12 when m.rotating else clear
+machine_refusal (Upload text) m = 13 when not m.rotating else clear
+machine_refusal Finalize m = 13 when not m.rotating else 14 when absent m.candidate else clear
+machine_refusal Close m = 13 when not m.rotating else clear
 
 -- what an accepted call leaves
-unfoldable pub machineNext : Call → Machine → Machine
-machineNext Start m = record { kind = m.kind; live = m.live; candidate = none; rotating = true }
-machineNext (Upload text) m = record { kind = m.kind; live = m.live; candidate = some text; rotating = m.rotating }
-machineNext Finalize m = record { kind = m.kind; live = m.candidate; candidate = none; rotating = false }
-machineNext Close m = record { kind = m.kind; live = m.live; candidate = none; rotating = false }
+unfoldable pub machine_next : Call → Machine → Machine
+machine_next Start m = record { kind = m.kind; live = m.live; candidate = none; rotating = true }
+machine_next (Upload text) m = record { kind = m.kind; live = m.live; candidate = some text; rotating = m.rotating }
+machine_next Finalize m = record { kind = m.kind; live = m.candidate; candidate = none; rotating = false }
+machine_next Close m = record { kind = m.kind; live = m.live; candidate = none; rotating = false }
 
 -- ---- record and store
 
@@ -50,27 +50,27 @@ pub record Lent : Type 0 where
   pub store : Str
 
 -- the text of a slot; none where there is no length
-unfoldable pub heldText : Str → ℕ → ℕ → Option Str
-heldText store slot len = if given len then some (textIn store slot len) else none
+unfoldable pub held_text : Str → ℕ → ℕ → Option Str
+held_text store slot len = if given len then some (text_in store slot len) else none
 
 -- the machine that record and store stand for
 unfoldable pub machine_of : Lent → Machine
 machine_of l = record {
   kind = l.state.kind;
-  live = heldText l.store l.state.live_slot l.state.live_len;
-  candidate = heldText l.store (candidateSlot l.state) l.state.candidate_len;
+  live = held_text l.store l.state.live_slot l.state.live_len;
+  candidate = held_text l.store (candidate_slot l.state) l.state.candidate_len;
   rotating = on l.state;
 }
 
 -- the text in force; none for factory
-unfoldable pub forceText : Str → InForce → Option Str
-forceText store (Text slot len) = some (textIn store slot len)
-forceText store Factory = none
+unfoldable pub force_text : Str → InForce → Option Str
+force_text store (Text slot len) = some (text_in store slot len)
+force_text store Factory = none
 
 -- neither 11 nor 15
 pub record Whole (l : Lent) : Type 0 where
-  pub long : shortStore (length l.store) ≡ false
-  pub good : badRecord l.state ≡ false
+  pub long : short_store (length l.store) ≡ false
+  pub good : bad_record l.state ≡ false
 
 -- `check` judges a text, given the record's kind
 module _ (check : ℕ → Str → Checked) where
@@ -81,11 +81,11 @@ module _ (check : ℕ → Str → Checked) where
   offered Finalize kind = Accepted
   offered Close kind = Accepted
 
-  unfoldable pub machineAnswer : Call → Machine → Checked
-  machineAnswer c m = unless (machineRefusal c m) 0 (offered c m.kind)
+  unfoldable pub machine_answer : Call → Machine → Checked
+  machine_answer c m = unless (machine_refusal c m) 0 (offered c m.kind)
 
-  unfoldable pub machineStep : Call → Machine → Machine
-  machineStep c m = if isAccepted (machineAnswer c m) then machineNext c m else m
+  unfoldable pub machine_step : Call → Machine → Machine
+  machine_step c m = if is_accepted (machine_answer c m) then machine_next c m else m
 
   -- what a call answers and leaves, by the definitions that its contract cites
   unfoldable pub answers : Call → Lent → Checked
@@ -96,14 +96,14 @@ module _ (check : ℕ → Str → Checked) where
 
   unfoldable pub leaves : Call → Lent → Lent
   leaves Start l = record { state = (start l.state (length l.store)).next; store = l.store }
-  leaves (Upload text) l = record { state = (upload check l.state (length l.store) text).next; store = uploadStore check l.state l.store text }
+  leaves (Upload text) l = record { state = (upload check l.state (length l.store) text).next; store = upload_store check l.state l.store text }
   leaves Finalize l = record { state = (finalize l.state (length l.store)).next; store = l.store }
   leaves Close l = record { state = (close l.state (length l.store)).next; store = l.store }
 
   -- record and store answer as the machine does, and go on standing for it
   pub record Follows (c : Call) (l : Lent) : Type 0 where
-    pub same_answer : answers c l ≡ machineAnswer c (machine_of l)
-    pub same_next : machine_of (leaves c l) ≡ machineStep c (machine_of l)
+    pub same_answer : answers c l ≡ machine_answer c (machine_of l)
+    pub same_next : machine_of (leaves c l) ≡ machine_step c (machine_of l)
     pub whole : Whole (leaves c l)
 
   -- after any number of calls

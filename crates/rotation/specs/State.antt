@@ -1,7 +1,7 @@
 -- What a record and a store say. "The record has a kind (1 policy, 2 table), the live slot and its length or none, whether a rotation is on, and
 -- the candidate's length or none."
 use Rattle.std.specs.Prelude.{ℕ, ◌*◌, Bool, not, eqb, ltb, take, drop}
-use Rattle.limits.specs.Limits.{slotLength, storeLength}
+use Rattle.limits.specs.Limits.{slot_length, store_length}
 use Rattle.text.specs.Test.{◌and◌, ◌or◌, if◌then◌else◌}
 use Rattle.text.specs.String.{Str}
 use Rattle.text.specs.Refusal.{◌when◌else◌}
@@ -10,12 +10,12 @@ use Rattle.rotation.specs.declared.InForce.{InForce}
 use Rattle.rotation.specs.declared.InForce.TheVariants.{Text, Factory}
 
 -- the number that stands for no length
-abbrev pub noLength : ℕ
-noLength = 4294967295
+abbrev pub no_length : ℕ
+no_length = 4294967295
 
 -- there is a length; 0 is one
 unfoldable pub given : ℕ → Bool
-given len = not (eqb len noLength)
+given len = not (eqb len no_length)
 
 -- no rotation is on
 unfoldable pub off : Record → Bool
@@ -27,50 +27,50 @@ on r = not (off r)
 -- ---- the refusals that every call shares
 
 -- 11: "store shorter than 65,536 bytes"
-unfoldable pub shortStore : ℕ → Bool
-shortStore n = ltb n storeLength
+unfoldable pub short_store : ℕ → Bool
+short_store n = ltb n store_length
 
-unfoldable pub badKind : Record → Bool
-badKind r = not (eqb r.kind 1 or eqb r.kind 2)
+unfoldable pub bad_kind : Record → Bool
+bad_kind r = not (eqb r.kind 1 or eqb r.kind 2)
 
 -- the live slot counts only where something is live
-unfoldable pub badSlot : Record → Bool
-badSlot r = given r.live_len and ltb 1 r.live_slot
+unfoldable pub bad_slot : Record → Bool
+bad_slot r = given r.live_len and ltb 1 r.live_slot
 
-unfoldable pub badLength : ℕ → Bool
-badLength len = given len and ltb slotLength len
+unfoldable pub bad_length : ℕ → Bool
+bad_length len = given len and ltb slot_length len
 
 -- 15: "record: kind not 1 or 2, slot over 1, length over 32,768, candidate while off"
-unfoldable pub badRecord : Record → Bool
-badRecord r = badKind r or badSlot r or badLength r.live_len or badLength r.candidate_len or off r and given r.candidate_len
+unfoldable pub bad_record : Record → Bool
+bad_record r = bad_kind r or bad_slot r or bad_length r.live_len or bad_length r.candidate_len or off r and given r.candidate_len
 
 -- "Calls on the record: 11, then 15, then" the call's own number
-unfoldable pub recordRefusal : Record → ℕ → ℕ → ℕ
-recordRefusal r n own = 11 when shortStore n else 15 when badRecord r else own
+unfoldable pub record_refusal : Record → ℕ → ℕ → ℕ
+record_refusal r n own = 11 when short_store n else 15 when bad_record r else own
 
 -- ---- the slots
 
 -- "the store is two slots of 32,768 bytes"
-abbrev pub slotStart : ℕ → ℕ
-slotStart slot = slot * slotLength
+abbrev pub slot_start : ℕ → ℕ
+slot_start slot = slot * slot_length
 
 -- "the slot that isn't live (slot 0 if none is live)"
-unfoldable pub candidateSlot : Record → ℕ
-candidateSlot r = if given r.live_len and eqb r.live_slot 0 then 1 else 0
+unfoldable pub candidate_slot : Record → ℕ
+candidate_slot r = if given r.live_len and eqb r.live_slot 0 then 1 else 0
 
 -- the text of that length at the start of a slot
-unfoldable pub textIn : Str → ℕ → ℕ → Str
-textIn store slot len = take len (drop (slotStart slot) store)
+unfoldable pub text_in : Str → ℕ → ℕ → Str
+text_in store slot len = take len (drop (slot_start slot) store)
 
 -- "what is in force: the candidate, else the live text, else factory"
-unfoldable pub inForce : Record → InForce
-inForce r =
-    if given r.candidate_len then Text (candidateSlot r) r.candidate_len
+unfoldable pub in_force : Record → InForce
+in_force r =
+    if given r.candidate_len then Text (candidate_slot r) r.candidate_len
     else if given r.live_len then Text r.live_slot r.live_len
     else Factory
 
 -- ---- the record where no rotation is on
 
 -- that slot and length live, "no candidate, rotation off"
-unfoldable pub atRest : Record → ℕ → ℕ → Record
-atRest r slot len = record { kind = r.kind; live_slot = slot; live_len = len; rotating = 0; candidate_len = noLength }
+unfoldable pub at_rest : Record → ℕ → ℕ → Record
+at_rest r slot len = record { kind = r.kind; live_slot = slot; live_len = len; rotating = 0; candidate_len = no_length }

@@ -14,9 +14,9 @@ use Rattle.table.specs.Table.{Table}
 use Rattle.verdict.specs.Order.{choose}
 use Rattle.verdict.specs.Verdict.{Request, decider, action, permits, word, answer, tree, NONE}
 use Rattle.verdict.specs.Orderly.{Orderly}
-use Rattle.table_rows.specs.Rules.{rulesIn}
+use Rattle.table_rows.specs.Rules.{rules_in}
 use Rattle.table.specs.declared.Checked.TheVariants.{Accepted}
-use Rattle.verdict_request.specs.Calls.{pathAnswer, treeAnswer}
+use Rattle.verdict_request.specs.Calls.{path_answer, tree_answer}
 use Rattle.verdict_request.specs.Either.{one_of}
 use Rattle.verdict_concern.specs.Concern.{Safe}
 use Rattle.table_membership.specs.Set.{UserGroups}
@@ -25,17 +25,17 @@ use Rattle.verdict_call.specs.Holding.{Holding}
 abbrev pub empty : Table
 empty = record { groups = []; members = []; rules = [] }
 
-no-decider : (q : Request) → decider empty q ≡ none
+no_decider : (q : Request) → decider empty q ≡ none
 unfolding decider choose
-no-decider q = refl
+no_decider q = refl
 
-no-tree : (q : Request) → tree empty q ≡ NONE
+no_tree : (q : Request) → tree empty q ≡ NONE
 unfolding tree permits action answer word decider choose
-no-tree q = refl
+no_tree q = refl
 
-pub factory-is : (whole : Bool) (number : ℕ) (q : Request)
-    → one_of whole (pathAnswer Accepted number (decider empty q)) (treeAnswer Accepted number (tree empty q)) ≡ one_of whole (pathAnswer Accepted number none) (treeAnswer Accepted number NONE)
-factory-is whole number q = rw (no-decider q, no-tree q)
+pub factory_is : (whole : Bool) (number : ℕ) (q : Request)
+    → one_of whole (path_answer Accepted number (decider empty q)) (tree_answer Accepted number (tree empty q)) ≡ one_of whole (path_answer Accepted number none) (tree_answer Accepted number NONE)
+factory_is whole number q = rw (no_decider q, no_tree q)
 
 orderly : Orderly empty
 unfolding twice
@@ -50,7 +50,7 @@ safe f starts holders h = record {
 }
 
 pub holding : (f starts holders : List ℕ) → Holding empty f starts holders 0
-unfolding rulesIn rows_of
+unfolding rules_in rows_of
 holding f starts holders = record { orderly = orderly; rules = refl; groups = λ i l. absurd (omega arith) }
 
 pub groups : (user : Str) (set : ℕ) → UserGroups empty user set

@@ -4,23 +4,23 @@ use Rattle.std.proofs.Math.Option.{none}
 use Rattle.text.specs.String.{Str}
 use Rattle.table.specs.declared.Checked.TheVariants.{Accepted}
 use Rattle.verdict.specs.Verdict.{NONE}
-use Rattle.verdict_request.specs.Calls.{requestRefusal, pathAnswer, pathVerdict, treeAnswer, treeVerdict}
+use Rattle.verdict_request.specs.Calls.{request_refusal, path_answer, path_verdict, tree_answer, tree_verdict}
 use Rattle.verdict_request.specs.Either.{one_of}
 use Rattle.verdict_request.specs.declared.Verdict.{Verdict}
 use Rattle.rotation.specs.declared.Record.{Record}
-use Rattle.rotation_probe.specs.Probe.{probePath, probeTree}
+use Rattle.rotation_probe.specs.Probe.{probe_path, probe_tree}
 
 -- without a text, as by a table without rules
-abbrev pub factoryAnswer : Bool → Str → ℕ → Str → Str → Verdict
-factoryAnswer whole user mode origin text =
+abbrev pub factory_answer : Bool → Str → ℕ → Str → Str → Verdict
+factory_answer whole user mode origin text =
     one_of whole
-    (pathAnswer Accepted (requestRefusal user mode origin text) none)
-    (treeAnswer Accepted (requestRefusal user mode origin text) NONE)
+    (path_answer Accepted (request_refusal user mode origin text) none)
+    (tree_answer Accepted (request_refusal user mode origin text) NONE)
 
 -- by a table text
-abbrev pub textAnswer : Bool → Str → Str → ℕ → Str → Str → Verdict
-textAnswer whole table user mode origin text = one_of whole (pathVerdict table user mode origin text) (treeVerdict table user mode origin text)
+abbrev pub text_answer : Bool → Str → Str → ℕ → Str → Str → Verdict
+text_answer whole table user mode origin text = one_of whole (path_verdict table user mode origin text) (tree_verdict table user mode origin text)
 
 -- by what is in force
-abbrev pub probeAnswer : Bool → Record → Str → Str → ℕ → Str → Str → Verdict
-probeAnswer whole r store user mode origin text = one_of whole (probePath r store user mode origin text) (probeTree r store user mode origin text)
+abbrev pub probe_answer : Bool → Record → Str → Str → ℕ → Str → Str → Verdict
+probe_answer whole r store user mode origin text = one_of whole (probe_path r store user mode origin text) (probe_tree r store user mode origin text)

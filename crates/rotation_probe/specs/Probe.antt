@@ -6,13 +6,13 @@ use Rattle.text.specs.String.{Str}
 use Rattle.text.specs.Refusal.{clear}
 use Rattle.table.specs.declared.Checked.TheVariants.{Accepted}
 use Rattle.verdict.specs.Verdict.{NONE}
-use Rattle.verdict_request.specs.Calls.{requestRefusal, pathAnswer, pathVerdict, treeAnswer, treeVerdict}
+use Rattle.verdict_request.specs.Calls.{request_refusal, path_answer, path_verdict, tree_answer, tree_verdict}
 use Rattle.verdict_request.specs.declared.PathAnswer.{PathAnswer}
 use Rattle.verdict_request.specs.declared.PathAnswer.TheVariants as path
 use Rattle.verdict_request.specs.declared.TreeAnswer.{TreeAnswer}
 use Rattle.verdict_request.specs.declared.TreeAnswer.TheVariants as trees
-use Rattle.rotation.specs.State.{textIn, inForce}
-use Rattle.rotation.specs.Calls.{probeRefusal}
+use Rattle.rotation.specs.State.{text_in, in_force}
+use Rattle.rotation.specs.Calls.{probe_refusal}
 use Rattle.rotation.specs.declared.Record.{Record}
 use Rattle.rotation.specs.declared.InForce.{InForce}
 use Rattle.rotation.specs.declared.InForce.TheVariants.{Text, Factory}
@@ -21,30 +21,30 @@ use Rattle.rotation.specs.declared.InForce.TheVariants.{Text, Factory}
 -- for records of that kind, and the store has n bytes
 module _ {A : Type 0} (refused : ℕ → A) (judged : InForce → A) where
   unfoldable pub probed : ℕ → Record → ℕ → A
-  probed kind r n = if eqb (probeRefusal kind r n) clear then judged (inForce r) else refused (probeRefusal kind r n)
+  probed kind r n = if eqb (probe_refusal kind r n) clear then judged (in_force r) else refused (probe_refusal kind r n)
 
 -- ---- the single-path verdict, for a record of kind 2
 
 -- factory: "kind 2 denies all"; "Factory has no text to judge, but the request still is."
-unfoldable pub pathOn : Str → Str → ℕ → Str → Str → InForce → PathAnswer
-pathOn store user mode origin text (Text slot len) = pathVerdict (textIn store slot len) user mode origin text
-pathOn store user mode origin text Factory = pathAnswer Accepted (requestRefusal user mode origin text) none
+unfoldable pub path_on : Str → Str → ℕ → Str → Str → InForce → PathAnswer
+path_on store user mode origin text (Text slot len) = path_verdict (text_in store slot len) user mode origin text
+path_on store user mode origin text Factory = path_answer Accepted (request_refusal user mode origin text) none
 
-abbrev pub pathRefused : ℕ → PathAnswer
-pathRefused number = path.Refused number 0
+abbrev pub path_refused : ℕ → PathAnswer
+path_refused number = path.Refused number 0
 
-unfoldable pub probePath : Record → Str → Str → ℕ → Str → Str → PathAnswer
-probePath r store user mode origin text = probed pathRefused (pathOn store user mode origin text) 2 r (length store)
+unfoldable pub probe_path : Record → Str → Str → ℕ → Str → Str → PathAnswer
+probe_path r store user mode origin text = probed path_refused (path_on store user mode origin text) 2 r (length store)
 
 -- ---- the tree verdict
 
 -- factory: "with tree NONE"
-unfoldable pub treeOn : Str → Str → ℕ → Str → Str → InForce → TreeAnswer
-treeOn store user mode origin text (Text slot len) = treeVerdict (textIn store slot len) user mode origin text
-treeOn store user mode origin text Factory = treeAnswer Accepted (requestRefusal user mode origin text) NONE
+unfoldable pub tree_on : Str → Str → ℕ → Str → Str → InForce → TreeAnswer
+tree_on store user mode origin text (Text slot len) = tree_verdict (text_in store slot len) user mode origin text
+tree_on store user mode origin text Factory = tree_answer Accepted (request_refusal user mode origin text) NONE
 
-abbrev pub treeRefused : ℕ → TreeAnswer
-treeRefused number = trees.Refused number 0
+abbrev pub tree_refused : ℕ → TreeAnswer
+tree_refused number = trees.Refused number 0
 
-unfoldable pub probeTree : Record → Str → Str → ℕ → Str → Str → TreeAnswer
-probeTree r store user mode origin text = probed treeRefused (treeOn store user mode origin text) 2 r (length store)
+unfoldable pub probe_tree : Record → Str → Str → ℕ → Str → Str → TreeAnswer
+probe_tree r store user mode origin text = probed tree_refused (tree_on store user mode origin text) 2 r (length store)

@@ -3,10 +3,10 @@ use Rattle.std.specs.Prelude.{ℕ, eqb, length}
 use Rattle.text.specs.Test.{if◌then◌else◌}
 use Rattle.text.specs.String.{Str}
 use Rattle.text.specs.Refusal.{clear}
-use Rattle.rpc.specs.Request.{rpcRefusal}
-use Rattle.rpc.specs.Call.{rpcVerdict}
+use Rattle.rpc.specs.Request.{rpc_refusal}
+use Rattle.rpc.specs.Call.{rpc_verdict}
 use Rattle.rpc.specs.declared.verdict.Verdict.TheVariants.{Refused}
-use Rattle.rotation.specs.State.{textIn}
+use Rattle.rotation.specs.State.{text_in}
 use Rattle.rotation.specs.declared.Record.{Record}
 use Rattle.rotation.specs.declared.InForce.{InForce}
 use Rattle.rotation.specs.declared.InForce.TheVariants.{Text, Factory}
@@ -14,16 +14,16 @@ use Rattle.rotation_probe.specs.Probe.{probed}
 use Rattle.rotation_probe.specs.declared.rpcs.RpcAnswer.{RpcAnswer}
 use Rattle.rotation_probe.specs.declared.rpcs.RpcAnswer.TheVariants.{PermitAll, Judged}
 
-abbrev pub rpcRefused : ℕ → RpcAnswer
-rpcRefused number = Judged (Refused number)
+abbrev pub rpc_refused : ℕ → RpcAnswer
+rpc_refused number = Judged (Refused number)
 
 -- factory: "kind 1 permits all"; "Factory has no text to judge, but the request still is."
-unfoldable pub factoryRpc : ℕ → RpcAnswer
-factoryRpc number = if eqb number clear then PermitAll else rpcRefused number
+unfoldable pub factory_rpc : ℕ → RpcAnswer
+factory_rpc number = if eqb number clear then PermitAll else rpc_refused number
 
-unfoldable pub rpcOn : Str → Str → Str → Str → InForce → RpcAnswer
-rpcOn store identity path headers (Text slot len) = Judged (rpcVerdict (textIn store slot len) identity path headers)
-rpcOn store identity path headers Factory = factoryRpc (rpcRefusal identity path headers)
+unfoldable pub rpc_on : Str → Str → Str → Str → InForce → RpcAnswer
+rpc_on store identity path headers (Text slot len) = Judged (rpc_verdict (text_in store slot len) identity path headers)
+rpc_on store identity path headers Factory = factory_rpc (rpc_refusal identity path headers)
 
-unfoldable pub probeRpc : Record → Str → Str → Str → Str → RpcAnswer
-probeRpc r store identity path headers = probed rpcRefused (rpcOn store identity path headers) 1 r (length store)
+unfoldable pub probe_rpc : Record → Str → Str → Str → Str → RpcAnswer
+probe_rpc r store identity path headers = probed rpc_refused (rpc_on store identity path headers) 1 r (length store)

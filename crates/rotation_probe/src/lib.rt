@@ -4,8 +4,8 @@ pub mod rpcs;
 
 ghost use Rattle.std.specs.Prelude.{◌≡◌, ◌≤◌, length};
 ghost use Rattle.text.specs.Frame.{part};
-ghost use Rattle.rotation_probe.specs.Probe.{probePath, probeTree};
-ghost use Rattle.rotation_probe.specs.Either.{factoryAnswer, textAnswer, probeAnswer};
+ghost use Rattle.rotation_probe.specs.Probe.{probe_path, probe_tree};
+ghost use Rattle.rotation_probe.specs.Either.{factory_answer, text_answer, probe_answer};
 
 use crate::force::Source;
 use rotation::Record;
@@ -13,7 +13,7 @@ use verdict_request::{PathAnswer, TreeAnswer, Verdict};
 
 // Kind 2 without a text: as a table without rules, which denies all.
 fn factory(user: &[u8], mode: u32, origin: &[u8], path: &[u8], whole: bool) -> Verdict
-    ensures { result ≡ factoryAnswer whole user.now mode origin.now path.now }
+    ensures { result ≡ factory_answer whole user.now mode origin.now path.now }
 {
     let f = [0u8; 1];
     let starts = [0u16; 1];
@@ -33,7 +33,7 @@ fn judge(
     whole: bool,
 ) -> Verdict
     requires { (start ≤ end) × (end ≤ length store.now) }
-    ensures { result ≡ textAnswer whole (part store.now start end) user.now mode origin.now path.now }
+    ensures { result ≡ text_answer whole (part store.now start end) user.now mode origin.now path.now }
 {
     verdict_call::verdict(&store[start..end], user, mode, origin, path, whole)
 }
@@ -48,7 +48,7 @@ fn probe(
     path: &[u8],
     whole: bool,
 ) -> Verdict
-    ensures { result ≡ probeAnswer whole r store.now user.now mode origin.now path.now }
+    ensures { result ≡ probe_answer whole r store.now user.now mode origin.now path.now }
 {
     let s = crate::force::find_source(r, store.len(), 2);
     match s {
@@ -67,7 +67,7 @@ pub fn probe_path(
     origin: &[u8],
     path: &[u8],
 ) -> PathAnswer
-    ensures { result ≡ probePath r store.now user.now mode origin.now path.now }
+    ensures { result ≡ probe_path r store.now user.now mode origin.now path.now }
 {
     verdict_request::answer::path_of(probe(r, store, user, mode, origin, path, false))
 }
@@ -81,7 +81,7 @@ pub fn probe_tree(
     origin: &[u8],
     path: &[u8],
 ) -> TreeAnswer
-    ensures { result ≡ probeTree r store.now user.now mode origin.now path.now }
+    ensures { result ≡ probe_tree r store.now user.now mode origin.now path.now }
 {
     verdict_request::answer::tree_of(probe(r, store, user, mode, origin, path, true))
 }

@@ -1,7 +1,7 @@
 // The RPC probe.
 ghost use Rattle.std.specs.Prelude.{◌≡◌};
-ghost use Rattle.rpc.specs.Request.{rpcRefusal};
-ghost use Rattle.rotation_probe.specs.Rpc.{factoryRpc, probeRpc};
+ghost use Rattle.rpc.specs.Request.{rpc_refusal};
+ghost use Rattle.rotation_probe.specs.Rpc.{factory_rpc, probe_rpc};
 
 use crate::force::Source;
 use rotation::Record;
@@ -17,7 +17,7 @@ pub enum RpcAnswer {
 
 // Kind 1 without a text permits all, once the request is judged.
 fn factory_rpc(identity: &[u8], path: &[u8], headers: &[u8]) -> RpcAnswer
-    ensures { result ≡ factoryRpc (rpcRefusal identity.now path.now headers.now) }
+    ensures { result ≡ factory_rpc (rpc_refusal identity.now path.now headers.now) }
 {
     let number = rpc_request::request::request_refusal(identity, path, headers);
     if number != limits::CLEAR {
@@ -28,7 +28,7 @@ fn factory_rpc(identity: &[u8], path: &[u8], headers: &[u8]) -> RpcAnswer
 
 // The answer for one RPC.
 pub fn probe_rpc(r: Record, store: &[u8], identity: &[u8], path: &[u8], headers: &[u8]) -> RpcAnswer
-    ensures { result ≡ probeRpc r store.now identity.now path.now headers.now }
+    ensures { result ≡ probe_rpc r store.now identity.now path.now headers.now }
 {
     let s = crate::force::find_source(r, store.len(), 1);
     match s {

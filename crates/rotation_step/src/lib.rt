@@ -2,7 +2,7 @@
 ghost use Rattle.std.specs.Prelude.{◌≡◌};
 ghost use Rattle.table.specs.Text.{unless};
 ghost use Rattle.table.specs.declared.Checked.TheVariants.{Accepted};
-ghost use Rattle.rotation.specs.Calls.{stepped, startRefusal, offRefusal, finalizeRefusal, uploaded, start, finalize, close};
+ghost use Rattle.rotation.specs.Calls.{stepped, start_refusal, off_refusal, finalize_refusal, uploaded, start, finalize, close};
 
 use rotation::{Record, Stepped};
 use table::Checked;
@@ -41,7 +41,7 @@ fn checked(number: u8) -> Checked
 
 // 11, 15 or 12; `CLEAR` for none.
 fn start_refusal(r: Record, n: usize) -> u8
-    ensures { result ≡ startRefusal r n }
+    ensures { result ≡ start_refusal r n }
 {
     if r.rotating == 0 {
         return rotation::state::refusal(r, n, limits::CLEAR);
@@ -51,7 +51,7 @@ fn start_refusal(r: Record, n: usize) -> u8
 
 // Of upload and close: 11, 15 or 13.
 pub fn off_refusal(r: Record, n: usize) -> u8
-    ensures { result ≡ offRefusal r n }
+    ensures { result ≡ off_refusal r n }
 {
     if r.rotating == 0 {
         return rotation::state::refusal(r, n, 13);
@@ -61,7 +61,7 @@ pub fn off_refusal(r: Record, n: usize) -> u8
 
 // 11, 15, 13 or 14.
 fn finalize_refusal(r: Record, n: usize) -> u8
-    ensures { result ≡ finalizeRefusal r n }
+    ensures { result ≡ finalize_refusal r n }
 {
     if r.rotating == 0 {
         return rotation::state::refusal(r, n, 13);

@@ -5,16 +5,16 @@ use Rattle.text.specs.String.{Str}
 use Rattle.table.specs.Text.{check}
 use Rattle.table.specs.declared.Checked.{Checked}
 use Rattle.table.specs.declared.Checked.TheVariants as checked
-use Rattle.policy.specs.Policy.{policyRefusal}
-use Rattle.policy_check.specs.Answer.{checkOf}
+use Rattle.policy.specs.Policy.{policy_refusal}
+use Rattle.policy_check.specs.Answer.{check_of}
 use Rattle.policy_check.specs.declared.check.Check.{Check}
 use Rattle.policy_check.specs.declared.check.Check.TheVariants as policy
 
 -- a policy's refusal carries no line
-unfoldable pub ofPolicy : Check → Checked
-ofPolicy policy.Accepted = checked.Accepted
-ofPolicy (policy.Refused n) = checked.Refused n 0
+unfoldable pub of_policy : Check → Checked
+of_policy policy.Accepted = checked.Accepted
+of_policy (policy.Refused n) = checked.Refused n 0
 
 -- a text offered to a record of that kind
-unfoldable pub offeredCheck : ℕ → Str → Checked
-offeredCheck kind text = if eqb kind 1 then ofPolicy (checkOf (policyRefusal text)) else check text
+unfoldable pub offered_check : ℕ → Str → Checked
+offered_check kind text = if eqb kind 1 then of_policy (check_of (policy_refusal text)) else check text

@@ -1,9 +1,9 @@
 // An upload, as a step by value: the whole text is checked before a byte of it is stored.
 ghost use Rattle.std.specs.Prelude.{◌≡◌, ◌+◌, ◌≤◌, length};
-ghost use Rattle.limits.specs.Limits.{slotLength};
+ghost use Rattle.limits.specs.Limits.{slot_length};
 ghost use Rattle.text.specs.Fill.{put};
-ghost use Rattle.rotation.specs.Calls.{uploadAnswer, upload, uploadStore};
-ghost use Rattle.rotation_upload.specs.Offered.{ofPolicy, offeredCheck};
+ghost use Rattle.rotation.specs.Calls.{upload_answer, upload, upload_store};
+ghost use Rattle.rotation_upload.specs.Offered.{of_policy, offered_check};
 
 use policy_check::check::Check;
 use rotation::{Record, Stepped};
@@ -11,7 +11,7 @@ use table::Checked;
 
 // A policy's refusal carries no line.
 fn of_policy(c: Check) -> Checked
-    ensures { result ≡ ofPolicy c }
+    ensures { result ≡ of_policy c }
 {
     match c {
         Check::Accepted => Checked::Accepted,
@@ -24,7 +24,7 @@ fn of_policy(c: Check) -> Checked
 
 // The check of a text offered to a record of that kind.
 fn check_offered(kind: u32, text: &[u8]) -> Checked
-    ensures { result ≡ offeredCheck kind text.now }
+    ensures { result ≡ offered_check kind text.now }
 {
     if kind == 1 {
         return of_policy(policy_check::check::check_policy(text));
@@ -34,7 +34,7 @@ fn check_offered(kind: u32, text: &[u8]) -> Checked
 
 // What an upload to a store of n bytes answers: 11, 15 or 13, else the check of the text.
 fn answer(r: Record, n: usize, text: &[u8]) -> Checked
-    ensures { result ≡ uploadAnswer offeredCheck r n text.now }
+    ensures { result ≡ upload_answer offered_check r n text.now }
 {
     let number = rotation_step::off_refusal(r, n);
     if number != limits::CLEAR {
@@ -48,7 +48,7 @@ fn answer(r: Record, n: usize, text: &[u8]) -> Checked
 
 // The text goes to the start of a slot.
 fn store_at(start: usize, text: &[u8], store: &mut [u8])
-    requires { (start + slotLength ≤ length store.old) × (length text.now ≤ slotLength) }
+    requires { (start + slot_length ≤ length store.old) × (length text.now ≤ slot_length) }
     ensures { store.new ≡ put store.old start text.now }
 {
     text::fill::copy(text, store, start);
@@ -56,8 +56,8 @@ fn store_at(start: usize, text: &[u8], store: &mut [u8])
 
 // The whole text is checked, then stored to the slot that is not live.
 pub fn upload(r: Record, store: &mut [u8], text: &[u8]) -> Stepped
-    ensures { (result ≡ upload offeredCheck r (length store.old) text.now)
-        × (store.new ≡ uploadStore offeredCheck r store.old text.now) }
+    ensures { (result ≡ upload offered_check r (length store.old) text.now)
+        × (store.new ≡ upload_store offered_check r store.old text.now) }
 {
     let n = store.len();
     let c = answer(r, n, text);

@@ -5,7 +5,7 @@ use Rattle.text.specs.Test.{◌and◌, if◌then◌else◌, all, any}
 use Rattle.text.specs.String.{Str}
 use Rattle.policy.specs.Policy.{Header, Rule, Policy}
 use Rattle.rpc.specs.Pattern.{matches}
-use Rattle.rpc.specs.Request.{Line, Request, headerValue}
+use Rattle.rpc.specs.Request.{Line, Request, header_value}
 use Rattle.rpc.specs.declared.verdict.Verdict.{Verdict}
 use Rattle.rpc.specs.declared.verdict.Verdict.TheVariants.{Refused, Denied, Permitted, Default}
 
@@ -15,17 +15,17 @@ listed [] v = true
 listed (p ∷ ps) v = any (λ (q : Str). matches q v) (p ∷ ps)
 
 -- "Entries of a list are alternatives"; `values` is never empty
-unfoldable pub headerMatches : List Line → Header → Bool
-headerMatches lines h = any (λ (p : Str). matches p (headerValue h.key lines)) h.values
+unfoldable pub header_matches : List Line → Header → Bool
+header_matches lines h = any (λ (p : Str). matches p (header_value h.key lines)) h.values
 
 -- "headers must all match"
-unfoldable pub ruleMatches : Request → Rule → Bool
-ruleMatches r u = listed u.principals r.identity and listed u.paths r.path and all (headerMatches r.headers) u.headers
+unfoldable pub rule_matches : Request → Rule → Bool
+rule_matches r u = listed u.principals r.identity and listed u.paths r.path and all (header_matches r.headers) u.headers
 
 -- the number of the first that passes, counted from k
-unfoldable pub firstFrom : {A : Type 0} → ℕ → (A → Bool) → List A → Option ℕ
-firstFrom k f [] = none
-firstFrom k f (x ∷ xs) = if f x then some k else firstFrom (suc k) f xs
+unfoldable pub first_from : {A : Type 0} → ℕ → (A → Bool) → List A → Option ℕ
+first_from k f [] = none
+first_from k f (x ∷ xs) = if f x then some k else first_from (suc k) f xs
 
 -- by the first allow rule that matches
 unfoldable pub allowed : Option ℕ → Verdict
@@ -38,7 +38,7 @@ decided none allow = allowed allow
 decided (some n) allow = Denied n
 
 unfoldable pub verdict : Policy → Request → Verdict
-verdict p r = decided (firstFrom 0 (ruleMatches r) p.deny) (firstFrom 0 (ruleMatches r) p.allow)
+verdict p r = decided (first_from 0 (rule_matches r) p.deny) (first_from 0 (rule_matches r) p.allow)
 
 -- the action: "default deny"
 unfoldable pub permits : Verdict → Bool

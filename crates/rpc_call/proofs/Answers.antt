@@ -11,18 +11,18 @@ use Rattle.text.specs.String.{Str, bytes}
 use Rattle.text.specs.Refusal.{clear}
 use Rattle.text.proofs.Tests.{by}
 use Rattle.json_grammar.specs.Json.{Json}
-use Rattle.json.specs.Scan.{whiteAt}
-use Rattle.json_tree.specs.Tree.{treeAt}
-use Rattle.policy.specs.Policy.{Policy, member, items, ruleIn, policyIn, policyRefusal, policyOf}
-use Rattle.policy.specs.Depth.{rulesDepth}
-use Rattle.limits.specs.Limits.{maxDepth}
+use Rattle.json.specs.Scan.{white_at}
+use Rattle.json_tree.specs.Tree.{tree_at}
+use Rattle.policy.specs.Policy.{Policy, member, items, rule_in, policy_in, policy_refusal, policy_of}
+use Rattle.policy.specs.Depth.{rules_depth}
+use Rattle.limits.specs.Limits.{max_depth}
 use Rattle.policy_check.specs.Place.{placed}
-use Rattle.policy_check.specs.Answer.{checkOf}
+use Rattle.policy_check.specs.Answer.{check_of}
 use Rattle.policy_check.specs.declared.check.Check.TheVariants as check
-use Rattle.policy_check.proofs.Accepted.{refused-is, policy-is}
-use Rattle.rpc.specs.Request.{Request, badText, badHeaders, rpcRefusal}
-use Rattle.rpc.specs.Verdict.{ruleMatches, firstFrom, allowed, decided, verdict}
-use Rattle.rpc.specs.Call.{request, verdictBy, refusedElse, rpcVerdict}
+use Rattle.policy_check.proofs.Accepted.{refused_is, policy_is}
+use Rattle.rpc.specs.Request.{Request, bad_text, bad_headers, rpc_refusal}
+use Rattle.rpc.specs.Verdict.{rule_matches, first_from, allowed, decided, verdict}
+use Rattle.rpc.specs.Call.{request, verdict_by, refused_else, rpc_verdict}
 use Rattle.rpc.specs.declared.verdict.Verdict.{Verdict}
 use Rattle.rpc.specs.declared.verdict.Verdict.TheVariants.{Refused, Denied, Permitted, Default}
 use Rattle.rpc_call.specs.Walk.{first_of}
@@ -31,69 +31,69 @@ use Rattle.rpc_call.specs.declared.rule.First.TheVariants as first
 
 -- ---- verdict_at
 
-first-at : (o : Option ℕ) (n : ℕ) → first_of o ≡ first.At n → o ≡ some n
+first_at : (o : Option ℕ) (n : ℕ) → first_of o ≡ first.At n → o ≡ some n
 unfolding first_of
-first-at none n e = let z : ◌≡◌ {A = ℕ} 0 1 = cc in absurd (omega arith)
-first-at (some m) n e = cc
+first_at none n e = let z : ◌≡◌ {A = ℕ} 0 1 = cc in absurd (omega arith)
+first_at (some m) n e = cc
 
-first-nothing : (o : Option ℕ) → first_of o ≡ first.Nothing → o ≡ none
+first_nothing : (o : Option ℕ) → first_of o ≡ first.Nothing → o ≡ none
 unfolding first_of
-first-nothing none e = refl
-first-nothing (some m) e = let z : ◌≡◌ {A = ℕ} 0 1 = cc in absurd (omega arith)
+first_nothing none e = refl
+first_nothing (some m) e = let z : ◌≡◌ {A = ℕ} 0 1 = cc in absurd (omega arith)
 
 module _ (r : Request) (j : Json) where
-  abbrev rulesFirst : Json → Option ℕ
-  rulesFirst l = firstFrom 0 (ruleMatches r) (map ruleIn (items l))
+  abbrev rules_first : Json → Option ℕ
+  rules_first l = first_from 0 (rule_matches r) (map rule_in (items l))
 
-  verdict-open : verdict (policyIn j) r ≡ decided (firstFrom 0 (ruleMatches r) (map ruleIn (items (member (bytes "deny_rules") j)))) (firstFrom 0 (ruleMatches r) (map ruleIn (items (member (bytes "allow_rules") j))))
-  unfolding verdict policyIn
-  verdict-open = refl
+  verdict_open : verdict (policy_in j) r ≡ decided (first_from 0 (rule_matches r) (map rule_in (items (member (bytes "deny_rules") j)))) (first_from 0 (rule_matches r) (map rule_in (items (member (bytes "allow_rules") j))))
+  unfolding verdict policy_in
+  verdict_open = refl
 
-  module _ (s : Str) (d : ℕ) (m : member (bytes "deny_rules") j ≡ placed rulesDepth s d) (f : First) (q : f ≡ first_of (firstFrom 0 (ruleMatches r) (map ruleIn (items (placed rulesDepth s d))))) where
-    pub verdict-denied : (n : ℕ) → f ≡ first.At n → Denied n ≡ verdict (policyIn j) r
+  module _ (s : Str) (d : ℕ) (m : member (bytes "deny_rules") j ≡ placed rules_depth s d) (f : First) (q : f ≡ first_of (first_from 0 (rule_matches r) (map rule_in (items (placed rules_depth s d))))) where
+    pub verdict_denied : (n : ℕ) → f ≡ first.At n → Denied n ≡ verdict (policy_in j) r
     unfolding decided
-    verdict-denied n e = sym (verdict-open ∙ ap (λ (o : Option ℕ). decided o (rulesFirst (member (bytes "allow_rules") j))) (ap rulesFirst m ∙ first-at _ n (sym q ∙ e)))
+    verdict_denied n e = sym (verdict_open ∙ ap (λ (o : Option ℕ). decided o (rules_first (member (bytes "allow_rules") j))) (ap rules_first m ∙ first_at _ n (sym q ∙ e)))
 
-    module _ (z : f ≡ first.Nothing) (a : ℕ) (k : member (bytes "allow_rules") j ≡ placed rulesDepth s a) (g : First) (p : g ≡ first_of (firstFrom 0 (ruleMatches r) (map ruleIn (items (placed rulesDepth s a))))) where
-      pub verdict-permitted : (n : ℕ) → g ≡ first.At n → Permitted n ≡ verdict (policyIn j) r
+    module _ (z : f ≡ first.Nothing) (a : ℕ) (k : member (bytes "allow_rules") j ≡ placed rules_depth s a) (g : First) (p : g ≡ first_of (first_from 0 (rule_matches r) (map rule_in (items (placed rules_depth s a))))) where
+      pub verdict_permitted : (n : ℕ) → g ≡ first.At n → Permitted n ≡ verdict (policy_in j) r
       unfolding decided allowed
-      verdict-permitted n e = sym (verdict-open ∙ ap₂ (λ (x y : Option ℕ). decided x y) (ap rulesFirst m ∙ first-nothing _ (sym q ∙ z)) (ap rulesFirst k ∙ first-at _ n (sym p ∙ e)))
+      verdict_permitted n e = sym (verdict_open ∙ ap₂ (λ (x y : Option ℕ). decided x y) (ap rules_first m ∙ first_nothing _ (sym q ∙ z)) (ap rules_first k ∙ first_at _ n (sym p ∙ e)))
 
-      pub verdict-default : g ≡ first.Nothing → Default ≡ verdict (policyIn j) r
+      pub verdict_default : g ≡ first.Nothing → Default ≡ verdict (policy_in j) r
       unfolding decided allowed
-      verdict-default e = sym (verdict-open ∙ ap₂ (λ (x y : Option ℕ). decided x y) (ap rulesFirst m ∙ first-nothing _ (sym q ∙ z)) (ap rulesFirst k ∙ first-nothing _ (sym p ∙ e)))
+      verdict_default e = sym (verdict_open ∙ ap₂ (λ (x y : Option ℕ). decided x y) (ap rules_first m ∙ first_nothing _ (sym q ∙ z)) (ap rules_first k ∙ first_nothing _ (sym p ∙ e)))
 
 -- ---- rpc_verdict
 
-unless-refused : (n : ℕ) (v : Verdict) → (n ≡ clear → ⊥) → refusedElse n v ≡ Refused n
-unfolding refusedElse if◌then◌else◌
-unless-refused n v h = rw (ne_eqb n clear h)
+unless_refused : (n : ℕ) (v : Verdict) → (n ≡ clear → ⊥) → refused_else n v ≡ Refused n
+unfolding refused_else if◌then◌else◌
+unless_refused n v h = rw (ne_eqb n clear h)
 
-unless-clear : (n : ℕ) (v : Verdict) → n ≡ clear → refusedElse n v ≡ v
-unfolding refusedElse if◌then◌else◌
-unless-clear n v h = rw (eq-eqb n clear h)
+unless_clear : (n : ℕ) (v : Verdict) → n ≡ clear → refused_else n v ≡ v
+unfolding refused_else if◌then◌else◌
+unless_clear n v h = rw (eq-eqb n clear h)
 
-by-policy : (p : Policy) (r : Request) → verdictBy (some p) r ≡ verdict p r
-unfolding verdictBy
-by-policy p r = refl
+by_policy : (p : Policy) (r : Request) → verdict_by (some p) r ≡ verdict p r
+unfolding verdict_by
+by_policy p r = refl
 
 module _ (policy identity path headers : Str) where
-  call-open : rpcVerdict policy identity path headers ≡ refusedElse (policyRefusal policy) (refusedElse (rpcRefusal identity path headers) (verdictBy (policyOf policy) (request identity path headers)))
-  unfolding rpcVerdict
-  call-open = refl
+  call_open : rpc_verdict policy identity path headers ≡ refused_else (policy_refusal policy) (refused_else (rpc_refusal identity path headers) (verdict_by (policy_of policy) (request identity path headers)))
+  unfolding rpc_verdict
+  call_open = refl
 
-  pub policy-refused : (n : ℕ) → check.Refused n ≡ checkOf (policyRefusal policy) → Refused n ≡ rpcVerdict policy identity path headers
-  policy-refused n h = let z = refused-is n (policyRefusal policy) h in ap Refused z.0 ∙ sym (call-open ∙ unless-refused _ _ z.1)
+  pub policy_refused : (n : ℕ) → check.Refused n ≡ check_of (policy_refusal policy) → Refused n ≡ rpc_verdict policy identity path headers
+  policy_refused n h = let z = refused_is n (policy_refusal policy) h in ap Refused z.0 ∙ sym (call_open ∙ unless_refused _ _ z.1)
 
-  module _ (c : policyRefusal policy ≡ clear) where
-    pub request-refused : (n : ℕ) → n ≡ rpcRefusal identity path headers → (n ≡ clear → ⊥) → Refused n ≡ rpcVerdict policy identity path headers
-    request-refused n e z = ap Refused e ∙ sym (call-open ∙ unless-clear _ _ c ∙ unless-refused _ _ (λ x. z (e ∙ x)))
+  module _ (c : policy_refusal policy ≡ clear) where
+    pub request_refused : (n : ℕ) → n ≡ rpc_refusal identity path headers → (n ≡ clear → ⊥) → Refused n ≡ rpc_verdict policy identity path headers
+    request_refused n e z = ap Refused e ∙ sym (call_open ∙ unless_clear _ _ c ∙ unless_refused _ _ (λ x. z (e ∙ x)))
 
-    pub request-judged : (i : ℕ) → i ≡ whiteAt policy 0 → rpcRefusal identity path headers ≡ clear → (v : Verdict) → v ≡ verdict (policyIn (treeAt maxDepth policy i)) (request identity path headers) → v ≡ rpcVerdict policy identity path headers
-    request-judged i w f v e = e ∙ sym (call-open ∙ unless-clear _ _ c ∙ unless-clear _ _ f ∙ ap (λ (o : Option Policy). verdictBy o (request identity path headers)) (policy-is policy c i w) ∙ by-policy _ _)
+    pub request_judged : (i : ℕ) → i ≡ white_at policy 0 → rpc_refusal identity path headers ≡ clear → (v : Verdict) → v ≡ verdict (policy_in (tree_at max_depth policy i)) (request identity path headers) → v ≡ rpc_verdict policy identity path headers
+    request_judged i w f v e = e ∙ sym (call_open ∙ unless_clear _ _ c ∙ unless_clear _ _ f ∙ ap (λ (o : Option Policy). verdict_by o (request identity path headers)) (policy_is policy c i w) ∙ by_policy _ _)
 
-pub headers-good : (identity path headers : Str) → rpcRefusal identity path headers ≡ clear → badHeaders headers ≡ false
-unfolding rpcRefusal if◌then◌else◌
-headers-good identity path headers e =
-    by (badText identity or badText path) (λ t. let z : ◌≡◌ {A = ℕ} 40 clear = rw t at e in absurd (omega arith))
-    (λ t. by (badHeaders headers) (λ u. let z : ◌≡◌ {A = ℕ} 41 clear = rw (t, u) at e in absurd (omega arith)) (λ u. u))
+pub headers_good : (identity path headers : Str) → rpc_refusal identity path headers ≡ clear → bad_headers headers ≡ false
+unfolding rpc_refusal if◌then◌else◌
+headers_good identity path headers e =
+    by (bad_text identity or bad_text path) (λ t. let z : ◌≡◌ {A = ℕ} 40 clear = rw t at e in absurd (omega arith))
+    (λ t. by (bad_headers headers) (λ u. let z : ◌≡◌ {A = ℕ} 41 clear = rw (t, u) at e in absurd (omega arith)) (λ u. u))

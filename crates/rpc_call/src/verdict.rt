@@ -1,12 +1,12 @@
 // The RPC verdict on a policy text and a request, with every refusal.
 ghost use Rattle.std.specs.Prelude.{◌≡◌, false, ◌≤◌, length};
-ghost use Rattle.limits.specs.Limits.{maxDepth};
-ghost use Rattle.json_tree.specs.Tree.{treeAt, Stands};
-ghost use Rattle.policy.specs.Policy.{policyIn};
-ghost use Rattle.rpc.specs.Request.{badHeaders};
-ghost use Rattle.rpc_request.specs.Index.{fewBytes, Ready};
+ghost use Rattle.limits.specs.Limits.{max_depth};
+ghost use Rattle.json_tree.specs.Tree.{tree_at, Stands};
+ghost use Rattle.policy.specs.Policy.{policy_in};
+ghost use Rattle.rpc.specs.Request.{bad_headers};
+ghost use Rattle.rpc_request.specs.Index.{few_bytes, Ready};
 ghost use Rattle.rpc.specs.Verdict.{verdict};
-ghost use Rattle.rpc.specs.Call.{request, rpcVerdict};
+ghost use Rattle.rpc.specs.Call.{request, rpc_verdict};
 
 use crate::rule::First;
 use policy_check::check::Check;
@@ -25,8 +25,8 @@ fn judge(
     before: &[u16],
     out: &mut [u8],
 ) -> Verdict
-    requires { Stands maxDepth s.now i × Ready seed headers.now last.now before.now out.old }
-    ensures { result ≡ verdict (policyIn (treeAt maxDepth s.now i))
+    requires { Stands max_depth s.now i × Ready seed headers.now last.now before.now out.old }
+    ensures { result ≡ verdict (policy_in (tree_at max_depth s.now i))
         (request identity.now path.now headers.now) }
 {
     let d = policy_check::place::member_at(s, i, b"deny_rules", limits::MAX_DEPTH);
@@ -44,8 +44,8 @@ fn judge(
 
 // The same for a few header lines, which get smaller arrays.
 fn verdict_on_few(s: &[u8], i: usize, identity: &[u8], path: &[u8], headers: &[u8]) -> Verdict
-    requires { Stands maxDepth s.now i × (badHeaders headers.now ≡ false) × (length headers.now ≤ fewBytes) }
-    ensures { result ≡ verdict (policyIn (treeAt maxDepth s.now i))
+    requires { Stands max_depth s.now i × (bad_headers headers.now ≡ false) × (length headers.now ≤ few_bytes) }
+    ensures { result ≡ verdict (policy_in (tree_at max_depth s.now i))
         (request identity.now path.now headers.now) }
 {
     let seed = rpc_request::index::factors(s, headers);
@@ -60,8 +60,8 @@ fn verdict_on_few(s: &[u8], i: usize, identity: &[u8], path: &[u8], headers: &[u
 
 // The policy at i: deny rules first, then allow rules.
 fn verdict_at(s: &[u8], i: usize, identity: &[u8], path: &[u8], headers: &[u8]) -> Verdict
-    requires { Stands maxDepth s.now i × (badHeaders headers.now ≡ false) }
-    ensures { result ≡ verdict (policyIn (treeAt maxDepth s.now i))
+    requires { Stands max_depth s.now i × (bad_headers headers.now ≡ false) }
+    ensures { result ≡ verdict (policy_in (tree_at max_depth s.now i))
         (request identity.now path.now headers.now) }
 {
     if headers.len() <= rpc_request::index::FEW_BYTES {
@@ -79,7 +79,7 @@ fn verdict_at(s: &[u8], i: usize, identity: &[u8], path: &[u8], headers: &[u8]) 
 
 // The refusal of the policy, that of the request, or the answer for the RPC.
 pub fn rpc_verdict(policy: &[u8], identity: &[u8], path: &[u8], headers: &[u8]) -> Verdict
-    ensures { result ≡ rpcVerdict policy.now identity.now path.now headers.now }
+    ensures { result ≡ rpc_verdict policy.now identity.now path.now headers.now }
 {
     let c = policy_check::check::check_policy(policy);
     if let Check::Refused(number) = c {

@@ -2,34 +2,34 @@
 -- that equal names share one is used. A bucket is a place of the project's hash, whose factors are drawn from the input.
 use Rattle.std.specs.Prelude.{◌≡◌, Bool, false, List, [], ◌∷◌, ℕ, ◌+◌, ◌*◌, ◌/◌, ◌≤◌, ◌<◌, eqb, length, get_or}
 use Rattle.std.proofs.Math.Option.{some}
-use Rattle.limits.specs.Limits.{maxHeaderLines}
-use Rattle.text.specs.Test.{only, orNothing}
+use Rattle.limits.specs.Limits.{max_header_lines}
+use Rattle.text.specs.Test.{only, or_nothing}
 use Rattle.text.specs.String.{Str}
 use Rattle.text.specs.Frame.{part}
 use Rattle.text_hash.specs.Mix.{Small, place_of}
 use Rattle.text_hash.specs.declared.Seed.{Seed}
-use Rattle.rpc.specs.Request.{Line, cut_at, line_of, headersOf, badHeaders}
+use Rattle.rpc.specs.Request.{Line, cut_at, line_of, headers_of, bad_headers}
 use Rattle.rpc_request.specs.Steps.{Cut}
 
 -- how many buckets; any number would do
-abbrev pub bucketCount : ℕ
-bucketCount = 256
+abbrev pub bucket_count : ℕ
+bucket_count = 256
 
 -- so many bytes of header lines are few
-abbrev pub fewBytes : ℕ
-fewBytes = maxHeaderLines / 16
+abbrev pub few_bytes : ℕ
+few_bytes = max_header_lines / 16
 
 -- how many links so many bytes need: a line has three bytes or more, so no two lines have the same third of where they start
-abbrev pub placesFor : ℕ → ℕ
-placesFor n = n / 3 + 1
+abbrev pub places_for : ℕ → ℕ
+places_for n = n / 3 + 1
 
 -- a number that equal names share
-abbrev pub bucketOf : Seed → Str → ℕ
-bucketOf seed name = place_of seed bucketCount name
+abbrev pub bucket_of : Seed → Str → ℕ
+bucket_of seed name = place_of seed bucket_count name
 
 -- the name of a line has the bucket b
-unfoldable pub inBucket : Seed → ℕ → Line → Bool
-inBucket seed b x = eqb (bucketOf seed x.name) b
+unfoldable pub in_bucket : Seed → ℕ → Line → Bool
+in_bucket seed b x = eqb (bucket_of seed x.name) b
 
 -- the line x stands at p, and its LF at e
 pub record LineAt (h : Str) (p e : ℕ) (x : Line) : Type 0 where
@@ -50,21 +50,21 @@ onto (x ∷ l) r = onto l (x ∷ r)
 
 -- good header lines, and the two arrays of their index before the first of them is in it
 pub record Blank (seed : Seed) (h last before : Str) : Type 0 where
-  pub good : badHeaders h ≡ false
+  pub good : bad_headers h ≡ false
   pub small : Small seed
-  pub buckets : length last ≡ bucketCount
+  pub buckets : length last ≡ bucket_count
   pub places : length h ≤ 3 * length before
-  pub empty : (b : ℕ) → b < bucketCount → get_or last b 0 ≡ maxHeaderLines
+  pub empty : (b : ℕ) → b < bucket_count → get_or last b 0 ≡ max_header_lines
 
 -- a chain for each bucket, from what `last` has for it
 pub record Indexed (seed : Seed) (h last before : Str) : Type 0 where
   pub back : List Line
-  pub is : orNothing (headersOf h) ≡ onto back []
-  pub short : length h ≤ maxHeaderLines
+  pub is : or_nothing (headers_of h) ≡ onto back []
+  pub short : length h ≤ max_header_lines
   pub small : Small seed
-  pub buckets : length last ≡ bucketCount
+  pub buckets : length last ≡ bucket_count
   pub places : length h ≤ 3 * length before
-  pub chains : (b : ℕ) → b < bucketCount → Chain h before (length h) (get_or last b 0) (only (inBucket seed b) back)
+  pub chains : (b : ℕ) → b < bucket_count → Chain h before (length h) (get_or last b 0) (only (in_bucket seed b) back)
 
 -- an index of the header lines, and room for the value of a header
 pub record Ready (seed : Seed) (h last before out : Str) : Type 0 where

@@ -1,19 +1,19 @@
 -- What the programs answer step by step: header lines by position, and the joined value of a header.
 use Rattle.std.specs.Prelude.{◌≡◌, true, false, List, [], ◌∷◌, ◌++◌, ℕ, suc, ◌+◌, ◌≤◌, ◌<◌, ltb, length, drop}
 use Rattle.std.proofs.Math.Option.{Option, none, some}
-use Rattle.text.specs.Test.{if◌then◌else◌, absent, orNothing}
+use Rattle.text.specs.Test.{if◌then◌else◌, absent, or_nothing}
 use Rattle.text.specs.String.{Str}
 use Rattle.text.specs.Frame.{part}
-use Rattle.rpc.specs.Request.{Line, cut_at, line_of, lines_of, headersOf, values_of, headerValue}
+use Rattle.rpc.specs.Request.{Line, cut_at, line_of, lines_of, headers_of, values_of, header_value}
 use Rattle.rpc_request.specs.declared.index.Span.{Span}
 
 -- the bytes from `from` on, cut at e; no cut where e is the end
-unfoldable pub cutHere : List ℕ → ℕ → ℕ → Option (Str × Str)
-cutHere h from e = if ltb e (length h) then some (part h from e, drop (e + 1) h) else none
+unfoldable pub cut_here : List ℕ → ℕ → ℕ → Option (Str × Str)
+cut_here h from e = if ltb e (length h) then some (part h from e, drop (e + 1) h) else none
 
 -- r is where the first byte b stands from `from` on
 pub record Cut (b : ℕ) (h : List ℕ) (from r : ℕ) : Type 0 where
-  pub is : cut_at b (drop from h) ≡ cutHere h from r
+  pub is : cut_at b (drop from h) ≡ cut_here h from r
   pub low : from ≤ r
   pub high : r ≤ length h
 
@@ -28,16 +28,16 @@ unfoldable pub commaed : List Str → Str
 commaed [] = []
 commaed (v ∷ l) = 44 ∷ (v ++ commaed l)
 
-unfoldable pub oneLine : Option Line → List Line
-oneLine none = []
-oneLine (some x) = x ∷ []
+unfoldable pub one_line : Option Line → List Line
+one_line none = []
+one_line (some x) = x ∷ []
 
 -- what the line l adds to the values of the header
-unfoldable pub lineValue : Str → Str → Str
-lineValue key l = commaed (values_of key (oneLine (line_of (cut_at 58 l))))
+unfoldable pub line_value : Str → Str → Str
+line_value key l = commaed (values_of key (one_line (line_of (cut_at 58 l))))
 
 -- r is where the value of the header stands in `out`
 pub record Joined (key h out : Str) (r : Span) : Type 0 where
-  pub is : part out r.from r.to ≡ headerValue key (orNothing (headersOf h))
+  pub is : part out r.from r.to ≡ header_value key (or_nothing (headers_of h))
   pub low : r.from ≤ r.to
   pub high : r.to ≤ length out

@@ -1,7 +1,7 @@
 // Header lines: `name`, `:`, `value`, LF.
 ghost use Rattle.std.specs.Prelude.{◌≡◌, not, ◌+◌, ◌≤◌, ◌<◌, length};
 ghost use Rattle.text.specs.Test.{absent};
-ghost use Rattle.rpc.specs.Request.{headersOf, badHeaders};
+ghost use Rattle.rpc.specs.Request.{headers_of, bad_headers};
 ghost use Rattle.rpc_request.specs.Steps.{Cut, LineEnd};
 
 // Where the first byte b from `at` on stands; the end where there is none.
@@ -41,7 +41,7 @@ fn line_end(h: &[u8], i: usize) -> usize
 
 // Whether h is lines, each with its LF.
 fn are_lines(h: &[u8]) -> bool
-    ensures { result ≡ not (absent (headersOf h.now)) }
+    ensures { result ≡ not (absent (headers_of h.now)) }
 {
     let n = h.len();
     let mut i = 0;
@@ -57,7 +57,7 @@ fn are_lines(h: &[u8]) -> bool
 
 // 41: header lines ill-formed or too long.
 pub fn is_bad_headers(h: &[u8]) -> bool
-    ensures { result ≡ badHeaders h.now }
+    ensures { result ≡ bad_headers h.now }
 {
     if limits::MAX_HEADER_LINES < h.len() {
         return true;

@@ -4,8 +4,8 @@ ghost use Rattle.text.specs.Test.{absent};
 ghost use Rattle.text.specs.Steps.{Wrote};
 ghost use Rattle.text_hash.specs.Mix.{Small};
 ghost use Rattle.rpc.specs.Request.{cut_at, line_of};
-ghost use Rattle.rpc_request.specs.Steps.{lineValue, Joined};
-ghost use Rattle.rpc_request.specs.Index.{bucketOf, Blank, Indexed, Ready};
+ghost use Rattle.rpc_request.specs.Steps.{line_value, Joined};
+ghost use Rattle.rpc_request.specs.Index.{bucket_of, Blank, Indexed, Ready};
 
 use text_hash::Seed;
 
@@ -49,8 +49,8 @@ pub fn factors(policy: &[u8], headers: &[u8]) -> Seed
 
 // The bucket of a name; b is that of another, which often is the same.
 fn next_bucket(seed: Seed, name: &[u8], other: &[u8], b: usize) -> usize
-    requires { Small seed × (b ≡ bucketOf seed other.now) }
-    ensures { result ≡ bucketOf seed name.now }
+    requires { Small seed × (b ≡ bucket_of seed other.now) }
+    ensures { result ≡ bucket_of seed name.now }
 {
     if text::string::is_same(name, other) {
         return b;
@@ -85,7 +85,7 @@ pub fn index_lines(seed: Seed, h: &[u8], last: &mut [u16], before: &mut [u16])
 // starts.
 fn join_line(l: &[u8], key: &[u8], out: &mut [u8], at: usize) -> usize
     requires { (absent (line_of (cut_at 58 l.now)) ≡ false) × (length l.now ≤ at) × (at ≤ length out.old) }
-    ensures { Wrote out.old result (lineValue key.now l.now) out.new at
+    ensures { Wrote out.old result (line_value key.now l.now) out.new at
         × (at ≤ result + length l.now) }
 {
     let c = crate::headers::byte_from(l, 0, b':');

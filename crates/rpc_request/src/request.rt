@@ -1,10 +1,10 @@
 // 40 and 41: whether a request can be judged.
 ghost use Rattle.std.specs.Prelude.{◌≡◌};
-ghost use Rattle.rpc.specs.Request.{badText, rpcRefusal};
+ghost use Rattle.rpc.specs.Request.{bad_text, rpc_refusal};
 
 // 40, for the identity or the path.
 fn is_bad_text(t: &[u8]) -> bool
-    ensures { result ≡ badText t.now }
+    ensures { result ≡ bad_text t.now }
 {
     if limits::MAX_REQUEST_STRING < t.len() {
         return true;
@@ -14,7 +14,7 @@ fn is_bad_text(t: &[u8]) -> bool
 
 // The refusal number of a request; `CLEAR` where there is none.
 pub fn request_refusal(identity: &[u8], path: &[u8], headers: &[u8]) -> u8
-    ensures { result ≡ rpcRefusal identity.now path.now headers.now }
+    ensures { result ≡ rpc_refusal identity.now path.now headers.now }
 {
     if is_bad_text(identity) {
         return 40;

@@ -9,61 +9,61 @@ use lib.Seq.{get_or-set_same, get_or-set_other}
 use lib.Dec.{eqb, leb}
 use borrow.Author.Tests.{ne_eqb, eqb-true, eqb-false, leb-true, leb-false}
 use Rattle.text.proofs.Tests.{by}
-use Rattle.limits.specs.Limits.{maxRules}
+use Rattle.limits.specs.Limits.{max_rules}
 use Rattle.text.specs.Test.{if◌then◌else◌, ◌∈◌}
 use Rattle.text.specs.String.{Str}
 use Rattle.text_hash.specs.Mix.{place_of}
 use Rattle.text_hash.specs.declared.Seed.{Seed}
-use Rattle.text_hash.proofs.Mixing.{place-within}
+use Rattle.text_hash.proofs.Mixing.{place_within}
 use Rattle.path.specs.Path.{Path}
 use Rattle.table.specs.Table.{Rule}
-use Rattle.table_place.specs.Place.{strIn, pathIn}
-use Rattle.table_rows.specs.Rules.{pathAt, ruleIn}
-use Rattle.verdict.specs.Rank.{topRank, rank}
-use Rattle.verdict_judge.proofs.Parts.{path-in}
-use Rattle.verdict_concern.proofs.Concerns.{by-group}
-use Rattle.rule_index.specs.Clue.{ruleClues}
-use Rattle.rule_index.specs.Index.{buckets, span, subjectPlace, bucketOf, Keyed}
+use Rattle.table_place.specs.Place.{str_in, path_in}
+use Rattle.table_rows.specs.Rules.{path_at, rule_in}
+use Rattle.verdict.specs.Rank.{top_rank, rank}
+use Rattle.verdict_judge.proofs.Parts.{path_in_lem}
+use Rattle.verdict_concern.proofs.Concerns.{by_group_lem}
+use Rattle.rule_index.specs.Clue.{rule_clues}
+use Rattle.rule_index.specs.Index.{buckets, span, subject_place, bucket_of, Keyed}
 
 module _ (f : List ℕ) (s : ℕ) (seed : Seed) where
-  pub group-place : get_or f (s + 2) 0 ≡ 1 → 0 ≡ subjectPlace seed (ruleIn f s)
-  unfolding subjectPlace if◌then◌else◌
-  group-place e = rw (by-group f s e)
+  pub group_place : get_or f (s + 2) 0 ≡ 1 → 0 ≡ subject_place seed (rule_in f s)
+  unfolding subject_place if◌then◌else◌
+  group_place e = rw (by_group_lem f s e)
 
-  pub user-place : (get_or f (s + 2) 0 ≡ 1 → ⊥) → place_of seed buckets (strIn f (s + 3)) ≡ subjectPlace seed (ruleIn f s)
-  unfolding subjectPlace if◌then◌else◌ ruleIn
-  user-place e = rw (ne_eqb (get_or f (s + 2) 0) 1 e)
+  pub user_place : (get_or f (s + 2) 0 ≡ 1 → ⊥) → place_of seed buckets (str_in f (s + 3)) ≡ subject_place seed (rule_in f s)
+  unfolding subject_place if◌then◌else◌ rule_in
+  user_place e = rw (ne_eqb (get_or f (s + 2) 0) 1 e)
 
-  subject-by : (t : Bool) (x : Str) → (if t then 0 else place_of seed buckets x) < buckets
+  subject_by : (t : Bool) (x : Str) → (if t then 0 else place_of seed buckets x) < buckets
   unfolding if◌then◌else◌
-  subject-by true x = omega arith
-  subject-by false x = place-within seed x buckets _ refl (omega arith)
+  subject_by true x = omega arith
+  subject_by false x = place_within seed x buckets _ refl (omega arith)
 
-  pub subject-small : (p : ℕ) → p ≡ subjectPlace seed (ruleIn f s) → p < buckets
-  unfolding subjectPlace
-  subject-small p e = rw e (subject-by (ruleIn f s).byGroup (ruleIn f s).subject)
+  pub subject_small : (p : ℕ) → p ≡ subject_place seed (rule_in f s) → p < buckets
+  unfolding subject_place
+  subject_small p e = rw e (subject_by (rule_in f s).by_group (rule_in f s).subject)
 
-  pub key-made : (a w q c p i : ℕ) → a ≡ pathAt f s → w ≡ rank (ruleIn f s) → rank (ruleIn f s) < topRank → i < maxRules
-      → strIn f q ∈ ruleClues (pathIn f a) → c ≡ place_of seed buckets (strIn f q) → p ≡ subjectPlace seed (ruleIn f s)
-      → Keyed seed (ruleIn f s) i (((p + c) % 512 * 17179869184 + (17179869184 - 1 - w)) * 256 + i)
-  key-made a w q c p i ea ew l m k ec ep =
+  pub key_made : (a w q c p i : ℕ) → a ≡ path_at f s → w ≡ rank (rule_in f s) → rank (rule_in f s) < top_rank → i < max_rules
+      → str_in f q ∈ rule_clues (path_in f a) → c ≡ place_of seed buckets (str_in f q) → p ≡ subject_place seed (rule_in f s)
+      → Keyed seed (rule_in f s) i (((p + c) % 512 * 17179869184 + (17179869184 - 1 - w)) * 256 + i)
+  key_made a w q c p i ea ew l m k ec ep =
       record {
-        clue = strIn f q;
-        known = subst (λ (es : Path). strIn f q ∈ ruleClues es) (path-in f s a ea) k;
+        clue = str_in f q;
+        known = subst (λ (es : Path). str_in f q ∈ rule_clues es) (path_in_lem f s a ea) k;
         below = (l, m);
         is = rw (ep, ec, ew);
       }
 
 -- what a key tells
 module _ {seed : Seed} {r : Rule} {i x : ℕ} (k : Keyed seed r i x) where
-  pub key-number : x % maxRules ≡ i
-  key-number = let l = k.below.1 in rw k.is (omega arith)
+  pub key_number : x % max_rules ≡ i
+  key_number = let l = k.below.1 in rw k.is (omega arith)
 
-  pub key-bucket : x / span ≡ bucketOf seed r k.clue
-  key-bucket = let l = k.below in rw k.is (omega arith)
+  pub key_bucket : x / span ≡ bucket_of seed r k.clue
+  key_bucket = let l = k.below in rw k.is (omega arith)
 
-  pub key-weight : topRank - x / maxRules % topRank ≡ suc (rank r)
-  key-weight = let l = k.below in rw k.is (omega arith)
+  pub key_weight : top_rank - x / max_rules % top_rank ≡ suc (rank r)
+  key_weight = let l = k.below in rw k.is (omega arith)
 
   pub key_below : x < buckets * span
   key_below = let l = k.below in rw k.is (omega arith)

@@ -16,98 +16,98 @@ use Rattle.text_hash.specs.Mix.{place_of}
 use Rattle.text_hash.specs.declared.Seed.{Seed}
 use Rattle.path.specs.Path.{Path}
 use Rattle.table.specs.Table.{Rule}
-use Rattle.table_rows.specs.Rules.{ruleIn}
+use Rattle.table_rows.specs.Rules.{rule_in}
 use Rattle.table_membership.specs.Set.{has_of}
-use Rattle.table_membership.proofs.Bits.{has-none}
+use Rattle.table_membership.proofs.Bits.{has_none}
 use Rattle.verdict_judge.specs.declared.best.Best.{Best}
-use Rattle.verdict_concern.specs.Concern.{concernsBy, appliesBy, Safe}
-use Rattle.rule_index.specs.Index.{buckets, span, subjectPlace, bucketOf, KeyedAt}
-use Rattle.rule_index.specs.Found.{matchesAt, overAt, After, Scanned, DoneAt, Probing, Probed}
-use Rattle.rule_index.proofs.Clues.{in-cons}
-use Rattle.rule_index.proofs.Keying.{key-bucket}
-use Rattle.rule_index.proofs.Scanning.{not-over}
+use Rattle.verdict_concern.specs.Concern.{concerns_by, applies_by, Safe}
+use Rattle.rule_index.specs.Index.{buckets, span, subject_place, bucket_of, KeyedAt}
+use Rattle.rule_index.specs.Found.{matches_at, over_at, After, Scanned, DoneAt, Probing, Probed}
+use Rattle.rule_index.proofs.Clues.{in_cons}
+use Rattle.rule_index.proofs.Keying.{key_bucket}
+use Rattle.rule_index.proofs.Scanning.{not_over}
 
 either : {A B : Type 0} → (A → B) → A ⊎ B → B
 either f (inl a) = f a
 either f (inr b) = b
 
-module _ (set g : ℕ) (user : Str) (r : Rule) (e : concernsBy set g user r ≡ true) where
-  group-listed : r.byGroup ≡ true → has_of set g ≡ true
-  unfolding concernsBy if◌then◌else◌
-  group-listed t = rw t at e
+module _ (set g : ℕ) (user : Str) (r : Rule) (e : concerns_by set g user r ≡ true) where
+  group_listed : r.by_group ≡ true → has_of set g ≡ true
+  unfolding concerns_by if◌then◌else◌
+  group_listed t = rw t at e
 
-  user-named : r.byGroup ≡ false → r.subject ≡ user
-  unfolding concernsBy if◌then◌else◌
-  user-named t = same→≡ _ _ (rw t at e)
+  user_named : r.by_group ≡ false → r.subject ≡ user
+  unfolding concerns_by if◌then◌else◌
+  user_named t = same→≡ _ _ (rw t at e)
 
 module _ (seed : Seed) (r : Rule) (clue : Str) where
-  group-bucket : r.byGroup ≡ true → (c : ℕ) → c ≡ place_of seed buckets clue → c < buckets → bucketOf seed r clue ≡ c
-  unfolding subjectPlace if◌then◌else◌
-  group-bucket t c e l = rw (t, sym e) (omega arith)
+  group_bucket : r.by_group ≡ true → (c : ℕ) → c ≡ place_of seed buckets clue → c < buckets → bucket_of seed r clue ≡ c
+  unfolding subject_place if◌then◌else◌
+  group_bucket t c e l = rw (t, sym e) (omega arith)
 
-  user-bucket : r.byGroup ≡ false → (user : Str) → r.subject ≡ user → (x c : ℕ) → x ≡ place_of seed buckets user → c ≡ place_of seed buckets clue
-      → bucketOf seed r clue ≡ (x + c) % buckets
-  unfolding subjectPlace if◌then◌else◌
-  user-bucket t user e x c d h = rw (t, e, d, h)
+  user_bucket : r.by_group ≡ false → (user : Str) → r.subject ≡ user → (x c : ℕ) → x ≡ place_of seed buckets user → c ≡ place_of seed buckets clue
+      → bucket_of seed r clue ≡ (x + c) % buckets
+  unfolding subject_place if◌then◌else◌
+  user_bucket t user e x c d h = rw (t, e, d, h)
 
 module _ (f starts holders : List ℕ) (n set : ℕ) (user : Str) (mode : ℕ) (origin : Str) (p : Path) where
-  matched : (i : ℕ) → matchesAt f starts holders n set user mode origin p i ≡ true → concernsBy set (get_or holders i 0) user (ruleIn f (get_or starts i 0)) ≡ true
-  unfolding matchesAt appliesBy
+  matched : (i : ℕ) → matches_at f starts holders n set user mode origin p i ≡ true → concerns_by set (get_or holders i 0) user (rule_in f (get_or starts i 0)) ≡ true
+  unfolding matches_at applies_by
   matched i e = and_r _ _ (and_r _ _ (and_l _ _ e))
 
   module _ (safe : Safe f starts holders n) (seed : Seed) (keys : List ℕ) (x c : ℕ) (place : x ≡ place_of seed buckets user) (low : c < buckets) (b own r : Best)
       (S : Scanned f starts holders n set user mode origin p seed keys ((x + c) % buckets) b own) (A : After f starts holders n set user mode origin p own r)
       (groups : (i j : ℕ) → i < n → j < n → (k : KeyedAt seed f starts i (get_or keys j 0)) → get_or keys j 0 / span ≡ c → has_of set (get_or holders i 0) ≡ true
-      → matchesAt f starts holders n set user mode origin p i ≡ true → overAt f starts holders n set user mode origin p i r ≡ false) where
-    clue-done : DoneAt f starts holders n set user mode origin p seed keys c r
-    clue-done i j l m k e t =
+      → matches_at f starts holders n set user mode origin p i ≡ true → over_at f starts holders n set user mode origin p i r ≡ false) where
+    clue_done : DoneAt f starts holders n set user mode origin p seed keys c r
+    clue_done i j l m k e t =
         let d = matched i t in
-        by (ruleIn f (get_or starts i 0)).byGroup
-        (λ g. groups i j l m k (key-bucket k ∙ group-bucket seed _ k.clue g c e low) (group-listed _ _ _ _ d g) t)
-        (λ g. not-over f starts holders n set user mode origin p safe own r A i
-        (S.done i j l m k (key-bucket k ∙ user-bucket seed _ k.clue g user (user-named _ _ _ _ d g) x c place e) t))
+        by (rule_in f (get_or starts i 0)).by_group
+        (λ g. groups i j l m k (key_bucket k ∙ group_bucket seed _ k.clue g c e low) (group_listed _ _ _ _ d g) t)
+        (λ g. not_over f starts holders n set user mode origin p safe own r A i
+        (S.done i j l m k (key_bucket k ∙ user_bucket seed _ k.clue g user (user_named _ _ _ _ d g) x c place e) t))
 
-    clue-probed : (seen : List ℕ) → Probing f starts holders n set user mode origin p seed keys seen b → c < length seen
+    clue_probed : (seen : List ℕ) → Probing f starts holders n set user mode origin p seed keys seen b → c < length seen
         → Probed f starts holders n set user mode origin p seed keys c b r (store seen c 1)
-    clue-probed seen P room = record {
+    clue_probed seen P room = record {
       probing = record {
         kept = A.kept;
         done =
             λ d h. by (eqb d c)
-            (λ e. subst (λ (y : ℕ). DoneAt f starts holders n set user mode origin p seed keys y r) (sym (eqb-true d c e)) clue-done)
-            (λ e i j l m k q t. not-over f starts holders n set user mode origin p safe b r (record { kept = A.kept; still = λ k h. S.after.still k (A.still k h) }) i
+            (λ e. subst (λ (y : ℕ). DoneAt f starts holders n set user mode origin p seed keys y r) (sym (eqb-true d c e)) clue_done)
+            (λ e i j l m k q t. not_over f starts holders n set user mode origin p safe b r (record { kept = A.kept; still = λ k h. S.after.still k (A.still k h) }) i
             (P.done d (sym (get_or-set_other seen c d 1 0 (eqb-false d c e)) ∙ h) i j l m k q t));
       };
       goes =
           λ clue rest e H. record {
             kept = A.kept;
-            left = λ i j l m k t o. either (λ q. clash o (clue-done i j l m k (e ∙ ap (place_of seed buckets) (sym q)) t)) (in-cons (H.left i j l m k t (S.after.still i (A.still i o))));
+            left = λ i j l m k t o. either (λ q. clash o (clue_done i j l m k (e ∙ ap (place_of seed buckets) (sym q)) t)) (in_cons (H.left i j l m k t (S.after.still i (A.still i o))));
           };
     }
 
   -- the place is done with already
-  pub seen-before : (seed : Seed) (keys seen : List ℕ) (c : ℕ) (b : Best) → Probing f starts holders n set user mode origin p seed keys seen b → get_or seen c 0 ≡ 1
+  pub seen_before : (seed : Seed) (keys seen : List ℕ) (c : ℕ) (b : Best) → Probing f starts holders n set user mode origin p seed keys seen b → get_or seen c 0 ≡ 1
       → Probed f starts holders n set user mode origin p seed keys c b b seen
-  seen-before seed keys seen c b P h =
+  seen_before seed keys seen c b P h =
       record {
         probing = P;
         goes =
             λ clue rest e H. record {
               kept = P.kept;
-              left = λ i j l m k t o. either (λ q. clash o (P.done c h i j l m k (e ∙ ap (place_of seed buckets) (sym q)) t)) (in-cons (H.left i j l m k t o));
+              left = λ i j l m k t o. either (λ q. clash o (P.done c h i j l m k (e ∙ ap (place_of seed buckets) (sym q)) t)) (in_cons (H.left i j l m k t o));
             };
       }
 
   -- no group lists the user
-  pub probed-own : Safe f starts holders n → (seed : Seed) (keys : List ℕ) (x c : ℕ) → x ≡ place_of seed buckets user → c < buckets → set ≡ 0 → (b own : Best) (seen : List ℕ) → Probing f starts holders n set user mode origin p seed keys seen b → c < length seen
+  pub probed_own : Safe f starts holders n → (seed : Seed) (keys : List ℕ) (x c : ℕ) → x ≡ place_of seed buckets user → c < buckets → set ≡ 0 → (b own : Best) (seen : List ℕ) → Probing f starts holders n set user mode origin p seed keys seen b → c < length seen
       → Scanned f starts holders n set user mode origin p seed keys ((x + c) % buckets) b own
       → Probed f starts holders n set user mode origin p seed keys c b own (store seen c 1)
-  probed-own safe seed keys x c place low z b own seen P room S =
-      clue-probed safe seed keys x c place low b own own S (record { kept = S.after.kept; still = λ k h. h })
-      (λ i j l m k e h t. clash h (ap (λ (y : ℕ). has_of y (get_or holders i 0)) z ∙ has-none (get_or holders i 0))) seen P room
+  probed_own safe seed keys x c place low z b own seen P room S =
+      clue_probed safe seed keys x c place low b own own S (record { kept = S.after.kept; still = λ k h. h })
+      (λ i j l m k e h t. clash h (ap (λ (y : ℕ). has_of y (get_or holders i 0)) z ∙ has_none (get_or holders i 0))) seen P room
 
-  pub probed-both : Safe f starts holders n → (seed : Seed) (keys : List ℕ) (x c : ℕ) → x ≡ place_of seed buckets user → c < buckets → (b own r : Best) (seen : List ℕ) → Probing f starts holders n set user mode origin p seed keys seen b → c < length seen
+  pub probed_both : Safe f starts holders n → (seed : Seed) (keys : List ℕ) (x c : ℕ) → x ≡ place_of seed buckets user → c < buckets → (b own r : Best) (seen : List ℕ) → Probing f starts holders n set user mode origin p seed keys seen b → c < length seen
       → Scanned f starts holders n set user mode origin p seed keys ((x + c) % buckets) b own → Scanned f starts holders n set user mode origin p seed keys c own r
       → Probed f starts holders n set user mode origin p seed keys c b r (store seen c 1)
-  probed-both safe seed keys x c place low b own r seen P room S T =
-      clue-probed safe seed keys x c place low b own r S T.after (λ i j l m k e h t. T.done i j l m k e t) seen P room
+  probed_both safe seed keys x c place low b own r seen P room S T =
+      clue_probed safe seed keys x c place low b own r S T.after (λ i j l m k e h t. T.done i j l m k e t) seen P room

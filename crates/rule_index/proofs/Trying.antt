@@ -13,108 +13,108 @@ use Rattle.text.specs.String.{Str}
 use Rattle.text.proofs.Tests.{clash, by}
 use Rattle.path.specs.Path.{Path}
 use Rattle.table.specs.Table.{Rule}
-use Rattle.table_rows.specs.Rules.{ruleIn, ruleEnd}
+use Rattle.table_rows.specs.Rules.{rule_in, rule_end}
 use Rattle.verdict.specs.Cover.{covers}
 use Rattle.verdict.specs.Order.{Numbered, better, prefer, candidate}
 use Rattle.verdict.specs.Rank.{rank}
-use Rattle.verdict.proofs.Order.{better-order}
+use Rattle.verdict.proofs.Order.{better_order}
 use Rattle.verdict_judge.specs.Best.{held, Ranked, NumberBelow, wins, matching}
 use Rattle.verdict_judge.specs.declared.best.Best.{Best}
-use Rattle.verdict_judge.proofs.Steps.{step-off, step-miss, step-keep, step-take}
-use Rattle.verdict_concern.specs.Concern.{appliesBy}
-use Rattle.rule_index.specs.Found.{is_over, matchesAt, Kept, Tried}
+use Rattle.verdict_judge.proofs.Steps.{step_off, step_miss, step_keep, step_take}
+use Rattle.verdict_concern.specs.Concern.{applies_by}
+use Rattle.rule_index.specs.Found.{is_over, matches_at, Kept, Tried}
 
 -- ---- one rule more
 
-not-over-itself : (r : Rule) → better r r ≡ false
-not-over-itself r = by (better r r) (λ e. better-order.oasym r r e) (λ e. e)
+not_over_itself : (r : Rule) → better r r ≡ false
+not_over_itself r = by (better r r) (λ e. better_order.oasym r r e) (λ e. e)
 
 some_is : {n m : Numbered} → ◌≡◌ {A = Option Numbered} (some n) (some m) → n ≡ m
 some_is e = cc
 
-pub none-some {ℓ} : {X : Type ℓ} {m : Numbered} → ◌≡◌ {A = Option Numbered} none (some m) → X
-none-some e = let z : ◌≡◌ {A = ℕ} 0 1 = cc in absurd (omega arith)
+pub none_some {ℓ} : {X : Type ℓ} {m : Numbered} → ◌≡◌ {A = Option Numbered} none (some m) → X
+none_some e = let z : ◌≡◌ {A = ℕ} 0 1 = cc in absurd (omega arith)
 
-prefer-still : (x : Rule) (h c : Option Numbered) → is_over x (prefer better h c) ≡ true → is_over x h ≡ true
+prefer_still : (x : Rule) (h c : Option Numbered) → is_over x (prefer better h c) ≡ true → is_over x h ≡ true
 unfolding is_over prefer if◌then◌else◌
-prefer-still x none c e = refl
-prefer-still x (some n) none e = e
-prefer-still x (some n) (some m) e =
+prefer_still x none c e = refl
+prefer_still x (some n) none e = e
+prefer_still x (some n) (some m) e =
     by (better x n.rule) (λ t. t)
     (λ t. by (better m.rule n.rule)
-    (λ w. clash (rw w at e) (better-order.ochain x n.rule m.rule t (better-order.oasym m.rule n.rule w)))
+    (λ w. clash (rw w at e) (better_order.ochain x n.rule m.rule t (better_order.oasym m.rule n.rule w)))
     (λ w. clash (rw w at e) t))
 
-prefer-done : (test : Rule → Bool) (i : ℕ) (r : Rule) (h : Option Numbered) → test r ≡ true → is_over r (prefer better h (candidate test i r)) ≡ false
+prefer_done : (test : Rule → Bool) (i : ℕ) (r : Rule) (h : Option Numbered) → test r ≡ true → is_over r (prefer better h (candidate test i r)) ≡ false
 unfolding is_over prefer candidate if◌then◌else◌
-prefer-done test i r none e = rw e (not-over-itself r)
-prefer-done test i r (some n) e = rw e (by (better r n.rule) (λ w. rw w (not-over-itself r)) (λ w. rw w w))
+prefer_done test i r none e = rw e (not_over_itself r)
+prefer_done test i r (some n) e = rw e (by (better r n.rule) (λ w. rw w (not_over_itself r)) (λ w. rw w w))
 
 module _ (P : Numbered → Type 0) where
-  prefer-stands : (h c : Option Numbered) → ((m : Numbered) → h ≡ some m → P m) → ((m : Numbered) → c ≡ some m → P m)
+  prefer_stands : (h c : Option Numbered) → ((m : Numbered) → h ≡ some m → P m) → ((m : Numbered) → c ≡ some m → P m)
       → (m : Numbered) → prefer better h c ≡ some m → P m
   unfolding prefer if◌then◌else◌
-  prefer-stands none c a b m e = b m e
-  prefer-stands (some n) none a b m e = a m e
-  prefer-stands (some n) (some k) a b m e =
+  prefer_stands none c a b m e = b m e
+  prefer_stands (some n) none a b m e = a m e
+  prefer_stands (some n) (some k) a b m e =
       by (better k.rule n.rule) (λ w. b m (rw w at e)) (λ w. a m (rw w at e))
 
-  candidate-stands : (test : Rule → Bool) (i : ℕ) (r : Rule) → (test r ≡ true → P (record { number = i; rule = r })) → (m : Numbered) → candidate test i r ≡ some m → P m
+  candidate_stands : (test : Rule → Bool) (i : ℕ) (r : Rule) → (test r ≡ true → P (record { number = i; rule = r })) → (m : Numbered) → candidate test i r ≡ some m → P m
   unfolding candidate if◌then◌else◌
-  candidate-stands test i r p m e =
-      by (test r) (λ t. subst P (some_is (rw t at e)) (p t)) (λ t. none-some (rw t at e))
+  candidate_stands test i r p m e =
+      by (test r) (λ t. subst P (some_is (rw t at e)) (p t)) (λ t. none_some (rw t at e))
 
 module _ (f starts holders : List ℕ) (n set : ℕ) (user : Str) (mode : ℕ) (origin : Str) (p : Path) where
   abbrev Test : ℕ → Rule → Bool
-  Test i = matching (λ r. appliesBy set (get_or holders i 0) user mode origin r) p
+  Test i = matching (λ r. applies_by set (get_or holders i 0) user mode origin r) p
 
-  tests : (i : ℕ) → matchesAt f starts holders n set user mode origin p i ≡ Test i (ruleIn f (get_or starts i 0))
-  unfolding matchesAt
+  tests : (i : ℕ) → matches_at f starts holders n set user mode origin p i ≡ Test i (rule_in f (get_or starts i 0))
+  unfolding matches_at
   tests i = refl
 
   module _ (b : Best) (i : ℕ) (l : i < n) (K : Kept f starts holders n set user mode origin p b) where
     abbrev Stands : Numbered → Type 0
-    Stands m = (m.number < n) × (m.rule ≡ ruleIn f (get_or starts m.number 0)) × (matchesAt f starts holders n set user mode origin p m.number ≡ true)
+    Stands m = (m.number < n) × (m.rule ≡ rule_in f (get_or starts m.number 0)) × (matches_at f starts holders n set user mode origin p m.number ≡ true)
 
     tried : (c : Best) → Ranked f c → NumberBelow n c
-        → held f c ≡ prefer better (held f b) (candidate (Test i) i (ruleIn f (get_or starts i 0))) → Tried f starts holders n set user mode origin p i b c
+        → held f c ≡ prefer better (held f b) (candidate (Test i) i (rule_in f (get_or starts i 0))) → Tried f starts holders n set user mode origin p i b c
     tried c ranked numbered e =
         record {
           after = record {
             kept = record {
               ranked = ranked;
               numbered = numbered;
-              stands = λ m h. prefer-stands Stands (held f b) _ K.stands (candidate-stands Stands (Test i) i _ (λ t. (l, refl, tests i ∙ t))) m (sym e ∙ h);
+              stands = λ m h. prefer_stands Stands (held f b) _ K.stands (candidate_stands Stands (Test i) i _ (λ t. (l, refl, tests i ∙ t))) m (sym e ∙ h);
             };
-            still = λ k h. prefer-still _ (held f b) _ (ap (is_over (ruleIn f (get_or starts k 0))) (sym e) ∙ h);
+            still = λ k h. prefer_still _ (held f b) _ (ap (is_over (rule_in f (get_or starts k 0))) (sym e) ∙ h);
           };
-          done = λ t. ap (is_over (ruleIn f (get_or starts i 0))) e ∙ prefer-done (Test i) i _ (held f b) (sym (tests i) ∙ t);
+          done = λ t. ap (is_over (rule_in f (get_or starts i 0))) e ∙ prefer_done (Test i) i _ (held f b) (sym (tests i) ∙ t);
         }
 
     abbrev App : Rule → Bool
-    App r = appliesBy set (get_or holders i 0) user mode origin r
+    App r = applies_by set (get_or holders i 0) user mode origin r
 
     abbrev Also : Rule → Bool
     Also r = covers r.path p
 
     -- it does not win
-    pub tried-behind : wins better f (get_or starts i 0) b ≡ false → Tried f starts holders n set user mode origin p i b b
-    tried-behind e = tried b K.ranked K.numbered (step-keep better f b i _ App Also e)
+    pub tried_behind : wins better f (get_or starts i 0) b ≡ false → Tried f starts holders n set user mode origin p i b b
+    tried_behind e = tried b K.ranked K.numbered (step_keep better f b i _ App Also e)
 
     -- it does not apply
-    pub tried-off : (mark : ℕ) → (mark ≡ 1 → ⊥) → (g : ℕ) → g ≡ get_or holders i 0 → eqb mark 1 ≡ appliesBy set g user mode origin (ruleIn f (get_or starts i 0))
+    pub tried_off : (mark : ℕ) → (mark ≡ 1 → ⊥) → (g : ℕ) → g ≡ get_or holders i 0 → eqb mark 1 ≡ applies_by set g user mode origin (rule_in f (get_or starts i 0))
         → Tried f starts holders n set user mode origin p i b b
-    tried-off mark off g eg a = tried b K.ranked K.numbered (step-off better f b i _ App Also (sym (rw eg at a) ∙ ne_eqb mark 1 off))
+    tried_off mark off g eg a = tried b K.ranked K.numbered (step_off better f b i _ App Also (sym (rw eg at a) ∙ ne_eqb mark 1 off))
 
     -- it does not cover the path
-    pub tried-miss : covers (ruleIn f (get_or starts i 0)).path p ≡ false → Tried f starts holders n set user mode origin p i b b
-    tried-miss e = tried b K.ranked K.numbered (step-miss better f b i _ App Also e)
+    pub tried_miss : covers (rule_in f (get_or starts i 0)).path p ≡ false → Tried f starts holders n set user mode origin p i b b
+    tried_miss e = tried b K.ranked K.numbered (step_miss better f b i _ App Also e)
 
     -- it is the best so far
-    pub tried-best : (x : ℕ) → x ≡ suc (rank (ruleIn f (get_or starts i 0))) → ruleEnd f (get_or starts i 0) ≤ length f → wins better f (get_or starts i 0) b ≡ true
-        → (mark : ℕ) → mark ≡ 1 → (g : ℕ) → g ≡ get_or holders i 0 → eqb mark 1 ≡ appliesBy set g user mode origin (ruleIn f (get_or starts i 0))
-        → covers (ruleIn f (get_or starts i 0)).path p ≡ true
+    pub tried_best : (x : ℕ) → x ≡ suc (rank (rule_in f (get_or starts i 0))) → rule_end f (get_or starts i 0) ≤ length f → wins better f (get_or starts i 0) b ≡ true
+        → (mark : ℕ) → mark ≡ 1 → (g : ℕ) → g ≡ get_or holders i 0 → eqb mark 1 ≡ applies_by set g user mode origin (rule_in f (get_or starts i 0))
+        → covers (rule_in f (get_or starts i 0)).path p ≡ true
         → Tried f starts holders n set user mode origin p i b (record { weight = x; number = record { 0 = i }; at = get_or starts i 0 })
-    tried-best x ex h w mark em g eg a c =
+    tried_best x ex h w mark em g eg a c =
         tried (record { weight = x; number = record { 0 = i }; at = get_or starts i 0 }) (λ z. (h, ex)) (λ z. l)
-        (step-take better f b i _ App Also x (λ z. omega arith) (sym (rw eg at a) ∙ eq-eqb mark 1 em) c w)
+        (step_take better f b i _ App Also x (λ z. omega arith) (sym (rw eg at a) ∙ eq-eqb mark 1 em) c w)

@@ -10,9 +10,9 @@ values_of [] = []
 values_of (k ∷ ks) = k.value ∷ values_of ks
 
 -- the values of the definite keys
-unfoldable pub valuesGiven : Path → List Str
-valuesGiven [] = []
-valuesGiven (e ∷ es) = values_of (definite e) ++ valuesGiven es
+unfoldable pub values_given : Path → List Str
+values_given [] = []
+values_given (e ∷ es) = values_of (definite e) ++ values_given es
 
 -- those of all keys
 unfoldable pub values : Path → List Str
@@ -20,11 +20,11 @@ values [] = []
 values (e ∷ es) = values_of e.keys ++ values es
 
 -- a rule's: its first name, and the value of each definite key; of no elements the empty string
-unfoldable pub ruleClues : Path → List Str
-ruleClues [] = [] ∷ []
-ruleClues (e ∷ es) = e.name ∷ valuesGiven (e ∷ es)
+unfoldable pub rule_clues : Path → List Str
+rule_clues [] = [] ∷ []
+rule_clues (e ∷ es) = e.name ∷ values_given (e ∷ es)
 
 -- a path's: the empty string, its first name, and the value of each key
-unfoldable pub pathClues : Path → List Str
-pathClues [] = [] ∷ []
-pathClues (e ∷ es) = [] ∷ e.name ∷ values (e ∷ es)
+unfoldable pub path_clues : Path → List Str
+path_clues [] = [] ∷ []
+path_clues (e ∷ es) = [] ∷ e.name ∷ values (e ∷ es)

@@ -8,12 +8,12 @@ use Rattle.text_hash.specs.Mix.{place_of}
 use Rattle.text_hash.specs.declared.Seed.{Seed}
 use Rattle.path.specs.Path.{Path}
 use Rattle.table.specs.Table.{Rule}
-use Rattle.table_rows.specs.Rules.{ruleIn}
+use Rattle.table_rows.specs.Rules.{rule_in}
 use Rattle.verdict.specs.Cover.{covers}
 use Rattle.verdict.specs.Order.{Numbered, better}
 use Rattle.verdict_judge.specs.Best.{held, Ranked, NumberBelow}
 use Rattle.verdict_judge.specs.declared.best.Best.{Best}
-use Rattle.verdict_concern.specs.Concern.{appliesBy}
+use Rattle.verdict_concern.specs.Concern.{applies_by}
 use Rattle.rule_index.specs.Index.{buckets, span, KeyedAt}
 
 -- the rule is better than what is kept; any is, where nothing is kept
@@ -22,46 +22,46 @@ is_over r none = true
 is_over r (some m) = better r m.rule
 
 module _ (f starts holders : List ℕ) (n set : ℕ) (user : Str) (mode : ℕ) (origin : Str) (p : Path) where
-  abbrev pub ruleAt : ℕ → Rule
-  ruleAt i = ruleIn f (get_or starts i 0)
+  abbrev pub rule_at : ℕ → Rule
+  rule_at i = rule_in f (get_or starts i 0)
 
   -- rule i matches the request
-  unfoldable pub matchesAt : ℕ → Bool
-  matchesAt i = appliesBy set (get_or holders i 0) user mode origin (ruleAt i) and covers (ruleAt i).path p
+  unfoldable pub matches_at : ℕ → Bool
+  matches_at i = applies_by set (get_or holders i 0) user mode origin (rule_at i) and covers (rule_at i).path p
 
-  abbrev pub overAt : ℕ → Best → Bool
-  overAt i b = is_over (ruleAt i) (held f b)
+  abbrev pub over_at : ℕ → Best → Bool
+  over_at i b = is_over (rule_at i) (held f b)
 
   -- what is kept is a rule that matches
   pub record Kept (b : Best) : Type 0 where
     pub ranked : Ranked f b
     pub numbered : NumberBelow n b
-    pub stands : (m : Numbered) → held f b ≡ some m → (m.number < n) × (m.rule ≡ ruleAt m.number) × (matchesAt m.number ≡ true)
+    pub stands : (m : Numbered) → held f b ≡ some m → (m.number < n) × (m.rule ≡ rule_at m.number) × (matches_at m.number ≡ true)
 
   -- c is kept after b, and no worse
   pub record After (b c : Best) : Type 0 where
     pub kept : Kept c
-    pub still : (k : ℕ) → overAt k c ≡ true → overAt k b ≡ true
+    pub still : (k : ℕ) → over_at k c ≡ true → over_at k b ≡ true
 
   -- rule i was tried
   pub record Tried (i : ℕ) (b c : Best) : Type 0 where
     pub after : After b c
-    pub done : matchesAt i ≡ true → overAt i c ≡ false
+    pub done : matches_at i ≡ true → over_at i c ≡ false
 
   -- the rules of a bucket were
   pub record Scanned (seed : Seed) (keys : List ℕ) (bucket : ℕ) (b c : Best) : Type 0 where
     pub after : After b c
-    pub done : (i j : ℕ) → i < n → j < n → KeyedAt seed f starts i (get_or keys j 0) → get_or keys j 0 / span ≡ bucket → matchesAt i ≡ true → overAt i c ≡ false
+    pub done : (i j : ℕ) → i < n → j < n → KeyedAt seed f starts i (get_or keys j 0) → get_or keys j 0 / span ≡ bucket → matches_at i ≡ true → over_at i c ≡ false
 
   -- each rule that matches and is better than b has its clue among those
   pub record Searching (seed : Seed) (keys : List ℕ) (clues : List Str) (b : Best) : Type 0 where
     pub kept : Kept b
-    pub left : (i j : ℕ) → i < n → j < n → (k : KeyedAt seed f starts i (get_or keys j 0)) → matchesAt i ≡ true → overAt i b ≡ true → k.clue ∈ clues
+    pub left : (i j : ℕ) → i < n → j < n → (k : KeyedAt seed f starts i (get_or keys j 0)) → matches_at i ≡ true → over_at i b ≡ true → k.clue ∈ clues
 
   -- no rule whose clue has the place c, and that matches, is better than b
   abbrev pub DoneAt : Seed → List ℕ → ℕ → Best → Type 0
   DoneAt seed keys c b = (i j : ℕ) → i < n → j < n → (k : KeyedAt seed f starts i (get_or keys j 0)) → c ≡ place_of seed buckets k.clue
-      → matchesAt i ≡ true → overAt i b ≡ false
+      → matches_at i ≡ true → over_at i b ≡ false
 
   -- b is kept, and the places that `seen` marks are done with
   pub record Probing (seed : Seed) (keys seen : List ℕ) (b : Best) : Type 0 where
@@ -81,4 +81,4 @@ module _ (f starts holders : List ℕ) (n set : ℕ) (user : Str) (mode : ℕ) (
   -- the best of the rules that match
   pub record Found (b : Best) : Type 0 where
     pub kept : Kept b
-    pub unbeaten : (i : ℕ) → i < n → matchesAt i ≡ true → overAt i b ≡ false
+    pub unbeaten : (i : ℕ) → i < n → matches_at i ≡ true → over_at i b ≡ false

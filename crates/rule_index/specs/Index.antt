@@ -1,15 +1,15 @@
 -- The index of the rules: their keys in rising order, and where the first key of each bucket stands.
 use Rattle.std.specs.Prelude.{ℕ, suc, ◌+◌, ◌-◌, ◌*◌, ◌/◌, ◌%◌, ◌≤◌, ◌<◌, ◌≡◌, List, length, get_or}
-use Rattle.limits.specs.Limits.{maxRules}
+use Rattle.limits.specs.Limits.{max_rules}
 use Rattle.text.specs.Test.{if◌then◌else◌, ◌∈◌}
 use Rattle.text.specs.String.{Str}
 use Rattle.text_hash.specs.Mix.{place_of}
 use Rattle.text_hash.specs.declared.Seed.{Seed}
 use Rattle.table.specs.Table.{Rule}
-use Rattle.table_rows.specs.Rules.{ruleIn}
-use Rattle.verdict.specs.Rank.{topRank, rank}
+use Rattle.table_rows.specs.Rules.{rule_in}
+use Rattle.verdict.specs.Rank.{top_rank, rank}
 use Rattle.member_index.specs.Index.{places}
-use Rattle.rule_index.specs.Clue.{ruleClues}
+use Rattle.rule_index.specs.Clue.{rule_clues}
 
 -- as many as members have places, so that a user's place serves both
 abbrev pub buckets : ℕ
@@ -17,25 +17,25 @@ buckets = places
 
 -- how many keys a bucket has
 abbrev pub span : ℕ
-span = topRank * maxRules
+span = top_rank * max_rules
 
 -- the place of a rule's subject: 0 for a group
-unfoldable pub subjectPlace : Seed → Rule → ℕ
-subjectPlace seed r = if r.byGroup then 0 else place_of seed buckets r.subject
+unfoldable pub subject_place : Seed → Rule → ℕ
+subject_place seed r = if r.by_group then 0 else place_of seed buckets r.subject
 
 -- the bucket of a rule by a clue
-abbrev pub bucketOf : Seed → Rule → Str → ℕ
-bucketOf seed r clue = (subjectPlace seed r + place_of seed buckets clue) % buckets
+abbrev pub bucket_of : Seed → Rule → Str → ℕ
+bucket_of seed r clue = (subject_place seed r + place_of seed buckets clue) % buckets
 
 -- x is the key of rule number i, which is r, by one of its clues
 pub record Keyed (seed : Seed) (r : Rule) (i x : ℕ) : Type 0 where
   pub clue : Str
-  pub known : clue ∈ ruleClues r.path
-  pub below : (rank r < topRank) × (i < maxRules)
-  pub is : x ≡ (bucketOf seed r clue * topRank + (topRank - 1 - rank r)) * maxRules + i
+  pub known : clue ∈ rule_clues r.path
+  pub below : (rank r < top_rank) × (i < max_rules)
+  pub is : x ≡ (bucket_of seed r clue * top_rank + (top_rank - 1 - rank r)) * max_rules + i
 
 abbrev pub KeyedAt : Seed → List ℕ → List ℕ → ℕ → ℕ → Type 0
-KeyedAt seed f starts i x = Keyed seed (ruleIn f (get_or starts i 0)) i x
+KeyedAt seed f starts i x = Keyed seed (rule_in f (get_or starts i 0)) i x
 
 -- the keys of the rules in the order of their numbers
 abbrev pub AllKeyed : Seed → List ℕ → List ℕ → ℕ → List ℕ → Type 0

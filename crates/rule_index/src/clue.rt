@@ -4,10 +4,10 @@ ghost use Rattle.std.specs.Prelude.{◌≡◌, false, ◌⊎◌, ◌≤◌, leng
 ghost use Rattle.text.specs.Test.{◌∈◌};
 ghost use Rattle.text.specs.String.{bytes, same};
 ghost use Rattle.text_hash.specs.Mix.{Small};
-ghost use Rattle.table_place.specs.Place.{strEnd, strIn, keysIn, keysEnd, pathIn, pathEnd};
+ghost use Rattle.table_place.specs.Place.{str_end, str_in, keys_in, keys_end, path_in, path_end};
 ghost use Rattle.verdict.specs.Cover.{given};
 ghost use Rattle.member_index.specs.Index.{places};
-ghost use Rattle.rule_index.specs.Clue.{values_of, ruleClues};
+ghost use Rattle.rule_index.specs.Clue.{values_of, rule_clues};
 
 use text_hash::Seed;
 
@@ -23,8 +23,8 @@ const NO_VALUE: usize = 65536;
 
 // The value at v, where it is definite and its place has fewer uses than that of the choice.
 fn choose(c: Choice, f: &[u8], v: usize, uses: &[u16], seed: Seed) -> Choice
-    requires { (strEnd f.now v ≤ length f.now) × (length uses.now ≡ places) × Small seed }
-    ensures { (result.at ≡ c.at) ⊎ ((result.at ≡ v) × (same (strIn f.now v) (bytes "*") ≡ false)) }
+    requires { (str_end f.now v ≤ length f.now) × (length uses.now ≡ places) × Small seed }
+    ensures { (result.at ≡ c.at) ⊎ ((result.at ≡ v) × (same (str_in f.now v) (bytes "*") ≡ false)) }
 {
     let is_star = verdict_compare::key::is_star(f, v);
     let p = member_index::place_at(f, v, seed);
@@ -37,9 +37,9 @@ fn choose(c: Choice, f: &[u8], v: usize, uses: &[u16], seed: Seed) -> Choice
 
 // The choice after the values of k keys, from `at` on.
 fn choose_of(c: Choice, f: &[u8], at: usize, k: usize, uses: &[u16], seed: Seed) -> Choice
-    requires { (keysEnd k f.now at ≤ length f.now) × (length uses.now ≡ places) × Small seed }
+    requires { (keys_end k f.now at ≤ length f.now) × (length uses.now ≡ places) × Small seed }
     ensures { (result.at ≡ c.at)
-        ⊎ ((strEnd f.now result.at ≤ length f.now) × (strIn f.now result.at ∈ values_of (given (keysIn k f.now at)))) }
+        ⊎ ((str_end f.now result.at ≤ length f.now) × (str_in f.now result.at ∈ values_of (given (keys_in k f.now at)))) }
 {
     let mut best = c;
     let mut q = at;
@@ -55,8 +55,8 @@ fn choose_of(c: Choice, f: &[u8], at: usize, k: usize, uses: &[u16], seed: Seed)
 
 // Where the clue of the path at `at` stands: a string. That of no elements is the path itself, as an empty string.
 pub fn clue_at(f: &[u8], at: usize, uses: &[u16], seed: Seed) -> usize
-    requires { (pathEnd f.now at ≤ length f.now) × (length uses.now ≡ places) × Small seed }
-    ensures { (strEnd f.now result ≤ length f.now) × (strIn f.now result ∈ ruleClues (pathIn f.now at)) }
+    requires { (path_end f.now at ≤ length f.now) × (length uses.now ≡ places) × Small seed }
+    ensures { (str_end f.now result ≤ length f.now) × (str_in f.now result ∈ rule_clues (path_in f.now at)) }
 {
     let n = f[at] as usize;
     if n == 0 {

@@ -1,6 +1,6 @@
 // The deciding rule for a request, found by the index: the rules are tried that have one of the clues of its path.
 ghost use Rattle.std.specs.Prelude.{◌≡◌, ◌≤◌, ◌<◌, length};
-ghost use Rattle.table_place.specs.Place.{keysEnd, keysIn, elemsEnd, elemsIn};
+ghost use Rattle.table_place.specs.Place.{keys_end, keys_in, elems_end, elems_in};
 ghost use Rattle.text_hash.specs.Mix.{Small, place_of};
 ghost use Rattle.verdict_concern.specs.Concern.{Safe};
 ghost use Rattle.rule_index.specs.Clue.{values_of, values};
@@ -32,12 +32,12 @@ fn probe(
     k: usize,
     seen: &mut [u8],
 ) -> Best
-    requires { Safe f.now starts.now holders.now n × Index seed f.now starts.now n keys.now first.now × (elemsEnd k g.now p ≤ length g.now)
+    requires { Safe f.now starts.now holders.now n × Index seed f.now starts.now n keys.now first.now × (elems_end k g.now p ≤ length g.now)
         × (c < buckets) × (who.place ≡ place_of seed buckets user.now)
-        × Probing f.now starts.now holders.now n who.set user.now who.mode origin.now (elemsIn k g.now p) seed keys.now seen.old b
+        × Probing f.now starts.now holders.now n who.set user.now who.mode origin.now (elems_in k g.now p) seed keys.now seen.old b
         × (length seen.old ≡ buckets) }
     ensures probed { Probed f.now starts.now holders.now n who.set user.now who.mode origin.now
-        (elemsIn k g.now p) seed keys.now c b result seen.new }
+        (elems_in k g.now p) seed keys.now c b result seen.new }
     ensures seen_len_unchanged { length seen.new ≡ length seen.old }
 {
     if seen[c] == 1 {
@@ -76,13 +76,13 @@ fn probe_keys(
     k: usize,
     seen: &mut [u8],
 ) -> Best
-    requires { Safe f.now starts.now holders.now n × Index seed f.now starts.now n keys.now first.now × (elemsEnd k g.now p ≤ length g.now)
+    requires { Safe f.now starts.now holders.now n × Index seed f.now starts.now n keys.now first.now × (elems_end k g.now p ≤ length g.now)
         × (who.place ≡ place_of seed buckets user.now) × Small seed
-        × (keysEnd count g.now at ≤ length g.now)
-        × Probing f.now starts.now holders.now n who.set user.now who.mode origin.now (elemsIn k g.now p) seed keys.now seen.old b
+        × (keys_end count g.now at ≤ length g.now)
+        × Probing f.now starts.now holders.now n who.set user.now who.mode origin.now (elems_in k g.now p) seed keys.now seen.old b
         × (length seen.old ≡ buckets) }
     ensures probed_all { ProbedAll f.now starts.now holders.now n who.set user.now who.mode origin.now
-        (elemsIn k g.now p) seed keys.now (values_of (keysIn count g.now at)) b result seen.new }
+        (elems_in k g.now p) seed keys.now (values_of (keys_in count g.now at)) b result seen.new }
     ensures seen_len_unchanged { length seen.new ≡ length seen.old }
 {
     let mut best = b;
@@ -120,13 +120,13 @@ fn probe_elements(
     k: usize,
     seen: &mut [u8],
 ) -> Best
-    requires { Safe f.now starts.now holders.now n × Index seed f.now starts.now n keys.now first.now × (elemsEnd k g.now p ≤ length g.now)
+    requires { Safe f.now starts.now holders.now n × Index seed f.now starts.now n keys.now first.now × (elems_end k g.now p ≤ length g.now)
         × (who.place ≡ place_of seed buckets user.now) × Small seed
-        × (elemsEnd count g.now at ≤ length g.now)
-        × Probing f.now starts.now holders.now n who.set user.now who.mode origin.now (elemsIn k g.now p) seed keys.now seen.old b
+        × (elems_end count g.now at ≤ length g.now)
+        × Probing f.now starts.now holders.now n who.set user.now who.mode origin.now (elems_in k g.now p) seed keys.now seen.old b
         × (length seen.old ≡ buckets) }
     ensures probed_all { ProbedAll f.now starts.now holders.now n who.set user.now who.mode origin.now
-        (elemsIn k g.now p) seed keys.now (values (elemsIn count g.now at)) b result seen.new }
+        (elems_in k g.now p) seed keys.now (values (elems_in count g.now at)) b result seen.new }
     ensures seen_len_unchanged { length seen.new ≡ length seen.old }
 {
     let mut best = b;
@@ -176,10 +176,10 @@ pub fn find(
     p: usize,
     k: usize,
 ) -> Best
-    requires { Safe f.now starts.now holders.now n × Index seed f.now starts.now n keys.now first.now × (elemsEnd k g.now p ≤ length g.now)
+    requires { Safe f.now starts.now holders.now n × Index seed f.now starts.now n keys.now first.now × (elems_end k g.now p ≤ length g.now)
         × (who.place ≡ place_of seed buckets user.now) × Small seed }
     ensures { Found f.now starts.now holders.now n who.set user.now who.mode origin.now
-        (elemsIn k g.now p) result }
+        (elems_in k g.now p) result }
 {
     let none = Best {
         weight: 0,

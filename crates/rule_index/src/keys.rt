@@ -1,12 +1,12 @@
 // The keys of rules: a number for each that has its bucket, then how far its rank is below the top, then its number. In rising order the rules of
 // a bucket stand side by side, the best first.
 ghost use Rattle.std.specs.Prelude.{◌≡◌, ◌≤◌, ◌<◌, length};
-ghost use Rattle.limits.specs.Limits.{maxRules};
+ghost use Rattle.limits.specs.Limits.{max_rules};
 ghost use Rattle.text_hash.specs.Mix.{Small};
-ghost use Rattle.table_rows.specs.Rules.{ruleIn, ruleEnd};
+ghost use Rattle.table_rows.specs.Rules.{rule_in, rule_end};
 ghost use Rattle.verdict_judge.specs.Rules.{Placed, Short};
 ghost use Rattle.member_index.specs.Index.{places};
-ghost use Rattle.rule_index.specs.Index.{buckets, subjectPlace, Keyed, AllKeyed, Bounded, Firsts, Index};
+ghost use Rattle.rule_index.specs.Index.{buckets, subject_place, Keyed, AllKeyed, Bounded, Firsts, Index};
 
 use text_hash::Seed;
 
@@ -18,8 +18,8 @@ pub const RANKS: usize = 17179869184;
 
 // The place of the subject of the rule at s: 0 for a group.
 fn subject_place(f: &[u8], s: usize, seed: Seed) -> usize
-    requires { (ruleEnd f.now s ≤ length f.now) × Small seed }
-    ensures { result ≡ subjectPlace seed (ruleIn f.now s) }
+    requires { (rule_end f.now s ≤ length f.now) × Small seed }
+    ensures { result ≡ subject_place seed (rule_in f.now s) }
 {
     if f[s + table::RULE_SUBJECT_KIND] == table::SUBJECT_GROUP {
         return 0;
@@ -29,8 +29,8 @@ fn subject_place(f: &[u8], s: usize, seed: Seed) -> usize
 
 // The key of rule i, which stands at s.
 fn key_of(f: &[u8], s: usize, i: usize, uses: &[u16], seed: Seed) -> u64
-    requires { (ruleEnd f.now s ≤ length f.now) × Short f.now × (i < maxRules) × Small seed × (length uses.now ≡ places) }
-    ensures { Keyed seed (ruleIn f.now s) i result }
+    requires { (rule_end f.now s ≤ length f.now) × Short f.now × (i < max_rules) × Small seed × (length uses.now ≡ places) }
+    ensures { Keyed seed (rule_in f.now s) i result }
 {
     let a = verdict_judge::rule::path_at(f, s);
     let w = verdict_judge::rule::rank_at(f, s, a);
@@ -41,7 +41,7 @@ fn key_of(f: &[u8], s: usize, i: usize, uses: &[u16], seed: Seed) -> u64
 
 // The keys of the n rules, in the order of their numbers.
 fn make(f: &[u8], starts: &[u16], n: usize, uses: &[u16], seed: Seed, keys: &mut [u64])
-    requires { Placed f.now starts.now n × (n ≤ maxRules) × (n ≤ length keys.old) × Small seed × (length uses.now ≡ places) }
+    requires { Placed f.now starts.now n × (n ≤ max_rules) × (n ≤ length keys.old) × Small seed × (length uses.now ≡ places) }
     ensures { (length keys.new ≡ length keys.old) × AllKeyed seed f.now starts.now n keys.new }
 {
     let mut i = 0;
@@ -54,7 +54,7 @@ fn make(f: &[u8], starts: &[u16], n: usize, uses: &[u16], seed: Seed, keys: &mut
 
 // Puts down for each bucket where its first key stands, counted from 1.
 fn mark_first(keys: &[u64], n: usize, first: &mut [u16])
-    requires { (n ≤ maxRules) × (n ≤ length keys.now) × (length first.old ≡ buckets) × Bounded keys.now n }
+    requires { (n ≤ max_rules) × (n ≤ length keys.now) × (length first.old ≡ buckets) × Bounded keys.now n }
     ensures { (length first.new ≡ buckets) × Firsts keys.now n first.new }
 {
     let mut left = n;
@@ -75,7 +75,7 @@ pub fn index(
     spare: &mut [u64],
     first: &mut [u16],
 )
-    requires { Placed f.now starts.now n × (n ≤ maxRules) × (n ≤ length keys.old) × (n ≤ length spare.old) × (length first.old ≡ buckets)
+    requires { Placed f.now starts.now n × (n ≤ max_rules) × (n ≤ length keys.old) × (n ≤ length spare.old) × (length first.old ≡ buckets)
         × Small seed }
     ensures { Index seed f.now starts.now n keys.new first.new }
 {

@@ -1,9 +1,9 @@
 // The rules of a bucket, tried one after another.
 ghost use Rattle.std.specs.Prelude.{◌≡◌, suc, ◌+◌, ◌-◌, ◌*◌, ◌≤◌, ◌<◌, length, get_or};
-ghost use Rattle.limits.specs.Limits.{maxRules};
-ghost use Rattle.verdict.specs.Rank.{topRank, rank};
-ghost use Rattle.table_rows.specs.Rules.{ruleIn};
-ghost use Rattle.table_place.specs.Place.{elemsEnd, elemsIn};
+ghost use Rattle.limits.specs.Limits.{max_rules};
+ghost use Rattle.verdict.specs.Rank.{top_rank, rank};
+ghost use Rattle.table_rows.specs.Rules.{rule_in};
+ghost use Rattle.table_place.specs.Place.{elems_end, elems_in};
 ghost use Rattle.verdict_concern.specs.Concern.{Safe};
 ghost use Rattle.rule_index.specs.Index.{buckets, Index};
 ghost use Rattle.rule_index.specs.Found.{Kept, Tried, Scanned};
@@ -22,8 +22,8 @@ pub struct Asker {
 
 // The largest key of the bucket whose rule can be better than the best so far.
 fn last_key(bucket: usize, weight: usize) -> u64
-    requires { (bucket < buckets) × (weight ≤ topRank) }
-    ensures { result ≡ (bucket * topRank + (topRank - weight)) * maxRules + (maxRules - 1) }
+    requires { (bucket < buckets) × (weight ≤ top_rank) }
+    ensures { result ≡ (bucket * top_rank + (top_rank - weight)) * max_rules + (max_rules - 1) }
 {
     ((bucket * crate::keys::RANKS + (crate::keys::RANKS - weight)) * limits::MAX_RULES
         + (limits::MAX_RULES - 1)) as u64
@@ -45,11 +45,11 @@ fn try_rule(
     p: usize,
     k: usize,
 ) -> Best
-    requires { Safe f.now starts.now holders.now n × (i < n) × (x ≡ suc (rank (ruleIn f.now (get_or starts.now i 0))))
-        × (elemsEnd k g.now p ≤ length g.now)
-        × Kept f.now starts.now holders.now n who.set user.now who.mode origin.now (elemsIn k g.now p) b }
+    requires { Safe f.now starts.now holders.now n × (i < n) × (x ≡ suc (rank (rule_in f.now (get_or starts.now i 0))))
+        × (elems_end k g.now p ≤ length g.now)
+        × Kept f.now starts.now holders.now n who.set user.now who.mode origin.now (elems_in k g.now p) b }
     ensures { Tried f.now starts.now holders.now n who.set user.now who.mode origin.now
-        (elemsIn k g.now p) i b result }
+        (elems_in k g.now p) i b result }
 {
     let s = starts[i] as usize;
     if !verdict_judge::best::wins_better(f, s, x, b) {
@@ -91,10 +91,10 @@ pub fn scan(
     p: usize,
     k: usize,
 ) -> Best
-    requires { Safe f.now starts.now holders.now n × Index seed f.now starts.now n keys.now first.now × (elemsEnd k g.now p ≤ length g.now)
-        × (bucket < buckets) × Kept f.now starts.now holders.now n who.set user.now who.mode origin.now (elemsIn k g.now p) b }
+    requires { Safe f.now starts.now holders.now n × Index seed f.now starts.now n keys.now first.now × (elems_end k g.now p ≤ length g.now)
+        × (bucket < buckets) × Kept f.now starts.now holders.now n who.set user.now who.mode origin.now (elems_in k g.now p) b }
     ensures { Scanned f.now starts.now holders.now n who.set user.now who.mode origin.now
-        (elemsIn k g.now p) seed keys.now bucket b result }
+        (elems_in k g.now p) seed keys.now bucket b result }
 {
     let from = first[bucket] as usize;
     if from == 0 {

@@ -1,7 +1,7 @@
 // How many values of definite keys each place has.
 ghost use Rattle.std.specs.Prelude.{◌≡◌, ◌≤◌, length};
 ghost use Rattle.text_hash.specs.Mix.{Small};
-ghost use Rattle.table_place.specs.Place.{strEnd, keysEnd, pathEnd};
+ghost use Rattle.table_place.specs.Place.{str_end, keys_end, path_end};
 ghost use Rattle.verdict_judge.specs.Rules.{Placed};
 ghost use Rattle.member_index.specs.Index.{places};
 
@@ -9,7 +9,7 @@ use text_hash::Seed;
 
 // One use more of the value at v, unless it is a wildcard. A place has no more uses than 16 bits tell.
 fn count_value(f: &[u8], v: usize, seed: Seed, uses: &mut [u16])
-    requires { (strEnd f.now v ≤ length f.now) × (length uses.old ≡ places) × Small seed }
+    requires { (str_end f.now v ≤ length f.now) × (length uses.old ≡ places) × Small seed }
     ensures { length uses.new ≡ length uses.old }
 {
     if verdict_compare::key::is_star(f, v) {
@@ -23,7 +23,7 @@ fn count_value(f: &[u8], v: usize, seed: Seed, uses: &mut [u16])
 
 // Those of k keys, from `at` on.
 fn count_keys(f: &[u8], at: usize, k: usize, seed: Seed, uses: &mut [u16])
-    requires { (keysEnd k f.now at ≤ length f.now) × (length uses.old ≡ places) × Small seed }
+    requires { (keys_end k f.now at ≤ length f.now) × (length uses.old ≡ places) × Small seed }
     ensures { length uses.new ≡ length uses.old }
 {
     let mut q = at;
@@ -38,7 +38,7 @@ fn count_keys(f: &[u8], at: usize, k: usize, seed: Seed, uses: &mut [u16])
 
 // Those of the path at `at`.
 fn count_path(f: &[u8], at: usize, seed: Seed, uses: &mut [u16])
-    requires { (pathEnd f.now at ≤ length f.now) × (length uses.old ≡ places) × Small seed }
+    requires { (path_end f.now at ≤ length f.now) × (length uses.old ≡ places) × Small seed }
     ensures { length uses.new ≡ length uses.old }
 {
     let mut q = at + 1;

@@ -5,8 +5,8 @@ use Rattle.table_line.specs.Lines.{lines}
 use Rattle.table.specs.declared.Checked.{Checked}
 use Rattle.table.specs.declared.Checked.TheVariants.{Accepted}
 use Rattle.verdict.specs.Verdict.{Request}
-use Rattle.log.specs.Log.{judgeLog, logOf}
-use Rattle.season.specs.Calls.{firstFault}
+use Rattle.log.specs.Log.{judge_log, log_of}
+use Rattle.season.specs.Calls.{first_fault}
 
 -- the parts, one after another, are the log; each but the last ends with LF
 pub data InParts : Str → List Str → Type 0 where
@@ -14,11 +14,11 @@ pub data InParts : Str → List Str → Type 0 where
   next : (line : Str) {rest : Str} {parts : List Str} → InParts rest parts → InParts ((line ++ (10 ∷ [])) ++ rest) ((line ++ (10 ∷ [])) ∷ parts)
 
 -- the first fault of the parts; the lines of the first one count from `number`, those of each other one go on from there
-unfoldable pub judgeParts : ℕ → List Str → Checked
-judgeParts number [] = Accepted
-judgeParts number (p ∷ ps) = firstFault (judgeLog number (lines p)) (judgeParts (number + length (lines p)) ps)
+unfoldable pub judge_parts : ℕ → List Str → Checked
+judge_parts number [] = Accepted
+judge_parts number (p ∷ ps) = first_fault (judge_log number (lines p)) (judge_parts (number + length (lines p)) ps)
 
 -- the requests of the parts, one after another
-unfoldable pub requestsOfParts : List Str → List Request
-requestsOfParts [] = []
-requestsOfParts (p ∷ ps) = logOf p ++ requestsOfParts ps
+unfoldable pub requests_of_parts : List Str → List Request
+requests_of_parts [] = []
+requests_of_parts (p ∷ ps) = log_of p ++ requests_of_parts ps

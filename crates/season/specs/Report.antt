@@ -1,20 +1,20 @@
 -- The season report over a table and a log's requests: the counts, and their text.
 use Rattle.std.specs.Prelude.{ℕ, zero, suc, Bool, true, false, List, [], ◌∷◌, ◌++◌, eqb, length}
-use Rattle.limits.specs.Limits.{maxRules}
+use Rattle.limits.specs.Limits.{max_rules}
 use Rattle.text.specs.Test.{◌and◌, only}
 use Rattle.text.specs.String.{Str, bytes, joined}
 use Rattle.text_make.specs.Decimal.{decimal}
 use Rattle.table.specs.Table.{Table}
 use Rattle.verdict.specs.Verdict.{Request, decider}
-use Rattle.verdict_request.specs.Calls.{decidedBy}
+use Rattle.verdict_request.specs.Calls.{decided_by}
 use Rattle.verdict_request.specs.declared.PathAnswer.{PathAnswer}
 use Rattle.verdict_request.specs.declared.PathAnswer.TheVariants.{Permit, Deny, Default, Refused}
 
 -- ---- the single-path verdicts
 
 -- the answer that the table gives to a request of the log
-unfoldable pub answerTo : Table → Request → PathAnswer
-answerTo t q = decidedBy (decider t q)
+unfoldable pub answer_to : Table → Request → PathAnswer
+answer_to t q = decided_by (decider t q)
 
 -- the rule decided
 unfoldable pub decides : ℕ → PathAnswer → Bool
@@ -30,17 +30,17 @@ permitted (Deny r) = false
 permitted Default = false
 permitted (Refused n l) = false
 
-unfoldable pub deniedByRule : PathAnswer → Bool
-deniedByRule (Permit r) = false
-deniedByRule (Deny r) = true
-deniedByRule Default = false
-deniedByRule (Refused n l) = false
+unfoldable pub denied_by_rule : PathAnswer → Bool
+denied_by_rule (Permit r) = false
+denied_by_rule (Deny r) = true
+denied_by_rule Default = false
+denied_by_rule (Refused n l) = false
 
-unfoldable pub deniedByDefault : PathAnswer → Bool
-deniedByDefault (Permit r) = false
-deniedByDefault (Deny r) = false
-deniedByDefault Default = true
-deniedByDefault (Refused n l) = false
+unfoldable pub denied_by_default : PathAnswer → Bool
+denied_by_default (Permit r) = false
+denied_by_default (Deny r) = false
+denied_by_default Default = true
+denied_by_default (Refused n l) = false
 
 -- ---- the counts
 
@@ -49,25 +49,25 @@ unfoldable pub count : {A : Type 0} → (A → Bool) → List A → ℕ
 count f xs = length (only f xs)
 
 -- what f gives for n numbers, from i on
-unfoldable pub forEach : (ℕ → ℕ) → ℕ → ℕ → List ℕ
-forEach f zero i = []
-forEach f (suc n) i = f i ∷ forEach f n (suc i)
+unfoldable pub for_each : (ℕ → ℕ) → ℕ → ℕ → List ℕ
+for_each f zero i = []
+for_each f (suc n) i = f i ∷ for_each f n (suc i)
 
 module _ (t : Table) (qs : List Request) where
   -- "how often it decided"
-  unfoldable pub ruleCount : ℕ → ℕ
-  ruleCount rule = count (λ (q : Request). decides rule (answerTo t q)) qs
+  unfoldable pub rule_count : ℕ → ℕ
+  rule_count rule = count (λ (q : Request). decides rule (answer_to t q)) qs
 
   -- "for each of the 256 rules"
-  unfoldable pub ruleCounts : List ℕ
-  ruleCounts = forEach ruleCount maxRules 0
+  unfoldable pub rule_counts : List ℕ
+  rule_counts = for_each rule_count max_rules 0
 
   -- how many requests have that mode and that outcome
   unfoldable pub cell : ℕ → (PathAnswer → Bool) → ℕ
-  cell mode outcome = count (λ (q : Request). eqb q.mode mode and outcome (answerTo t q)) qs
+  cell mode outcome = count (λ (q : Request). eqb q.mode mode and outcome (answer_to t q)) qs
 
   unfoldable pub row : ℕ → List ℕ
-  row mode = cell mode permitted ∷ cell mode deniedByRule ∷ cell mode deniedByDefault ∷ []
+  row mode = cell mode permitted ∷ cell mode denied_by_rule ∷ cell mode denied_by_default ∷ []
 
   -- "a grid of read and write against permit, denied by a rule, and denied by default"
   unfoldable pub grid : List (List ℕ)
@@ -77,12 +77,12 @@ module _ (t : Table) (qs : List Request) where
 
   -- "rules 0 to 255, then read permit, read denied by rule, read default, then the same for write"
   unfoldable pub figures : List ℕ
-  figures = ruleCounts ++ (row 1 ++ row 2)
+  figures = rule_counts ++ (row 1 ++ row 2)
 
 -- "decimal lines without leading zeros"
-unfoldable pub figureLine : ℕ → Str
-figureLine n = decimal n ++ bytes "\n"
+unfoldable pub figure_line : ℕ → Str
+figure_line n = decimal n ++ bytes "\n"
 
 -- "The report is 262 decimal lines"
 unfoldable pub report : Table → List Request → Str
-report t qs = joined figureLine (figures t qs)
+report t qs = joined figure_line (figures t qs)

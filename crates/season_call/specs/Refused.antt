@@ -5,6 +5,6 @@ use Rattle.season.specs.declared.Reported.{Reported}
 use Rattle.season.specs.declared.Reported.TheVariants.{Length, Refused}
 
 -- (0 only stands for a table that was loaded, of which this is not asked)
-unfoldable pub refusedBy : Loaded → Reported
-refusedBy (loaded.Refused n l) = Refused n l
-refusedBy (loaded.Table u c) = Length 0
+unfoldable pub refused_by : Loaded → Reported
+refused_by (loaded.Refused n l) = Refused n l
+refused_by (loaded.Table u c) = Length 0

@@ -1,10 +1,10 @@
 // The season report on a table text and a log, with every refusal.
 ghost use Rattle.std.specs.Prelude.{◌≡◌};
-ghost use Rattle.season.specs.Calls.{seasonAnswer, seasonLent};
+ghost use Rattle.season.specs.Calls.{season_answer, season_lent};
 ghost use Rattle.season_count.specs.Counts.{UpTo};
 ghost use Rattle.season_count.specs.Loaded.{Sound};
 ghost use Rattle.season_call.specs.Counted.{CountsLog};
-ghost use Rattle.season_call.specs.Refused.{refusedBy};
+ghost use Rattle.season_call.specs.Refused.{refused_by};
 
 use season::Reported;
 use season_count::lines::Ended;
@@ -14,7 +14,7 @@ pub mod written;
 
 // A table's own refusal.
 fn refused(l: Loaded) -> Reported
-    ensures { result ≡ refusedBy l }
+    ensures { result ≡ refused_by l }
 {
     let Loaded::Refused { number, line } = l else {
         return Reported::Length(0);
@@ -62,8 +62,8 @@ fn count_log(
 
 // The report at the start of the buffer.
 pub fn season_report(table: &[u8], log: &[u8], out: &mut [u8]) -> Reported
-    ensures value { result ≡ seasonAnswer table.now log.now out.old }
-    ensures out_after { out.new ≡ seasonLent table.now log.now out.old }
+    ensures value { result ≡ season_answer table.now log.now out.old }
+    ensures out_after { out.new ≡ season_lent table.now log.now out.old }
 {
     let mut buf = [0u8; limits::MAX_TABLE_BYTES];
     let mut groups = [0u16; limits::MAX_GROUPS];

@@ -9,47 +9,47 @@ use mathlib.Core.Option.{none}
 use lib.Dec.{ltb}
 use lib.ListN.{length, take, drop, get_or, length-append, take-append-drop}
 use lib.Seq.{length-take-le, take_at}
-use Rattle.limits.specs.Sizes.{maxHeading}
+use Rattle.limits.specs.Sizes.{max_heading}
 use Rattle.text.specs.Test.{◌and◌}
 use Rattle.text.specs.String.{Str}
 use Rattle.text.specs.Fill.{put}
 use Rattle.text.specs.Refusal.{clear}
 use Rattle.text.specs.Frame.{part, got}
-use Rattle.text.proofs.Filling.{put-length}
+use Rattle.text.proofs.Filling.{put_length}
 use Rattle.text.proofs.Tests.{and_l, and_r, same→≡}
 use Rattle.text_affix.specs.Affix.{begins}
-use Rattle.table_membership.specs.Set.{setIn}
+use Rattle.table_membership.specs.Set.{set_in}
 use Rattle.text_hash.specs.Mix.{place_of}
 use Rattle.text_hash.specs.declared.Seed.{Seed}
 use Rattle.member_index.specs.Index.{places}
-use Rattle.log.specs.Request.{goodRequest}
-use Rattle.log.specs.Heading.{headBytes, headRefusal}
-use Rattle.log.proofs.Headings.{headIn, HeadAt}
-use Rattle.log.proofs.Lengths.{heading-there, heading-length, heading-front, short-heading}
-use Rattle.season_count.specs.Loaded.{noHeading, Knows, Remembered, Headed}
+use Rattle.log.specs.Request.{good_request}
+use Rattle.log.specs.Heading.{head_bytes, head_refusal}
+use Rattle.log.proofs.Headings.{head_in, HeadAt}
+use Rattle.log.proofs.Lengths.{heading_there, heading_length, heading_front, short_heading}
+use Rattle.season_count.specs.Loaded.{no_heading, Knows, Remembered, Headed}
 use Rattle.season_count.specs.declared.heading.Asked.{Asked}
 
-begins-front : (p v : Str) → begins p v ≡ true → v ≡ p ++ drop (length p) v
+begins_front : (p v : Str) → begins p v ≡ true → v ≡ p ++ drop (length p) v
 unfolding begins
-begins-front p v b =
+begins_front p v b =
     sym (take-append-drop (length p) v) ∙ ap (λ (s : Str). s ++ drop (length p) v) (sym (same→≡ p (take (length p) v) (and_r _ _ b)))
 
 -- another good heading of a frame
 module _ {frame : List ℕ} {number o p : ℕ} (a : HeadAt frame number o p) (c : number ≡ clear) where
-  good-head : headRefusal (headIn frame o p) ≡ clear
-  good-head = sym a.number ∙ c
+  good_head : head_refusal (head_in frame o p) ≡ clear
+  good_head = sym a.number ∙ c
 
-  pub key-room : (key : List ℕ) → maxHeading ≤ length key → 0 + length (take p frame) ≤ length key
-  key-room key r =
+  pub key_room : (key : List ℕ) → max_heading ≤ length key → 0 + length (take p frame) ≤ length key
+  key_room key r =
       let l : length (take p frame) ≡ p = length-take-le p frame a.within in
-      omega (arith, short-heading (headIn frame o p) good-head, heading-length frame (headIn frame o p) p a.reads)
+      omega (arith, short_heading (head_in frame o p) good_head, heading_length frame (head_in frame o p) p a.reads)
 
-  pub key-long : (key key' : List ℕ) → maxHeading ≤ length key → key' ≡ put key 0 (take p frame) → length key' ≡ length key
-  key-long key key' r w = ap length w ∙ put-length key 0 (take p frame) (key-room key r)
+  pub key_long : (key key' : List ℕ) → max_heading ≤ length key → key' ≡ put key 0 (take p frame) → length key' ≡ length key
+  key_long key key' r w = ap length w ∙ put_length key 0 (take p frame) (key_room key r)
 
 module _ {seed : Seed} {f users owners : List ℕ} {m : ℕ} where
   -- the frame has no good heading, and none is remembered any more
-  pub forgotten : (key : List ℕ) (frame : List ℕ) (r : Asked) → r ≡ noHeading → goodRequest frame ≡ none → Headed seed f users owners m frame key r
+  pub forgotten : (key : List ℕ) (frame : List ℕ) (r : Asked) → r ≡ no_heading → good_request frame ≡ none → Headed seed f users owners m frame key r
   forgotten key frame r z e =
       rw z (record { kept = record { within = omega arith; head = λ l. absurd (omega arith) }; bad = λ z. e; good = λ l. absurd (omega arith) })
 
@@ -59,25 +59,25 @@ module _ {seed : Seed} {f users owners : List ℕ} {m : ℕ} where
     front_long : length (take a.path key) ≡ a.path
     front_long = length-take-le a.path key k.within
 
-    some-front : 0 < a.path
-    some-front = omega (arith, front_long, ltb-true 0 (length (take a.path key)) (and_l _ _ e))
+    some_front : 0 < a.path
+    some_front = omega (arith, front_long, ltb-true 0 (length (take a.path key)) (and_l _ _ e))
 
     pub again : Headed seed f users owners m frame key a
     again =
-        let h = k.head some-front in
-        let b : frame ≡ headBytes h.0 ++ drop (length (take a.path key)) frame =
-        begins-front (take a.path key) frame (and_r _ _ e) ∙ ap (λ (s : Str). s ++ drop (length (take a.path key)) frame) h.1 in
-        let l : length (headBytes h.0) ≡ a.path = sym (ap length h.1) ∙ front_long in
-        let z = some-front in
+        let h = k.head some_front in
+        let b : frame ≡ head_bytes h.0 ++ drop (length (take a.path key)) frame =
+        begins_front (take a.path key) frame (and_r _ _ e) ∙ ap (λ (s : Str). s ++ drop (length (take a.path key)) frame) h.1 in
+        let l : length (head_bytes h.0) ≡ a.path = sym (ap length h.1) ∙ front_long in
+        let z = some_front in
         record {
           kept = k;
           bad = λ q. absurd (omega arith);
-          good = λ q. (h.0, heading-there frame h.0 _ b ∙ ap (λ (t : ℕ). got h.0 t) l, h.2, h.3);
+          good = λ q. (h.0, heading_there frame h.0 _ b ∙ ap (λ (t : ℕ). got h.0 t) l, h.2, h.3);
         }
 
 -- the other heading is remembered now
 module _ (seed : Seed) (f users owners : List ℕ) (m : ℕ) {frame : List ℕ} {number o p : ℕ} (a : HeadAt frame number o p) (c : number ≡ clear) where
-  pub turned : (key key' : List ℕ) → key' ≡ put key 0 (take p frame) → (set place mode : ℕ) → set ≡ setIn (part frame 2 o) f users owners m 0 0
+  pub turned : (key key' : List ℕ) → key' ≡ put key 0 (take p frame) → (set place mode : ℕ) → set ≡ set_in (part frame 2 o) f users owners m 0 0
       → place ≡ place_of seed places (part frame 2 o) → mode ≡ get_or frame 0 0
       → Headed seed f users owners m frame key' (record { path = p; set = set; place = place; mode = mode })
   unfolding put
@@ -85,10 +85,10 @@ module _ (seed : Seed) (f users owners : List ℕ) (m : ℕ) {frame : List ℕ} 
       let t : length (take p frame) ≡ p = length-take-le p frame a.within in
       let x : take p key' ≡ take p frame = ap (take p) w ∙ take_at (take p frame) _ p t in
       let y : p ≤ length key' = omega (arith, ap length w, length-append (take p frame) (drop (0 + length (take p frame)) key)) in
-      let known : Knows seed f users owners m (headIn frame o p) (record { path = p; set = set; place = place; mode = mode }) = record { set = es; place = ep; mode = em } in
-      let z = a.origin-ends in
+      let known : Knows seed f users owners m (head_in frame o p) (record { path = p; set = set; place = place; mode = mode }) = record { set = es; place = ep; mode = em } in
+      let z = a.origin_ends in
       record {
-        kept = record { within = y; head = λ q. (headIn frame o p, x ∙ heading-front frame (headIn frame o p) p a.reads, good-head a c, known) };
+        kept = record { within = y; head = λ q. (head_in frame o p, x ∙ heading_front frame (head_in frame o p) p a.reads, good_head a c, known) };
         bad = λ q. absurd (omega arith);
-        good = λ q. (headIn frame o p, a.reads, good-head a c, known);
+        good = λ q. (head_in frame o p, a.reads, good_head a c, known);
       }

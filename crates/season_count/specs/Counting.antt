@@ -1,17 +1,17 @@
 -- What counting the lines of a log answers, and leaves in the arrays.
 use Rattle.std.specs.Prelude.{ℕ, ◌+◌, ◌≤◌, ◌<◌, ◌≡◌, ◌⊎◌, List, [], ◌∷◌, ◌++◌, length, drop}
 use Rattle.std.proofs.Math.Option.{none, some}
-use Rattle.limits.specs.Limits.{maxLogLines}
-use Rattle.limits.specs.Sizes.{maxLogLine}
+use Rattle.limits.specs.Limits.{max_log_lines}
+use Rattle.limits.specs.Sizes.{max_log_line}
 use Rattle.text.specs.String.{Str}
 use Rattle.text_hash.specs.declared.Seed.{Seed}
 use Rattle.table_line.specs.Lines.{lines}
 use Rattle.table.specs.Table.{Table}
 use Rattle.table.specs.declared.Checked.TheVariants as checked
 use Rattle.verdict.specs.Verdict.{Request}
-use Rattle.log.specs.Request.{requestOf}
-use Rattle.log.specs.Log.{judgeLog, requestsOf}
-use Rattle.season.specs.Report.{ruleCounts, grid}
+use Rattle.log.specs.Request.{request_of}
+use Rattle.log.specs.Log.{judge_log, requests_of}
+use Rattle.season.specs.Report.{rule_counts, grid}
 use Rattle.season_count.specs.Counts.{UpTo}
 use Rattle.season_count.specs.Loaded.{Is, Remembered}
 use Rattle.season_count.specs.declared.heading.Asked.{Asked}
@@ -22,21 +22,21 @@ use Rattle.season_count.specs.declared.lines.Ended.TheVariants as ended
 
 -- the counts are those of the requests
 pub record CountsOf (t : Table) (qs : List Request) (counts : List ℕ) (cells : List (List ℕ)) : Type 0 where
-  pub rules : counts ≡ ruleCounts t qs
+  pub rules : counts ≡ rule_counts t qs
   pub rows : cells ≡ grid t qs
 
 -- `to` is as far as a good line that starts at `from` can reach in a text that ends at `end`
 pub record Reaches (from end to : ℕ) : Type 0 where
   pub within : to ≤ end
-  pub near : to ≤ from + maxLogLine
-  pub far : (to ≡ end) ⊎ (to ≡ from + maxLogLine)
+  pub near : to ≤ from + max_log_line
+  pub far : (to ≡ end) ⊎ (to ≡ from + max_log_line)
 
 -- the first of the lines from `from` on is bad
 pub record BadLine (text : Str) (from : ℕ) : Type 0 where
   pub line : Str
   pub others : List Str
   pub first : lines (drop from text) ≡ line ∷ others
-  pub bad : requestOf line ≡ none
+  pub bad : request_of line ≡ none
 
 module _ (seed : Seed) (f users owners : List ℕ) (m : ℕ) (starts holders : List ℕ) (n : ℕ) where
   abbrev IsTable : Table → Type 0
@@ -51,11 +51,11 @@ module _ (seed : Seed) (f users owners : List ℕ) (m : ℕ) (starts holders : L
     pub line : Str
     pub request : Request
     pub first : lines (drop from text) ≡ line ∷ lines (drop next text)
-    pub good : requestOf line ≡ some request
+    pub good : request_of line ≡ some request
     pub goes : (from < next) × (next ≤ length text)
     pub low : (k : ℕ) → UpTo k counts cells → UpTo (k + 1) counts' cells'
     pub kept : Remembers key asked
-    pub counts-are : (t : Table) → IsTable t → (qs : List Request) → CountsOf t qs counts cells → CountsOf t (qs ++ (request ∷ [])) counts' cells'
+    pub counts_are : (t : Table) → IsTable t → (qs : List Request) → CountsOf t qs counts cells → CountsOf t (qs ++ (request ∷ [])) counts' cells'
 
   unfoldable pub Counts-line : Str → ℕ → List ℕ → List (List ℕ) → List ℕ → List ℕ → List (List ℕ) → Step → Type 0
   Counts-line text from counts cells key counts' cells' (step.To next asked) = CountedLine text from counts cells next key asked counts' cells'
@@ -64,13 +64,13 @@ module _ (seed : Seed) (f users owners : List ℕ) (m : ℕ) (starts holders : L
   -- all lines of the text were counted, after `before` lines, and there are `all` now
   pub record CountedLines (text : Str) (before : ℕ) (counts : List ℕ) (cells : List (List ℕ)) (all : ℕ) (key : List ℕ) (asked : Asked)
       (counts' : List ℕ) (cells' : List (List ℕ)) : Type 0 where
-    pub accepted : judgeLog (before + 1) (lines text) ≡ checked.Accepted
+    pub accepted : judge_log (before + 1) (lines text) ≡ checked.Accepted
     pub all_lines : all ≡ before + length (lines text)
-    pub few : all ≤ maxLogLines
+    pub few : all ≤ max_log_lines
     pub low : UpTo all counts' cells'
     pub kept : Remembers key asked
-    pub counts-are : (t : Table) → IsTable t → (qs : List Request) → CountsOf t qs counts cells → CountsOf t (qs ++ requestsOf (lines text)) counts' cells'
+    pub counts_are : (t : Table) → IsTable t → (qs : List Request) → CountsOf t qs counts cells → CountsOf t (qs ++ requests_of (lines text)) counts' cells'
 
   unfoldable pub Counts-lines : Str → ℕ → List ℕ → List (List ℕ) → List ℕ → List ℕ → List (List ℕ) → Ended → Type 0
   Counts-lines text before counts cells key counts' cells' (ended.Lines all asked) = CountedLines text before counts cells all key asked counts' cells'
-  Counts-lines text before counts cells key counts' cells' (ended.Refused number line) = judgeLog (before + 1) (lines text) ≡ checked.Refused number line
+  Counts-lines text before counts cells key counts' cells' (ended.Refused number line) = judge_log (before + 1) (lines text) ≡ checked.Refused number line

@@ -1,15 +1,15 @@
 // The counts of a report: one for each rule, and a grid of two rows and three columns.
 ghost use Rattle.std.specs.Prelude.{◌≡◌, get_or};
 ghost use Prim.Native.Nat.{◌-◌, ◌≤◌, ◌<◌};
-ghost use Rattle.limits.specs.Limits.{maxRules, maxLogLines};
-ghost use Rattle.season_count.specs.Counts.{raised, cell_of, raisedBy, columnOf, cellRaisedBy, Placed};
+ghost use Rattle.limits.specs.Limits.{max_rules, max_log_lines};
+ghost use Rattle.season_count.specs.Counts.{raised, cell_of, raised_by, column_of, cell_raised_by, Placed};
 
 use table::RuleNumber;
 use verdict_request::PathAnswer;
 
 // One place raised; only a rule's number picks it.
 fn raise(counts: &mut [u64; limits::MAX_RULES], rule: RuleNumber)
-    requires { (rule.0 < maxRules) × (get_or counts.old rule.0 0 ≤ maxLogLines) }
+    requires { (rule.0 < max_rules) × (get_or counts.old rule.0 0 ≤ max_log_lines) }
     ensures { counts.new ≡ raised counts.old rule.0 }
 {
     let k = rule.0 as usize;
@@ -18,8 +18,8 @@ fn raise(counts: &mut [u64; limits::MAX_RULES], rule: RuleNumber)
 
 // The place of the rule that decided is raised, if one did.
 pub fn count_rule(counts: &mut [u64; limits::MAX_RULES], a: PathAnswer)
-    requires { Placed a × ((i : Prim.Native.Nat.ℕ) → get_or counts.old i 0 ≤ maxLogLines) }
-    ensures { counts.new ≡ raisedBy counts.old a }
+    requires { Placed a × ((i : Prim.Native.Nat.ℕ) → get_or counts.old i 0 ≤ max_log_lines) }
+    ensures { counts.new ≡ raised_by counts.old a }
 {
     match a {
         PathAnswer::Permit(rule) => {
@@ -34,7 +34,7 @@ pub fn count_rule(counts: &mut [u64; limits::MAX_RULES], a: PathAnswer)
 }
 
 fn column(a: PathAnswer) -> usize
-    ensures { result ≡ columnOf a }
+    ensures { result ≡ column_of a }
 {
     match a {
         PathAnswer::Permit(rule) => 0,
@@ -56,8 +56,8 @@ fn row(mode: u8) -> usize
 
 // One cell is raised, in the row of the mode.
 pub fn count_cell(grid: &mut [[u64; 3]; 2], mode: u8, a: PathAnswer)
-    requires { (1 ≤ mode) × (mode ≤ 2) × ((r c : Prim.Native.Nat.ℕ) → cell_of grid.old r c ≤ maxLogLines) }
-    ensures { grid.new ≡ cellRaisedBy grid.old mode a }
+    requires { (1 ≤ mode) × (mode ≤ 2) × ((r c : Prim.Native.Nat.ℕ) → cell_of grid.old r c ≤ max_log_lines) }
+    ensures { grid.new ≡ cell_raised_by grid.old mode a }
 {
     let i = row(mode);
     let j = column(a);

@@ -1,10 +1,10 @@
 // The answer to the request of a frame. f, `users`, `owners`, `starts` and `holders` are those of a loaded table; `keys` and `first` are the index of its rules
 // by the seed, `heads` and `links` that of its members. Lines of one heading come in runs: the heading of the line before is remembered in `key`, and who asks.
 ghost use Rattle.std.specs.Prelude.{◌≡◌, ◌≤◌, length, ltb};
-ghost use Rattle.limits.specs.Sizes.{maxHeading};
+ghost use Rattle.limits.specs.Sizes.{max_heading};
 ghost use Rattle.text.specs.Test.{◌and◌};
 ghost use Rattle.text_affix.specs.Affix.{begins};
-ghost use Rattle.season_count.specs.Loaded.{noHeading, Sound, Ready, Remembered, Headed, Judges};
+ghost use Rattle.season_count.specs.Loaded.{no_heading, Sound, Ready, Remembered, Headed, Judges};
 
 use log::Heading;
 use rule_index::scan::Asker;
@@ -23,7 +23,7 @@ pub struct Asked {
 
 // None.
 pub fn nobody() -> Asked
-    ensures { result ≡ noHeading }
+    ensures { result ≡ no_heading }
 {
     Asked {
         path: 0,
@@ -71,7 +71,7 @@ fn turn_to(
 ) -> Asked
     requires { Sound f.now users.now owners.now m starts.now holders.now n
         × Ready seed f.now users.now m starts.now n keys.now first.now heads.now links.now
-        × Remembered seed f.now users.now owners.now m key.old last × (maxHeading ≤ length key.old) }
+        × Remembered seed f.now users.now owners.now m key.old last × (max_heading ≤ length key.old) }
     ensures headed { Headed seed f.now users.now owners.now m frame.now key.new result }
     ensures key_len_unchanged { length key.new ≡ length key.old }
 {
@@ -123,7 +123,7 @@ pub fn judge(
 ) -> Judged
     requires { Sound f.now users.now owners.now m starts.now holders.now n
         × Ready seed f.now users.now m starts.now n keys.now first.now heads.now links.now
-        × Remembered seed f.now users.now owners.now m key.old last × (maxHeading ≤ length key.old) }
+        × Remembered seed f.now users.now owners.now m key.old last × (max_heading ≤ length key.old) }
     ensures judges { Judges seed f.now users.now owners.now m starts.now holders.now n
         frame.now key.new result }
     ensures key_len_unchanged { length key.new ≡ length key.old }

@@ -1,7 +1,7 @@
 // The lines of a log, counted one after another.
 ghost use Rattle.std.specs.Prelude.{◌≡◌, ◌≤◌, ◌<◌, length};
-ghost use Rattle.limits.specs.Limits.{maxLogLines};
-ghost use Rattle.limits.specs.Sizes.{maxHeading, maxLogFrame};
+ghost use Rattle.limits.specs.Limits.{max_log_lines};
+ghost use Rattle.limits.specs.Sizes.{max_heading, max_log_frame};
 ghost use Rattle.text.specs.HexTable.{HexTable};
 ghost use Rattle.season_count.specs.Counts.{UpTo};
 ghost use Rattle.season_count.specs.Loaded.{Sound, Ready, Remembered};
@@ -62,8 +62,8 @@ fn count_line(
 ) -> Step
     requires { Sound f.now users.now owners.now m starts.now holders.now n
         × Ready seed f.now users.now m starts.now n keys.now first.now heads.now links.now
-        × Remembered seed f.now users.now owners.now m key.old last × (maxHeading ≤ length key.old)
-        × (maxLogFrame ≤ length line.old) × UpTo maxLogLines counts.old grid.old × (from < length text.now) × HexTable hex.now }
+        × Remembered seed f.now users.now owners.now m key.old last × (max_heading ≤ length key.old)
+        × (max_log_frame ≤ length line.old) × UpTo max_log_lines counts.old grid.old × (from < length text.now) × HexTable hex.now }
     ensures counts_line { Counts-line seed f.now users.now owners.now m starts.now holders.now n
         text.now from counts.old grid.old key.new counts.new grid.new result }
     ensures key_len_unchanged { (length key.new ≡ length key.old) × (length line.new ≡ length line.old) }
@@ -128,8 +128,8 @@ pub fn count_lines(
 ) -> Ended
     requires { Sound f.now users.now owners.now m starts.now holders.now n
         × Ready seed f.now users.now m starts.now n keys.now first.now heads.now links.now
-        × Remembered seed f.now users.now owners.now m key.old last × (maxHeading ≤ length key.old)
-        × (maxLogFrame ≤ length line.old) × UpTo before counts.old grid.old × (before ≤ maxLogLines) × HexTable hex.now }
+        × Remembered seed f.now users.now owners.now m key.old last × (max_heading ≤ length key.old)
+        × (max_log_frame ≤ length line.old) × UpTo before counts.old grid.old × (before ≤ max_log_lines) × HexTable hex.now }
     ensures counts_lines { Counts-lines seed f.now users.now owners.now m starts.now holders.now n
         text.now before counts.old grid.old key.new counts.new grid.new result }
     ensures key_len_unchanged { (length key.new ≡ length key.old) × (length line.new ≡ length line.old) }

@@ -1,6 +1,6 @@
 // A loaded table made ready for many requests: the index of its rules, and that of its members.
 ghost use Rattle.std.specs.Prelude.{◌≡◌, ◌≤◌, length};
-ghost use Rattle.limits.specs.Limits.{maxMembers, maxRules};
+ghost use Rattle.limits.specs.Limits.{max_members, max_rules};
 ghost use Rattle.text_hash.specs.Mix.{Small};
 ghost use Rattle.table_rows.specs.Strings.{Listed};
 ghost use Rattle.verdict_judge.specs.Rules.{Placed};
@@ -23,7 +23,7 @@ pub fn make_ready(
     heads: &mut [u16],
     links: &mut [u16],
 )
-    requires listed { Listed f.now users.now m × (m ≤ maxMembers) × Placed f.now starts.now n × (n ≤ maxRules) × Small seed }
+    requires listed { Listed f.now users.now m × (m ≤ max_members) × Placed f.now starts.now n × (n ≤ max_rules) × Small seed }
     requires n_in_bounds { (n ≤ length keys.old) × (length first.old ≡ buckets) × (length heads.old ≡ places) × (m ≤ length links.old) × Unlinked heads.old }
     ensures { Ready seed f.now users.now m starts.now n keys.new first.new heads.new
         links.new }

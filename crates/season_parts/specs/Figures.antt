@@ -14,17 +14,17 @@ unfoldable pub share : ℕ → ℕ → Str
 share n all = column 5 (tenths n all / 10) ++ bytes "." ++ decimal (tenths n all % 10) ++ bytes "%"
 
 -- "at most 40 columns"
-abbrev pub barColumns : ℕ
-barColumns = 40
+abbrev pub bar_columns : ℕ
+bar_columns = 40
 
 -- n or the nearer of two bounds
 unfoldable pub between : ℕ → ℕ → ℕ → ℕ
 between low high n = if ltb n low then low else (if ltb high n then high else n)
 
 -- "proportional to the largest count, rounded down but at least one column for a rule that decided"
-unfoldable pub barLength : ℕ → ℕ → ℕ
-barLength n most = between 1 barColumns (if eqb most 0 then 0 else n * barColumns / most)
+unfoldable pub bar_length : ℕ → ℕ → ℕ
+bar_length n most = between 1 bar_columns (if eqb most 0 then 0 else n * bar_columns / most)
 
 -- a column of its own
 unfoldable pub bar : ℕ → ℕ → Str
-bar n most = replicate (barLength n most) 35 ++ replicate (barColumns - barLength n most) 32
+bar n most = replicate (bar_length n most) 35 ++ replicate (bar_columns - bar_length n most) 32

@@ -1,14 +1,14 @@
 // The grid of modes and outcomes, made in a buffer.
 ghost use Rattle.std.specs.Prelude.{◌+◌, ◌*◌, ◌≤◌, length};
-ghost use Rattle.limits.specs.Limits.{maxLogLines};
+ghost use Rattle.limits.specs.Limits.{max_log_lines};
 ghost use Rattle.text_make.specs.Added.{AddedUpTo};
-ghost use Rattle.season_parts.specs.Grid.{gridRow, gridLines};
-ghost use Rattle.season_parts.specs.Grid.{maxGrid, AtMost};
+ghost use Rattle.season_parts.specs.Grid.{grid_row, grid_lines};
+ghost use Rattle.season_parts.specs.Grid.{max_grid, AtMost};
 
 // A row, and its sum.
 fn row(name: &[u8], a: u64, b: u64, c: u64, out: &mut [u8], at: usize) -> usize
-    requires { (a + b + c ≤ 6 * maxLogLines) × (length name.now ≤ 5) × (at + 86 ≤ length out.old) }
-    ensures { AddedUpTo 86 out.old at (gridRow name.now a b c) out.new result }
+    requires { (a + b + c ≤ 6 * max_log_lines) × (length name.now ≤ 5) × (at + 86 ≤ length out.old) }
+    ensures { AddedUpTo 86 out.old at (grid_row name.now a b c) out.new result }
 {
     let d = text_make::string(name, out, at);
     let e = crate::columns::column(11, a, out, d);
@@ -19,8 +19,8 @@ fn row(name: &[u8], a: u64, b: u64, c: u64, out: &mut [u8], at: usize) -> usize
 }
 
 pub fn lines(a: u64, b: u64, c: u64, x: u64, y: u64, z: u64, out: &mut [u8], at: usize) -> usize
-    requires { AtMost maxLogLines a b c x y z × (at + maxGrid ≤ length out.old) }
-    ensures { AddedUpTo maxGrid out.old at (gridLines a b c x y z) out.new result }
+    requires { AtMost max_log_lines a b c x y z × (at + max_grid ≤ length out.old) }
+    ensures { AddedUpTo max_grid out.old at (grid_lines a b c x y z) out.new result }
 {
     let d = text_make::string(
         b"          permit   denied by rule  denied by default        all\n",

@@ -12,9 +12,9 @@ use lib.Dec.{leb, ltb}
 use lib.ListN.{length, drop, get_or, drop_of_length-le}
 use lib.Seq.{drop-cons}
 use Rattle.text.specs.Test.{◌and◌, if◌then◌else◌}
-use Rattle.text.specs.Byte.{isDigit}
+use Rattle.text.specs.Byte.{is_digit}
 use Rattle.text.specs.String.{Str}
-use Rattle.season_sum.specs.Reading.{fits, followed, continues, numberFrom, figureOf}
+use Rattle.season_sum.specs.Reading.{fits, followed, continues, number_from, figure_of}
 use Rattle.season_sum.specs.Steps.{Reads, ReadsNumber, number, bad}
 use Rattle.season_sum.specs.declared.reading.Figure.{Figure}
 use Rattle.season_sum.specs.declared.reading.Figure.TheVariants.{Number, Bad}
@@ -26,23 +26,23 @@ pub record Digit (b : ℕ) : Type 0 where
   pub low : 48 ≤ b
   pub high : b ≤ 57
 
-pub digit : (b : ℕ) → isDigit b ≡ true → Digit b
+pub digit : (b : ℕ) → is_digit b ≡ true → Digit b
 digit b h = record { low = leb-true 48 b (and_left (leb 48 b) (leb b 57) h); high = leb-true b 57 (and_right (leb 48 b) (leb b 57) h) }
 
 -- ---- a digit after a number
 
 module _ (n b : ℕ) where
-  pub no_digit : isDigit b ≡ false → false ≡ continues n b
+  pub no_digit : is_digit b ≡ false → false ≡ continues n b
   unfolding continues ◌and◌
   no_digit h = rw h
 
-  pub after-zero : isDigit b ≡ true → n ≡ 0 → false ≡ continues n b
+  pub after_zero : is_digit b ≡ true → n ≡ 0 → false ≡ continues n b
   unfolding continues ◌and◌
-  after-zero h z = rw (h, z)
+  after_zero h z = rw (h, z)
 
-  pub next-digit : isDigit b ≡ true → (n ≡ 0 → ⊥) → leb n ((18446744073709551615 - (b - 48)) / 10) ≡ continues n b
+  pub next_digit : is_digit b ≡ true → (n ≡ 0 → ⊥) → leb n ((18446744073709551615 - (b - 48)) / 10) ≡ continues n b
   unfolding continues ◌and◌
-  next-digit h z = rw (h, lt-ltb 0 n (omega arith)) (go (dec_lt (followed n b) (2 ^ 64)))
+  next_digit h z = rw (h, lt-ltb 0 n (omega arith)) (go (dec_lt (followed n b) (2 ^ 64)))
     where
       go : Dec (followed n b < 2 ^ 64) → leb n ((18446744073709551615 - (b - 48)) / 10) ≡ fits (followed n b)
       go (yes l) = rw (le-leb n ((18446744073709551615 - (b - 48)) / 10) (omega arith), lt-ltb _ _ l)
@@ -51,39 +51,39 @@ module _ (n b : ℕ) where
   -- the digit that may follow, and the number with it
   pub continued : continues n b ≡ true → Digit b × (followed n b < 2 ^ 64)
   unfolding continues
-  continued h = (digit b (and_l (isDigit b) _ h), ltb-true (followed n b) (2 ^ 64) (and_r (ltb 0 n) _ (and_r (isDigit b) _ h)))
+  continued h = (digit b (and_l (is_digit b) _ h), ltb-true (followed n b) (2 ^ 64) (and_r (ltb 0 n) _ (and_r (is_digit b) _ h)))
 
 -- ---- the number from a position on
 
 module _ (text : Str) (i v : ℕ) where
-  pub number-none : length text ≤ i → numberFrom v (drop i text) ≡ none
-  unfolding numberFrom
-  number-none h = rw (drop_of_length-le text h)
+  pub number_none : length text ≤ i → number_from v (drop i text) ≡ none
+  unfolding number_from
+  number_none h = rw (drop_of_length-le text h)
 
   module _ (l : i < length text) where
-    pub number-ends : (at n : ℕ) → at ≤ i → numberFrom n (drop at text) ≡ numberFrom v (drop i text) → get_or text i 0 ≡ 10 → ReadsNumber text at n (Number v (i + 1))
-    unfolding numberFrom if◌then◌else◌
-    number-ends at n p e h = number {n = v} {next = i + 1} (e ∙ rw (drop-cons text i 0 l, h, add-one)) (omega arith) (omega arith)
+    pub number_ends : (at n : ℕ) → at ≤ i → number_from n (drop at text) ≡ number_from v (drop i text) → get_or text i 0 ≡ 10 → ReadsNumber text at n (Number v (i + 1))
+    unfolding number_from if◌then◌else◌
+    number_ends at n p e h = number {n = v} {next = i + 1} (e ∙ rw (drop-cons text i 0 l, h, add-one)) (omega arith) (omega arith)
 
-    pub number-stops : (get_or text i 0 ≡ 10 → ⊥) → continues v (get_or text i 0) ≡ false → numberFrom v (drop i text) ≡ none
-    unfolding numberFrom if◌then◌else◌
-    number-stops h c = rw (drop-cons text i 0 l, ne_eqb _ 10 h, c)
+    pub number_stops : (get_or text i 0 ≡ 10 → ⊥) → continues v (get_or text i 0) ≡ false → number_from v (drop i text) ≡ none
+    unfolding number_from if◌then◌else◌
+    number_stops h c = rw (drop-cons text i 0 l, ne_eqb _ 10 h, c)
 
-    pub number_more : (get_or text i 0 ≡ 10 → ⊥) → continues v (get_or text i 0) ≡ true → numberFrom v (drop i text) ≡ numberFrom (followed v (get_or text i 0)) (drop (i + 1) text)
-    unfolding numberFrom if◌then◌else◌
+    pub number_more : (get_or text i 0 ≡ 10 → ⊥) → continues v (get_or text i 0) ≡ true → number_from v (drop i text) ≡ number_from (followed v (get_or text i 0)) (drop (i + 1) text)
+    unfolding number_from if◌then◌else◌
     number_more h c = rw (drop-cons text i 0 l, ne_eqb _ 10 h, c, add-one)
 
 -- ---- the figure of the line at a position
 
 module _ (text : Str) (at : ℕ) (l : at < length text) where
-  pub figure-none : isDigit (get_or text at 0) ≡ false → Reads text at (figureOf (drop at text)) Bad
-  unfolding figureOf if◌then◌else◌
-  figure-none h = bad (rw (drop-cons text at 0 l, h))
+  pub figure_none : is_digit (get_or text at 0) ≡ false → Reads text at (figure_of (drop at text)) Bad
+  unfolding figure_of if◌then◌else◌
+  figure_none h = bad (rw (drop-cons text at 0 l, h))
 
-  figure-begins : isDigit (get_or text at 0) ≡ true → figureOf (drop at text) ≡ numberFrom (get_or text at 0 - 48) (drop (at + 1) text)
-  unfolding figureOf if◌then◌else◌
-  figure-begins h = rw (drop-cons text at 0 l, h, add-one)
+  figure_begins : is_digit (get_or text at 0) ≡ true → figure_of (drop at text) ≡ number_from (get_or text at 0 - 48) (drop (at + 1) text)
+  unfolding figure_of if◌then◌else◌
+  figure_begins h = rw (drop-cons text at 0 l, h, add-one)
 
-  pub figure-read : {r : Figure} → isDigit (get_or text at 0) ≡ true → Reads text (at + 1) (numberFrom (get_or text at 0 - 48) (drop (at + 1) text)) r → Reads text at (figureOf (drop at text)) r
-  figure-read h (number {n} {next} e p w) = number {n = n} {next = next} (figure-begins h ∙ e) (omega arith) w
-  figure-read h (bad e) = bad (figure-begins h ∙ e)
+  pub figure_read : {r : Figure} → is_digit (get_or text at 0) ≡ true → Reads text (at + 1) (number_from (get_or text at 0 - 48) (drop (at + 1) text)) r → Reads text at (figure_of (drop at text)) r
+  figure_read h (number {n} {next} e p w) = number {n = n} {next = next} (figure_begins h ∙ e) (omega arith) w
+  figure_read h (bad e) = bad (figure_begins h ∙ e)

@@ -2,7 +2,7 @@
 use Rattle.std.specs.Prelude.{ℕ, zero, suc, ◌+◌, ◌*◌, ◌-◌, ◌^◌, Bool, List, [], ◌∷◌, eqb, ltb}
 use Rattle.std.proofs.Math.Option.{Option, none, some}
 use Rattle.text.specs.Test.{◌and◌, if◌then◌else◌}
-use Rattle.text.specs.Byte.{isDigit}
+use Rattle.text.specs.Byte.{is_digit}
 use Rattle.text.specs.String.{Str}
 use Rattle.season_sum.specs.declared.Outcome.{Outcome}
 use Rattle.season_sum.specs.declared.Outcome.TheVariants.{Good, NoFigure, LineCount}
@@ -19,17 +19,17 @@ followed n b = n * 10 + (b - 48)
 
 -- b is a digit that may follow the number n: n does not begin with 0, and the longer number fits
 unfoldable pub continues : ℕ → ℕ → Bool
-continues n b = isDigit b and ltb 0 n and fits (followed n b)
+continues n b = is_digit b and ltb 0 n and fits (followed n b)
 
 -- the number that is n so far, up to an LF, and the text after that
-unfoldable pub numberFrom : ℕ → Str → Option (ℕ × Str)
-numberFrom n [] = none
-numberFrom n (b ∷ s) = if eqb b 10 then some (n, s) else (if continues n b then numberFrom (followed n b) s else none)
+unfoldable pub number_from : ℕ → Str → Option (ℕ × Str)
+number_from n [] = none
+number_from n (b ∷ s) = if eqb b 10 then some (n, s) else (if continues n b then number_from (followed n b) s else none)
 
 -- "decimal lines without leading zeros": the number that the first line of a text is, and the text after that line
-unfoldable pub figureOf : Str → Option (ℕ × Str)
-figureOf [] = none
-figureOf (b ∷ s) = if isDigit b then numberFrom (b - 48) s else none
+unfoldable pub figure_of : Str → Option (ℕ × Str)
+figure_of [] = none
+figure_of (b ∷ s) = if is_digit b then number_from (b - 48) s else none
 
 -- ---- the lines, one after another
 
@@ -43,9 +43,9 @@ unfoldable pub reading : ℕ → ℕ → Str → Outcome
 reading zero l [] = Good
 reading zero l (b ∷ s) = LineCount l
 reading (suc n) l [] = LineCount l
-reading (suc n) l (b ∷ s) = onward (NoFigure l) (figureOf (b ∷ s)) (λ m t. reading n (l + 1) t)
+reading (suc n) l (b ∷ s) = onward (NoFigure l) (figure_of (b ∷ s)) (λ m t. reading n (l + 1) t)
 
 -- the figures of the first n lines, up to the first that is none
-unfoldable pub figuresOf : ℕ → Str → List ℕ
-figuresOf zero s = []
-figuresOf (suc n) s = onward [] (figureOf s) (λ m t. m ∷ figuresOf n t)
+unfoldable pub figures_of : ℕ → Str → List ℕ
+figures_of zero s = []
+figures_of (suc n) s = onward [] (figure_of s) (λ m t. m ∷ figures_of n t)

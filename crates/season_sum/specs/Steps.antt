@@ -2,7 +2,7 @@
 use Rattle.std.specs.Prelude.{ℕ, ◌≤◌, ◌<◌, ◌≡◌, length, drop}
 use Rattle.std.proofs.Math.Option.{Option, none, some}
 use Rattle.text.specs.String.{Str}
-use Rattle.season_sum.specs.Reading.{numberFrom, figureOf}
+use Rattle.season_sum.specs.Reading.{number_from, figure_of}
 use Rattle.season_sum.specs.declared.reading.Figure.{Figure}
 use Rattle.season_sum.specs.declared.reading.Figure.TheVariants.{Number, Bad}
 
@@ -13,8 +13,8 @@ pub data Reads (text : Str) (at : ℕ) (f : Option (ℕ × Str)) : Figure → Ty
 
 -- the number that is n so far and goes on at `at`
 abbrev pub ReadsNumber : Str → ℕ → ℕ → Figure → Type 0
-ReadsNumber text at n r = Reads text at (numberFrom n (drop at text)) r
+ReadsNumber text at n r = Reads text at (number_from n (drop at text)) r
 
 -- the figure of the line at `at`
 abbrev pub ReadsFigure : Str → ℕ → Figure → Type 0
-ReadsFigure text at r = Reads text at (figureOf (drop at text)) r
+ReadsFigure text at r = Reads text at (figure_of (drop at text)) r

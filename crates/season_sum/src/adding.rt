@@ -1,8 +1,8 @@
 // Figures added place by place.
 ghost use Rattle.std.specs.Prelude.{◌≡◌, ◌+◌, length};
-ghost use Rattle.limits.specs.Sizes.{reportLines};
+ghost use Rattle.limits.specs.Sizes.{report_lines};
 ghost use Rattle.season_sum.specs.Reading.{fits};
-ghost use Rattle.season_sum.specs.Adding.{adding, sumsOf, afterReport, sumsAfter};
+ghost use Rattle.season_sum.specs.Adding.{adding, sums_of, after_report, sums_after};
 
 use crate::Outcome;
 
@@ -15,9 +15,9 @@ fn is_sum(a: u64, b: u64) -> bool
 
 // Adds the figures to the sums, up to the first sum that has more than 64 bits.
 fn add(figures: &[u64; limits::REPORT_LINES], sums: &mut [u64; limits::REPORT_LINES]) -> Outcome
-    requires { (length figures.now ≡ reportLines) × (length sums.old ≡ reportLines) }
+    requires { (length figures.now ≡ report_lines) × (length sums.old ≡ report_lines) }
     ensures { (result ≡ adding 1 sums.old figures.now)
-        × (sums.new ≡ sumsOf sums.old figures.now) }
+        × (sums.new ≡ sums_of sums.old figures.now) }
 {
     let mut i = 0;
     while i < limits::REPORT_LINES {
@@ -34,9 +34,9 @@ fn add(figures: &[u64; limits::REPORT_LINES], sums: &mut [u64; limits::REPORT_LI
 
 // Adds a report's figures to the sums, where the report reads.
 pub fn add_report(text: &[u8], sums: &mut [u64; limits::REPORT_LINES]) -> Outcome
-    requires { length sums.old ≡ reportLines }
-    ensures { (result ≡ afterReport text.now sums.old)
-        × (sums.new ≡ sumsAfter text.now sums.old) }
+    requires { length sums.old ≡ report_lines }
+    ensures { (result ≡ after_report text.now sums.old)
+        × (sums.new ≡ sums_after text.now sums.old) }
 {
     let mut figures = [0u64; limits::REPORT_LINES];
     let r = crate::reading::read(text, &mut figures);

@@ -1,9 +1,9 @@
 // A report's text read.
 ghost use Rattle.std.specs.Prelude.{◌≡◌, ◌+◌, ◌*◌, ◌-◌, ◌<◌, length};
-ghost use Rattle.limits.specs.Sizes.{reportLines};
-ghost use Rattle.text.specs.Byte.{isDigit};
+ghost use Rattle.limits.specs.Sizes.{report_lines};
+ghost use Rattle.text.specs.Byte.{is_digit};
 ghost use Rattle.text.specs.Fill.{put};
-ghost use Rattle.season_sum.specs.Reading.{continues, figuresOf, reading};
+ghost use Rattle.season_sum.specs.Reading.{continues, figures_of, reading};
 ghost use Rattle.season_sum.specs.Steps.{ReadsNumber, ReadsFigure};
 
 use crate::Outcome;
@@ -16,7 +16,7 @@ pub enum Figure {
 }
 
 fn is_digit(b: u8) -> bool
-    ensures { result ≡ isDigit b }
+    ensures { result ≡ is_digit b }
 {
     (b'0' <= b) & (b <= b'9')
 }
@@ -71,9 +71,9 @@ fn figure_at(text: &[u8], at: usize) -> Figure
 
 // Puts the figures of a report into `figures`, up to the first line that is at fault.
 pub fn read(text: &[u8], figures: &mut [u64; limits::REPORT_LINES]) -> Outcome
-    requires { length figures.old ≡ reportLines }
-    ensures { (result ≡ reading reportLines 1 text.now)
-        × (figures.new ≡ put figures.old 0 (figuresOf reportLines text.now)) }
+    requires { length figures.old ≡ report_lines }
+    ensures { (result ≡ reading report_lines 1 text.now)
+        × (figures.new ≡ put figures.old 0 (figures_of report_lines text.now)) }
 {
     let mut at = 0;
     let mut i = 0;

@@ -7,26 +7,26 @@ use Rattle.text.specs.Test.{◌and◌, ◌or◌, if◌then◌else◌, all, any, 
 use Rattle.text.specs.String.{Str, bytes, same}
 use Rattle.text.specs.Frame.{◌>>=◌, ret, byte, run, string, times}
 use Rattle.path.specs.Bytes.{key, element, path}
-use Rattle.path.specs.Refusal.{unsized, keyOver, elemOver, overLimit, outsideName, outsideValue, keyStray, elemStray, strayByte, halfWild, keyMisplaced, elemMisplaced, misplaced, keyTwice}
+use Rattle.path.specs.Refusal.{unsized, key_over, elem_over, over_limit, outside_name, outside_value, key_stray, elem_stray, stray_byte, half_wild, key_misplaced, elem_misplaced, misplaced, key_twice}
 use Rattle.table_line.specs.Lines.{onto, lines, pair, pairs, nonempty, frame}
-use Rattle.table.specs.Frame.{unknown, code, versionBody, groupBody, memberBody, ruleBody, ruleEntry, body, entry, whole, entry_of}
-use Rattle.table.specs.Refusal.{framed, decoded, line_of, kind_of, outOfOrder, unsizedShort, pastLimit, stray, strays, misplaces, sameMember, sameId, repeats, listed, unlisted, refusal, first, with, after}
-use Rattle.table.specs.Text.{unless, judge, check, allTold, table, table_of}
-use Rattle.table.specs.Group.{lists, numbered, memberships, groups_of, counted, badUser, count_for, groupCount}
+use Rattle.table.specs.Frame.{unknown, code, version_body, group_body, member_body, rule_body, rule_entry, body, entry, whole, entry_of}
+use Rattle.table.specs.Refusal.{framed, decoded, line_of, kind_of, out_of_order, unsized_short, past_limit, stray, strays, misplaces, same_member, same_id, repeats, listed, unlisted, refusal, first, with, after}
+use Rattle.table.specs.Text.{unless, judge, check, all_told, table, table_of}
+use Rattle.table.specs.Group.{lists, numbered, memberships, groups_of, counted, bad_user, count_for, group_count}
 use Rattle.table.specs.declared.Checked.{Checked}
 use Rattle.table.specs.declared.Checked.TheVariants.{Accepted, Refused}
 use Rattle.table.specs.declared.Counted.{Counted}
 use Rattle.table.specs.declared.Counted.TheVariants.{Count, NoGroup, Declined}
 
 -- answers as numbers, to compare them in lists
-unfoldable checkWord : Checked → ℕ
-checkWord Accepted = 0
-checkWord (Refused n l) = n + 256 * l
+unfoldable check_word : Checked → ℕ
+check_word Accepted = 0
+check_word (Refused n l) = n + 256 * l
 
-unfoldable countWord : Counted → ℕ
-countWord (Count n g) = 256 * n + 65536 * (g.0 + 1)
-countWord NoGroup = 0
-countWord (Declined n l) = n + 256 * l
+unfoldable count_word : Counted → ℕ
+count_word (Count n g) = 256 * n + 65536 * (g.0 + 1)
+count_word NoGroup = 0
+count_word (Declined n l) = n + 256 * l
 
 -- a text of whole lines
 abbrev rows : List String → Str
@@ -38,7 +38,7 @@ t0 = "010276310000000000000001"
 
 -- the answer word of a check: number + 256 * line
 abbrev word : List String → ℕ
-word ls = checkWord (check (rows ls))
+word ls = check_word (check (rows ls))
 
 -- the table of E to K, and a table with its 01 line only
 good : List ℕ
@@ -46,7 +46,7 @@ good = word (t0 ∷ "020167" ∷ "0301670175" ∷ "04010101016701720001016101016
 
 -- empty text, an empty line, a line that lacks its LF, an odd count of digits, a capital digit
 hex : List ℕ
-hex = word [] ∷ word ("" ∷ []) ∷ checkWord (check (rows (t0 ∷ []) ++ bytes "020167")) ∷ word ("010" ∷ []) ∷ word (t0 ∷ "02014A" ∷ []) ∷ []
+hex = word [] ∷ word ("" ∷ []) ∷ check_word (check (rows (t0 ∷ []) ++ bytes "020167")) ∷ word ("010" ∷ []) ∷ word (t0 ∷ "02014A" ∷ []) ∷ []
 
 -- an unknown kind, an unknown code byte, a frame too short, too long, an unreadable first line
 frames : List ℕ
@@ -78,10 +78,10 @@ checked :
     × (strings ≡ 517 ∷ 518 ∷ 519 ∷ 515 ∷ 519 ∷ 519 ∷ 0 ∷ [])
     × (against ≡ 776 ∷ 1032 ∷ 776 ∷ 520 ∷ 521 ∷ 521 ∷ 774 ∷ [])
 unfolding good hex frames order strings against ◌and◌ ◌or◌ if◌then◌else◌ all any twice same ◌>>=◌ ret byte run string
-    times key element path unsized keyOver elemOver overLimit outsideName outsideValue keyStray elemStray strayByte
-    halfWild keyMisplaced elemMisplaced misplaced keyTwice onto lines pair pairs nonempty frame unknown code versionBody
-    groupBody memberBody ruleBody ruleEntry body entry whole entry_of framed decoded line_of kind_of outOfOrder
-    unsizedShort pastLimit stray strays misplaces sameMember sameId repeats listed unlisted refusal first with after unless judge check checkWord
+    times key element path unsized key_over elem_over over_limit outside_name outside_value key_stray elem_stray stray_byte
+    half_wild key_misplaced elem_misplaced misplaced key_twice onto lines pair pairs nonempty frame unknown code version_body
+    group_body member_body rule_body rule_entry body entry whole entry_of framed decoded line_of kind_of out_of_order
+    unsized_short past_limit stray strays misplaces same_member same_id repeats listed unlisted refusal first with after unless judge check check_word
 checked = (refl, refl, refl, refl, refl, refl)
 
 -- ---- groups of a user
@@ -91,17 +91,17 @@ five = t0 ∷ "020167" ∷ "020168" ∷ "020169" ∷ "0301680175" ∷ "030169017
 
 -- u is in groups 1 and 2, v in group 0, w in none; a user that no table allows; the table's refusal comes first
 count : Str → List String → ℕ
-count user ls = countWord (groupCount (rows ls) user)
+count user ls = count_word (group_count (rows ls) user)
 
 counts : List ℕ
 counts = count (bytes "u") five ∷ count (bytes "v") five ∷ count (bytes "w") five ∷ count [] five ∷ count [] ("" ∷ []) ∷ []
 
-counted-right : counts ≡ 131584 ∷ 65792 ∷ 0 ∷ 20 ∷ 258 ∷ []
+counted_right : counts ≡ 131584 ∷ 65792 ∷ 0 ∷ 20 ∷ 258 ∷ []
 unfolding count counts ◌and◌ ◌or◌ if◌then◌else◌ all any twice same ◌>>=◌ ret byte run string times key element path
-    unsized keyOver elemOver overLimit outsideName outsideValue keyStray elemStray strayByte halfWild keyMisplaced
-    elemMisplaced misplaced keyTwice onto lines pair pairs nonempty frame unknown code versionBody groupBody memberBody
-    ruleBody ruleEntry body entry whole entry_of framed decoded line_of kind_of outOfOrder unsizedShort pastLimit stray
-    strays misplaces sameMember sameId repeats listed unlisted refusal first with after unless judge check checkWord
-    allTold table table_of lists numbered memberships
-    groups_of counted badUser count_for groupCount countWord
-counted-right = refl
+    unsized key_over elem_over over_limit outside_name outside_value key_stray elem_stray stray_byte half_wild key_misplaced
+    elem_misplaced misplaced key_twice onto lines pair pairs nonempty frame unknown code version_body group_body member_body
+    rule_body rule_entry body entry whole entry_of framed decoded line_of kind_of out_of_order unsized_short past_limit stray
+    strays misplaces same_member same_id repeats listed unlisted refusal first with after unless judge check check_word
+    all_told table table_of lists numbered memberships
+    groups_of counted bad_user count_for group_count count_word
+counted_right = refl

@@ -2,19 +2,19 @@
 use mathlib.Core.Path.{◌≡◌, refl, sym, ◌∙◌}
 use mathlib.Core.Bool.{Bool, true, false, not}
 use lib.ListN.{length}
-use Rattle.limits.specs.Limits.{maxString}
+use Rattle.limits.specs.Limits.{max_string}
 use Rattle.text.specs.Test.{◌or◌, all}
-use Rattle.text.specs.Byte.{isPrint}
+use Rattle.text.specs.Byte.{is_print}
 use Rattle.text.specs.String.{Str}
-use Rattle.table.specs.Group.{badUser}
-use Rattle.table.specs.Walk.{unsizedBy}
-use Rattle.table.proofs.Numbers.{long-is, stray-is}
+use Rattle.table.specs.Group.{bad_user}
+use Rattle.table.specs.Walk.{unsized_by}
+use Rattle.table.proofs.Numbers.{long_is, stray_is}
 
-module _ (user : Str) (a : Bool) (x : a ≡ unsizedBy maxString (length user)) where
-  pub user-unsized : a ≡ true → true ≡ badUser user
-  unfolding badUser ◌or◌
-  user-unsized h = rw (sym (long-is user (length user) refl) ∙ sym x ∙ h)
+module _ (user : Str) (a : Bool) (x : a ≡ unsized_by max_string (length user)) where
+  pub user_unsized : a ≡ true → true ≡ bad_user user
+  unfolding bad_user ◌or◌
+  user_unsized h = rw (sym (long_is user (length user) refl) ∙ sym x ∙ h)
 
-  pub user-sized : a ≡ false → (p : Bool) → p ≡ all isPrint user → not p ≡ badUser user
-  unfolding badUser ◌or◌
-  user-sized h p y = rw (sym (long-is user (length user) refl) ∙ sym x ∙ h) (stray-is user p y)
+  pub user_sized : a ≡ false → (p : Bool) → p ≡ all is_print user → not p ≡ bad_user user
+  unfolding bad_user ◌or◌
+  user_sized h p y = rw (sym (long_is user (length user) refl) ∙ sym x ∙ h) (stray_is user p y)

@@ -25,28 +25,28 @@ code a b = do
   if eqb n a or eqb n b then ret n else unknown
 
 -- "S version, 8 bytes creation time, high byte first"
-unfoldable pub versionBody : Reader Entry
-versionBody = do
+unfoldable pub version_body : Reader Entry
+version_body = do
   v ← string
   t ← run 8
   ret (version v t)
 
 -- "S name"
-unfoldable pub groupBody : Reader Entry
-groupBody = do
+unfoldable pub group_body : Reader Entry
+group_body = do
   n ← string
   ret (group n)
 
 -- "S group, S user"
-unfoldable pub memberBody : Reader Entry
-memberBody = do
+unfoldable pub member_body : Reader Entry
+member_body = do
   g ← string
   u ← string
   ret (member (record { group = g; user = u }))
 
 -- "action (0 deny, 1 permit), mode (1 read, 2 write), subject (0 user, 1 group), S subject name, S id, S origin, path"
-unfoldable pub ruleBody : Reader Rule
-ruleBody = do
+unfoldable pub rule_body : Reader Rule
+rule_body = do
   action ← code 0 1
   mode ← code 1 2
   kind ← code 0 1
@@ -54,20 +54,20 @@ ruleBody = do
   id ← string
   origin ← string
   p ← path
-  ret (record { permit = eqb action 1; mode = mode; byGroup = eqb kind 1; subject = subject; id = id; origin = origin; path = p })
+  ret (record { permit = eqb action 1; mode = mode; by_group = eqb kind 1; subject = subject; id = id; origin = origin; path = p })
 
-unfoldable pub ruleEntry : Reader Entry
-ruleEntry = do
-  r ← ruleBody
+unfoldable pub rule_entry : Reader Entry
+rule_entry = do
+  r ← rule_body
   ret (rule r)
 
 -- "after the kind byte", by the kind
 unfoldable pub body : ℕ → Reader Entry
 body k =
-    if eqb k 1 then versionBody
-    else if eqb k 2 then groupBody
-    else if eqb k 3 then memberBody
-    else if eqb k 4 then ruleEntry
+    if eqb k 1 then version_body
+    else if eqb k 2 then group_body
+    else if eqb k 3 then member_body
+    else if eqb k 4 then rule_entry
     else unknown
 
 -- a frame, from its kind byte on

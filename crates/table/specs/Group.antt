@@ -4,7 +4,7 @@ use Rattle.text.specs.Test.{◌or◌, if◌then◌else◌, any}
 use Rattle.text.specs.String.{Str}
 use Rattle.path.specs.Refusal.{unsized}
 use Rattle.table.specs.Table.{Member, Table}
-use Rattle.table.specs.Refusal.{stray, sameMember}
+use Rattle.table.specs.Refusal.{stray, same_member}
 use Rattle.table.specs.Text.{check, table_of}
 use Rattle.table.specs.declared.Checked.{Checked}
 use Rattle.table.specs.declared.Checked.TheVariants.{Accepted, Refused}
@@ -13,7 +13,7 @@ use Rattle.table.specs.declared.Counted.TheVariants.{Count, NoGroup, Declined}
 
 -- a member line has that group and that user
 unfoldable pub lists : List Member → Str → Str → Bool
-lists members user group = any (sameMember (record { group = group; user = user })) members
+lists members user group = any (same_member (record { group = group; user = user })) members
 
 -- i before the numbers, if the test holds
 unfoldable pub numbered : Bool → ℕ → List ℕ → List ℕ
@@ -36,14 +36,14 @@ counted [] = NoGroup
 counted (g ∷ gs) = Count (length (g ∷ gs)) (record { 0 = g })
 
 -- 20: "user .. not as a table allows"
-unfoldable pub badUser : Str → Bool
-badUser user = unsized user or stray user
+unfoldable pub bad_user : Str → Bool
+bad_user user = unsized user or stray user
 
 -- "text before request"
 unfoldable pub count_for : Checked → Table → Str → Counted
 count_for (Refused n l) t user = Declined n l
-count_for Accepted t user = if badUser user then Declined 20 0 else counted (groups_of t user)
+count_for Accepted t user = if bad_user user then Declined 20 0 else counted (groups_of t user)
 
 -- how many groups the user belongs to, by the table's text
-unfoldable pub groupCount : Str → Str → Counted
-groupCount text user = count_for (check text) (table_of text) user
+unfoldable pub group_count : Str → Str → Counted
+group_count text user = count_for (check text) (table_of text) user

@@ -12,7 +12,7 @@ pub record Member : Type 0 where
 pub record Rule : Type 0 where
   pub permit : Bool
   pub mode : ℕ
-  pub byGroup : Bool
+  pub by_group : Bool
   pub subject : Str
   pub id : Str
   pub origin : Str

@@ -1,6 +1,6 @@
 -- A whole rule table text: refused at its first faulty line, or the table that it holds.
 use Rattle.std.specs.Prelude.{ℕ, ◌+◌, Bool, true, false, List, [], ◌∷◌, eqb, ltb, length}
-use Rattle.limits.specs.Limits.{maxTableText}
+use Rattle.limits.specs.Limits.{max_table_text}
 use Rattle.text.specs.Test.{if◌then◌else◌}
 use Rattle.text.specs.String.{Str}
 use Rattle.text.specs.Refusal.{clear}
@@ -24,20 +24,20 @@ judge number before (l ∷ ls) = unless (refusal before (line_of l)) number (jud
 -- "table text over 32,768 bytes (line 0)"; "empty text counts here, at line 1"
 unfoldable pub check : Str → Checked
 check text =
-    if ltb maxTableText (length text) then Refused 1 0
+    if ltb max_table_text (length text) then Refused 1 0
     else if eqb (length text) 0 then Refused 4 1
     else judge 1 first (lines text)
 
-unfoldable pub isAccepted : Checked → Bool
-isAccepted Accepted = true
-isAccepted (Refused n l) = false
+unfoldable pub is_accepted : Checked → Bool
+is_accepted Accepted = true
+is_accepted (Refused n l) = false
 
 -- ---- the table
 
 -- what all the lines tell, after what b tells
-unfoldable pub allTold : Earlier → List Str → Earlier
-allTold b [] = b
-allTold b (l ∷ ls) = allTold (after b (line_of l)) ls
+unfoldable pub all_told : Earlier → List Str → Earlier
+all_told b [] = b
+all_told b (l ∷ ls) = all_told (after b (line_of l)) ls
 
 -- "Rules and groups are numbered from 0 in text order."
 unfoldable pub table : Earlier → Table
@@ -45,4 +45,4 @@ table b = record { groups = b.groups; members = b.members; rules = b.rules }
 
 -- the table that an accepted text holds
 unfoldable pub table_of : Str → Table
-table_of text = table (allTold first (lines text))
+table_of text = table (all_told first (lines text))

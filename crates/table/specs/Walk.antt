@@ -4,10 +4,10 @@ use Rattle.std.proofs.Math.Option.{none}
 use Rattle.text.specs.String.{Str}
 use Rattle.text.specs.Refusal.{◌when◌else◌, clear}
 use Rattle.text.specs.Frame.{got, part, string}
-use Rattle.path.specs.Walk.{pathRefusal}
+use Rattle.path.specs.Walk.{path_refusal}
 use Rattle.table.specs.Table.{Rule}
-use Rattle.table.specs.Layout.{afterKind, frameSubjectKind, frameSubjectName}
-use Rattle.table.specs.Frame.{ruleBody, entry_of}
+use Rattle.table.specs.Layout.{after_kind, frame_subject_kind, frame_subject_name}
+use Rattle.table.specs.Frame.{rule_body, entry_of}
 use Rattle.table.specs.declared.frame.RuleFrame.{RuleFrame}
 use Rattle.table.specs.declared.frame.RuleFrame.TheVariants.{Is, Unread}
 
@@ -26,20 +26,20 @@ merged p five six eight nine =
     else clear
 
 -- a length is 0 or over the limit
-abbrev pub unsizedBy : ℕ → ℕ → Bool
-unsizedBy limit n = eqb n 0 || ltb limit n
+abbrev pub unsized_by : ℕ → ℕ → Bool
+unsized_by limit n = eqb n 0 || ltb limit n
 
 -- the rule of a frame f: its subject, ends at s, its id at i, its origin at o, and its path gets the number p
 pub record RuleAt (f : Str) (s i o p : ℕ) : Type 0 where
   pub rule : Rule
-  pub body : ruleBody f afterKind ≡ got rule (length f)
-  pub subject : rule.subject ≡ part f frameSubjectName s
+  pub body : rule_body f after_kind ≡ got rule (length f)
+  pub subject : rule.subject ≡ part f frame_subject_name s
   pub id : rule.id ≡ part f (s + 1) i
   pub stands : string f s ≡ got rule.id i
   pub origin : rule.origin ≡ part f (i + 1) o
-  pub byGroup : rule.byGroup ≡ eqb (get_or f frameSubjectKind 0) 1
-  pub path : p ≡ pathRefusal rule.path
-  pub long : (frameSubjectName ≤ s) × (s + 1 ≤ i) × (i + 1 ≤ o) × (o ≤ length f)
+  pub by_group : rule.by_group ≡ eqb (get_or f frame_subject_kind 0) 1
+  pub path : p ≡ path_refusal rule.path
+  pub long : (frame_subject_name ≤ s) × (s + 1 ≤ i) × (i + 1 ≤ o) × (o ≤ length f)
 
 -- what the answer of `read_rule` says of the frame
 unfoldable pub RuleRead : Str → RuleFrame → Type 0

@@ -3,17 +3,17 @@ ghost use Rattle.std.specs.Prelude.{◌≡◌};
 ghost use Rattle.std.proofs.Math.Option.{some};
 ghost use Rattle.text.specs.String.{Str};
 ghost use Rattle.text.specs.Refusal.{clear};
-ghost use Rattle.table.specs.Layout.{kindVersion, kindRule};
+ghost use Rattle.table.specs.Layout.{kind_version, kind_rule};
 ghost use Rattle.table.specs.Frame.{version, entry_of};
-ghost use Rattle.table.specs.Refusal.{Earlier, framed, outOfOrder, refusal};
-ghost use Rattle.table.specs.Walk.{OfKind, merged, unsizedBy, RuleRead};
+ghost use Rattle.table.specs.Refusal.{Earlier, framed, out_of_order, refusal};
+ghost use Rattle.table.specs.Walk.{OfKind, merged, unsized_by, RuleRead};
 
 use path_frame::Walk;
 use text::frame::End;
 
 // The order of kinds is broken: `last` is the kind of the line before, 0 on the first line.
 pub fn is_out_of_order(last: u8, kind: u8) -> bool
-    ensures { result ≡ outOfOrder last kind }
+    ensures { result ≡ out_of_order last kind }
 {
     if last == 0 {
         return kind != crate::KIND_VERSION;
@@ -45,14 +45,14 @@ pub fn number(p: u8, five: bool, six: bool, eight: bool, nine: bool) -> u8
 
 // The length of a string that may not be empty is 0 or over the limit.
 pub fn is_unsized(limit: usize, n: usize) -> bool
-    ensures { result ≡ unsizedBy limit n }
+    ensures { result ≡ unsized_by limit n }
 {
     (n == 0) | (limit < n)
 }
 
 // The number of a version's frame; `last` is the kind of the line before.
 pub fn version_number(f: &[u8], last: u8) -> u8
-    requires { OfKind kindVersion f.now }
+    requires { OfKind kind_version f.now }
     ensures value { (b : Earlier) → b.kind ≡ last → result ≡ refusal b (framed (entry_of f.now)) }
     ensures f_value { result ≡ clear → (v : Str) × (t : Str) × (entry_of f.now ≡ some (version v t)) }
 {
@@ -87,7 +87,7 @@ pub enum RuleFrame {
 
 // Reads the frame of a rule.
 pub fn read_rule(f: &[u8]) -> RuleFrame
-    requires { OfKind kindRule f.now }
+    requires { OfKind kind_rule f.now }
     ensures { RuleRead f.now result }
 {
     if f.len() < crate::FRAME_SUBJECT {

@@ -1,6 +1,6 @@
 // Rule tables: the answers of the calls on a table text, and its frames.
 ghost use Rattle.std.specs.Prelude.{◌≡◌};
-ghost use Rattle.table.specs.Group.{badUser};
+ghost use Rattle.table.specs.Group.{bad_user};
 
 pub mod frame;
 
@@ -54,7 +54,7 @@ pub const SUBJECT_GROUP: u8 = 1;
 
 // The user is not as a table allows (20).
 pub fn is_bad_user(user: &[u8]) -> bool
-    ensures { result ≡ badUser user.now }
+    ensures { result ≡ bad_user user.now }
 {
     if frame::is_unsized(limits::MAX_STRING, user.len()) {
         return true;

@@ -1,12 +1,12 @@
 -- What a look at a table text tells.
 use Rattle.std.specs.Prelude.{ℕ, ◌≤◌, ◌≡◌, length}
-use Rattle.limits.specs.Limits.{maxGroups}
+use Rattle.limits.specs.Limits.{max_groups}
 use Rattle.text.specs.String.{Str}
 use Rattle.table.specs.Text.{check, table_of}
-use Rattle.table.specs.Group.{groupCount}
+use Rattle.table.specs.Group.{group_count}
 use Rattle.table.specs.declared.Checked.TheVariants as checked
 use Rattle.table_load.specs.declared.row.Counts.{Counts}
-use Rattle.table_membership.specs.Set.{UserGroups, countIn}
+use Rattle.table_membership.specs.Set.{UserGroups, count_in}
 use Rattle.table_check.specs.declared.Seen.{Seen}
 use Rattle.table_check.specs.declared.Seen.TheVariants.{Table, Refused}
 
@@ -14,11 +14,11 @@ use Rattle.table_check.specs.declared.Seen.TheVariants.{Table, Refused}
 pub record TableTold (text user : Str) (c : Counts) (set : ℕ) : Type 0 where
   pub accepts : check text ≡ checked.Accepted
   pub groups : c.groups ≡ length (table_of text).groups
-  pub few : c.groups ≤ maxGroups
+  pub few : c.groups ≤ max_groups
   pub members : c.members ≡ length (table_of text).members
   pub rules : c.rules ≡ length (table_of text).rules
   pub has : UserGroups (table_of text) user set
-  pub count : countIn user set ≡ groupCount text user
+  pub count : count_in user set ≡ group_count text user
 
 -- what the answer says of the text
 unfoldable pub Looked : Str → Str → Seen → Type 0

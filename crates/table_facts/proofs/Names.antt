@@ -13,11 +13,11 @@ use Rattle.text.specs.Fill.{put}
 use Rattle.text.specs.Steps.{Wrote}
 use Rattle.text.proofs.Tests.{by}
 use Rattle.text.proofs.Filling.{wrote_nothing}
-use Rattle.table_place.specs.Place.{strEnd, strIn}
-use Rattle.table_rows.specs.Strings.{stringsIn, rows_of}
-use Rattle.table_rows.specs.Rules.{id_at, originAt, ruleIn}
-use Rattle.table_rows.proofs.RuleBytes.{rule-read}
-use Rattle.table_rows.proofs.Grow.{rows-length, rows_at, strings-length, strings-at}
+use Rattle.table_place.specs.Place.{str_end, str_in}
+use Rattle.table_rows.specs.Strings.{strings_in, rows_of}
+use Rattle.table_rows.specs.Rules.{id_at, origin_at, rule_in}
+use Rattle.table_rows.proofs.RuleBytes.{rule_read}
+use Rattle.table_rows.proofs.Grow.{rows_length, rows_at, strings_length, strings_at}
 use Rattle.table.specs.Table as table
 use Rattle.table.specs.Text.{check, table_of}
 use Rattle.table.specs.declared.GroupNumber.{GroupNumber}
@@ -26,28 +26,28 @@ use Rattle.table_load.specs.declared.row.Counts.{Counts}
 use Rattle.table_load.specs.Held.{RulesAt}
 use Rattle.table_load.specs.Loaded.{Kept}
 use Rattle.table_facts.specs.declared.Row.TheVariants.{Group, Rule}
-use Rattle.table_facts.specs.Facts.{name_of, storedOf, ids_in, Identified}
+use Rattle.table_facts.specs.Facts.{name_of, stored_of, ids_in, Identified}
 
 -- ---- storing
 
-pub wrote_none : (d : List ℕ) → Wrote d 0 (storedOf d []) d 0
-unfolding storedOf if◌then◌else◌
+pub wrote_none : (d : List ℕ) → Wrote d 0 (stored_of d []) d 0
+unfolding stored_of if◌then◌else◌
 wrote_none d = by (ltb (length d) 0) (λ t. rw t (wrote_nothing d 0)) (λ t. rw t (wrote_nothing d 0))
 
 module _ (d : List ℕ) (s : Str) where
-  pub wrote-over : length d < length s → Wrote d 0 (storedOf d s) d 0
-  unfolding storedOf if◌then◌else◌
-  wrote-over h = rw (lt-ltb _ _ h) (wrote_nothing d 0)
+  pub wrote_over : length d < length s → Wrote d 0 (stored_of d s) d 0
+  unfolding stored_of if◌then◌else◌
+  wrote_over h = rw (lt-ltb _ _ h) (wrote_nothing d 0)
 
-  pub wrote-all : (d' : List ℕ) (n : ℕ) → length s ≤ length d → n ≡ length s → d' ≡ put d 0 s → Wrote d 0 (storedOf d s) d' n
-  unfolding storedOf if◌then◌else◌
-  wrote-all d' n h e p = rw (le-ltb _ _ h) (record { ends = omega arith; same = p })
+  pub wrote_all : (d' : List ℕ) (n : ℕ) → length s ≤ length d → n ≡ length s → d' ≡ put d 0 s → Wrote d 0 (stored_of d s) d' n
+  unfolding stored_of if◌then◌else◌
+  wrote_all d' n h e p = rw (le-ltb _ _ h) (record { ends = omega arith; same = p })
 
 -- ---- a string in bytes
 
-pub string-long : (f : List ℕ) (at : ℕ) → strEnd f at ≤ length f → length (strIn f at) ≡ get_or f at 0
-unfolding strIn strEnd
-string-long f at h =
+pub string_long : (f : List ℕ) (at : ℕ) → str_end f at ≤ length f → length (str_in f at) ≡ get_or f at 0
+unfolding str_in str_end
+string_long f at h =
     let e : at + 1 + get_or f at 0 - (at + 1) ≡ get_or f at 0 = omega arith in
     length-take-le (at + 1 + get_or f at 0 - (at + 1)) (drop (at + 1) f) (simp length-drop (omega arith)) ∙ e
 
@@ -59,54 +59,54 @@ beyond (x ∷ l) zero h = absurd (omega arith)
 beyond (x ∷ l) (suc k) h = beyond l k (omega arith)
 
 module _ (f starts : List ℕ) (n k : ℕ) where
-  pub number_past : (d : List ℕ) → n ≤ k → Wrote d 0 (storedOf d (get_or (stringsIn f starts n 0) k [])) d 0
-  number_past d h = rw (beyond (stringsIn f starts n 0) k (omega (arith, strings-length f starts n))) (wrote_none d)
+  pub number_past : (d : List ℕ) → n ≤ k → Wrote d 0 (stored_of d (get_or (strings_in f starts n 0) k [])) d 0
+  number_past d h = rw (beyond (strings_in f starts n 0) k (omega (arith, strings_length f starts n))) (wrote_none d)
 
-  pub number_at : (d d' : List ℕ) (r : ℕ) → k < n → Wrote d 0 (storedOf d (strIn f (get_or starts k 0))) d' r → Wrote d 0 (storedOf d (get_or (stringsIn f starts n 0) k [])) d' r
-  number_at d d' r h w = rw (strings-at f starts n k h) w
+  pub number_at : (d d' : List ℕ) (r : ℕ) → k < n → Wrote d 0 (stored_of d (str_in f (get_or starts k 0))) d' r → Wrote d 0 (stored_of d (get_or (strings_in f starts n 0) k [])) d' r
+  number_at d d' r h w = rw (strings_at f starts n k h) w
 
 -- ---- the id of rule number k
 
-ids-read : (f starts : List ℕ) (rs : List table.Rule) (i : ℕ) → RulesAt f starts rs i → rows_of (λ j. strIn f (id_at f (get_or starts j 0))) (length rs) i ≡ map (λ (r : table.Rule). r.id) rs
-unfolding RulesAt rows_of ruleIn
-ids-read f starts [] i h = refl
-ids-read f starts (r ∷ rs) i h = ap₂ ◌∷◌ (sym (ap (λ (x : table.Rule). x.id) (rule-read f (get_or starts i 0) r h.0.0 h.0.1).is)) (ids-read f starts rs (suc i) h.1)
+ids_read : (f starts : List ℕ) (rs : List table.Rule) (i : ℕ) → RulesAt f starts rs i → rows_of (λ j. str_in f (id_at f (get_or starts j 0))) (length rs) i ≡ map (λ (r : table.Rule). r.id) rs
+unfolding RulesAt rows_of rule_in
+ids_read f starts [] i h = refl
+ids_read f starts (r ∷ rs) i h = ap₂ ◌∷◌ (sym (ap (λ (x : table.Rule). x.id) (rule_read f (get_or starts i 0) r h.0.0 h.0.1).is)) (ids_read f starts rs (suc i) h.1)
 
-ids-laid : (f starts : List ℕ) (rs : List table.Rule) (i : ℕ) → RulesAt f starts rs i → (j : ℕ) → j < length rs → originAt f (get_or starts (i + j) 0) ≤ length f
+ids_laid : (f starts : List ℕ) (rs : List table.Rule) (i : ℕ) → RulesAt f starts rs i → (j : ℕ) → j < length rs → origin_at f (get_or starts (i + j) 0) ≤ length f
 unfolding RulesAt
-ids-laid f starts [] i h j l = absurd (omega arith)
-ids-laid f starts (r ∷ rs) i h zero l = let e : i + 0 ≡ i = omega arith in rw e (rule-read f (get_or starts i 0) r h.0.0 h.0.1).id-fits
-ids-laid f starts (r ∷ rs) i h (suc j) l = let e : i + suc j ≡ suc i + j = omega arith in rw e (ids-laid f starts rs (suc i) h.1 j (omega arith))
+ids_laid f starts [] i h j l = absurd (omega arith)
+ids_laid f starts (r ∷ rs) i h zero l = let e : i + 0 ≡ i = omega arith in rw e (rule_read f (get_or starts i 0) r h.0.0 h.0.1).id_fits
+ids_laid f starts (r ∷ rs) i h (suc j) l = let e : i + suc j ≡ suc i + j = omega arith in rw e (ids_laid f starts rs (suc i) h.1 j (omega arith))
 
-pub id-inside : (f : List ℕ) (s : ℕ) → originAt f s ≤ length f → id_at f s ≤ length f
-unfolding originAt strEnd
-id-inside f s h = omega arith
+pub id_inside : (f : List ℕ) (s : ℕ) → origin_at f s ≤ length f → id_at f s ≤ length f
+unfolding origin_at str_end
+id_inside f s h = omega arith
 
 module _ (f starts : List ℕ) (n k : ℕ) where
-  pub id-past : (d : List ℕ) → n ≤ k → Wrote d 0 (storedOf d (get_or (ids_in f starts n) k [])) d 0
+  pub id_past : (d : List ℕ) → n ≤ k → Wrote d 0 (stored_of d (get_or (ids_in f starts n) k [])) d 0
   unfolding ids_in
-  id-past d h = rw (beyond (rows_of (λ j. strIn f (id_at f (get_or starts j 0))) n 0) k (omega (arith, rows-length (λ j. strIn f (id_at f (get_or starts j 0))) n 0))) (wrote_none d)
+  id_past d h = rw (beyond (rows_of (λ j. str_in f (id_at f (get_or starts j 0))) n 0) k (omega (arith, rows_length (λ j. str_in f (id_at f (get_or starts j 0))) n 0))) (wrote_none d)
 
-  pub id-at : (d d' : List ℕ) (r : ℕ) → k < n → Wrote d 0 (storedOf d (strIn f (id_at f (get_or starts k 0)))) d' r → Wrote d 0 (storedOf d (get_or (ids_in f starts n) k [])) d' r
+  pub id_at_lem : (d d' : List ℕ) (r : ℕ) → k < n → Wrote d 0 (stored_of d (str_in f (id_at f (get_or starts k 0)))) d' r → Wrote d 0 (stored_of d (get_or (ids_in f starts n) k [])) d' r
   unfolding ids_in
-  id-at d d' r h w = let e : 0 + k ≡ k = omega arith in rw (rows_at (λ j. strIn f (id_at f (get_or starts j 0))) n 0 k [] h, e) w
+  id_at_lem d d' r h w = let e : 0 + k ≡ k = omega arith in rw (rows_at (λ j. str_in f (id_at f (get_or starts j 0))) n 0 k [] h, e) w
 
 -- ---- of a loaded table
 
 module _ {text buf : List ℕ} {u : ℕ} {c : Counts} {groups users owners starts holders : List ℕ} (K : Kept text buf u c groups users owners starts holders) where
-  pub group-name : (g : GroupNumber) → get_or (stringsIn (take u buf) groups c.groups 0) g.0 [] ≡ name_of (check text) (table_of text) (Group g)
+  pub group_name : (g : GroupNumber) → get_or (strings_in (take u buf) groups c.groups 0) g.0 [] ≡ name_of (check text) (table_of text) (Group g)
   unfolding name_of
-  group-name g = rw K.accepts (ap (λ (l : List Str). get_or l g.0 []) (sym K.holds.groups-are))
+  group_name g = rw K.accepts (ap (λ (l : List Str). get_or l g.0 []) (sym K.holds.groups_are))
 
-  rules-long : length (table_of text).rules ≡ c.rules
-  rules-long = K.holds.rules-count
+  rules_long : length (table_of text).rules ≡ c.rules
+  rules_long = K.holds.rules_count
 
   pub identified : Identified (take u buf) starts c.rules
   identified = record {
-    laid = λ i h. let z : 0 + i ≡ i = omega arith in rw z at (ids-laid (take u buf) starts (table_of text).rules 0 K.holds.rules-are i (omega (arith, rules-long)));
-    room = omega (arith, K.holds.long.of-starts, K.holds.few.2);
+    laid = λ i h. let z : 0 + i ≡ i = omega arith in rw z at (ids_laid (take u buf) starts (table_of text).rules 0 K.holds.rules_are i (omega (arith, rules_long)));
+    room = omega (arith, K.holds.long.of_starts, K.holds.few.2);
   }
 
-  pub rule-id : (k : RuleNumber) → get_or (ids_in (take u buf) starts c.rules) k.0 [] ≡ name_of (check text) (table_of text) (Rule k)
+  pub rule_id : (k : RuleNumber) → get_or (ids_in (take u buf) starts c.rules) k.0 [] ≡ name_of (check text) (table_of text) (Rule k)
   unfolding name_of ids_in
-  rule-id k = rw K.accepts (ap (λ (l : List Str). get_or l k.0 []) (rw rules-long at (ids-read (take u buf) starts (table_of text).rules 0 K.holds.rules-are)))
+  rule_id k = rw K.accepts (ap (λ (l : List Str). get_or l k.0 []) (rw rules_long at (ids_read (take u buf) starts (table_of text).rules 0 K.holds.rules_are)))

@@ -1,10 +1,10 @@
 // What a group or a rule of a table text is called.
 ghost use Rattle.std.specs.Prelude.{[], ◌≤◌, length, get_or};
 ghost use Rattle.text.specs.Steps.{Wrote};
-ghost use Rattle.table_place.specs.Place.{strEnd, strIn};
-ghost use Rattle.table_rows.specs.Strings.{stringsIn, Listed};
+ghost use Rattle.table_place.specs.Place.{str_end, str_in};
+ghost use Rattle.table_rows.specs.Strings.{strings_in, Listed};
 ghost use Rattle.table.specs.Text.{check, table_of};
-ghost use Rattle.table_facts.specs.Facts.{name_of, storedOf, ids_in, Identified};
+ghost use Rattle.table_facts.specs.Facts.{name_of, stored_of, ids_in, Identified};
 
 use table::{GroupNumber, RuleNumber};
 use table_load::Loaded;
@@ -18,8 +18,8 @@ pub enum Row {
 
 // Puts the string at `at` at the start of out, if it fits, and answers its length.
 fn copy_at(f: &[u8], at: usize, out: &mut [u8]) -> usize
-    requires { strEnd f.now at ≤ length f.now }
-    ensures { Wrote out.old 0 (storedOf out.old (strIn f.now at)) out.new result }
+    requires { str_end f.now at ≤ length f.now }
+    ensures { Wrote out.old 0 (stored_of out.old (str_in f.now at)) out.new result }
 {
     let n = f[at] as usize;
     if out.len() < n {
@@ -35,7 +35,7 @@ fn copy_at(f: &[u8], at: usize, out: &mut [u8]) -> usize
 fn copy_name(f: &[u8], groups: &[u16], n: usize, g: GroupNumber, out: &mut [u8]) -> usize
     requires { Listed f.now groups.now n }
     ensures { Wrote out.old 0
-        (storedOf out.old (get_or (stringsIn f.now groups.now n 0) g.0 []))
+        (stored_of out.old (get_or (strings_in f.now groups.now n 0) g.0 []))
         out.new result }
 {
     let k = g.0 as usize;
@@ -50,7 +50,7 @@ fn copy_name(f: &[u8], groups: &[u16], n: usize, g: GroupNumber, out: &mut [u8])
 fn copy_id(f: &[u8], starts: &[u16], n: usize, rule: RuleNumber, out: &mut [u8]) -> usize
     requires { Identified f.now starts.now n }
     ensures { Wrote out.old 0
-        (storedOf out.old (get_or (ids_in f.now starts.now n) rule.0 []))
+        (stored_of out.old (get_or (ids_in f.now starts.now n) rule.0 []))
         out.new result }
 {
     let k = rule.0 as usize;
@@ -65,7 +65,7 @@ fn copy_id(f: &[u8], starts: &[u16], n: usize, rule: RuleNumber, out: &mut [u8])
 // Puts the name of a row at the start of out, if it fits, and answers its length; 0 also where there is no such row.
 pub fn name_of(text: &[u8], row: Row, out: &mut [u8]) -> usize
     ensures { Wrote out.old 0
-        (storedOf out.old (name_of (check text.now) (table_of text.now) row))
+        (stored_of out.old (name_of (check text.now) (table_of text.now) row))
         out.new result }
 {
     let mut buf = [0u8; limits::MAX_TABLE_BYTES];

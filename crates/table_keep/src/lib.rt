@@ -1,15 +1,15 @@
 // A group or a member of the table, judged against the rows before it, and kept: its place is stored where it is not refused. `old` are the
 // decoded frames before it, f is its own frame, which follows them, `last` the kind of the frame before, and n the rows of its kind before it.
 ghost use Rattle.std.specs.Prelude.{◌≡◌, ◌≤◌, ltb, length, get_or};
-ghost use Rattle.limits.specs.Limits.{maxGroups};
+ghost use Rattle.limits.specs.Limits.{max_groups};
 ghost use Rattle.text.specs.Test.{◌and◌};
 ghost use Rattle.text.specs.String.{same};
 ghost use Rattle.text.specs.Refusal.{clear};
-ghost use Rattle.table_place.specs.Place.{strIn};
-ghost use Rattle.table_rows.specs.Strings.{stringsIn, Listed, place};
+ghost use Rattle.table_place.specs.Place.{str_in};
+ghost use Rattle.table_rows.specs.Strings.{strings_in, Listed, place};
 ghost use Rattle.table.specs.Frame.{entry_of};
 ghost use Rattle.table.specs.Refusal.{Earlier, framed, refusal};
-ghost use Rattle.table_keep.specs.Held.{hintPlaces, Groups, membersIn, GroupReady, MemberReady, GroupKept, MemberKept};
+ghost use Rattle.table_keep.specs.Held.{hint_places, Groups, members_in, GroupReady, MemberReady, GroupKept, MemberKept};
 
 use table::GroupNumber;
 use text::frame::End;
@@ -36,7 +36,7 @@ pub fn take_group(
 ) -> u8
     requires { GroupReady old.now f.now starts.old names.old n }
     ensures value { (b : Earlier) → b.kind ≡ last
-        → b.groups ≡ stringsIn old.now starts.old n 0
+        → b.groups ≡ strings_in old.now starts.old n 0
         → result ≡ refusal b (framed (entry_of f.now)) }
     ensures group_kept { result ≡ clear → GroupKept old.now f.now starts.old n starts.new names.new }
 {
@@ -71,7 +71,7 @@ pub fn take_group(
 // Whether group g is one of the first `count`, and has that name.
 fn is_named(old: &[u8], groups: &[u16], count: usize, g: GroupNumber, name: &[u8]) -> bool
     requires { Listed old.now groups.now count }
-    ensures { result ≡ (ltb g.0 count and same name.now (strIn old.now (get_or groups.now g.0 0))) }
+    ensures { result ≡ (ltb g.0 count and same name.now (str_in old.now (get_or groups.now g.0 0))) }
 {
     let k = g.0 as usize;
     if count <= k {
@@ -84,7 +84,7 @@ fn is_named(old: &[u8], groups: &[u16], count: usize, g: GroupNumber, name: &[u8
 // That of the first `count` groups whose name begins at `start`, found by halving, since groups stand in the order of the text. Nothing is promised:
 // the caller tries what is answered.
 fn number_at(groups: &[u16], count: usize, start: usize) -> GroupNumber
-    requires { (count ≤ length groups.now) × (count ≤ maxGroups) }
+    requires { (count ≤ length groups.now) × (count ≤ max_groups) }
 {
     let mut low = 0;
     let mut high = count;
@@ -108,7 +108,7 @@ fn number_by_name(
     name: &[u8],
 ) -> GroupNumber
     requires { Groups old.now groups.now names.now count }
-    ensures { result.0 ≡ place name.now (stringsIn old.now groups.now count 0) }
+    ensures { result.0 ≡ place name.now (strings_in old.now groups.now count 0) }
 {
     let s = text_sorted::find(old, names, count, name);
     let at = s.at;
@@ -133,8 +133,8 @@ pub fn number_of(
     names: &[u32],
     name: &[u8],
 ) -> GroupNumber
-    requires { Groups old.now groups.now names.now count × (hintPlaces ≤ length hints.now) }
-    ensures { result.0 ≡ place name.now (stringsIn old.now groups.now count 0) }
+    requires { Groups old.now groups.now names.now count × (hint_places ≤ length hints.now) }
+    ensures { result.0 ≡ place name.now (strings_in old.now groups.now count 0) }
 {
     let h = table_rows::hash(name) % HINT_PLACES;
     let hint = GroupNumber(hints[h]);
@@ -160,11 +160,11 @@ pub fn take_member(
 ) -> u8
     requires { MemberReady old.now f.now groups.now names.now count users.old owners.old keys.old n }
     ensures value { (b : Earlier) → b.kind ≡ last
-        → b.groups ≡ stringsIn old.now groups.now count 0
-        → b.members ≡ membersIn b.groups owners.old old.now users.old n
+        → b.groups ≡ strings_in old.now groups.now count 0
+        → b.members ≡ members_in b.groups owners.old old.now users.old n
         → result ≡ refusal b (framed (entry_of f.now)) }
     ensures member_kept { result ≡ clear
-        → MemberKept (stringsIn old.now groups.now count 0) old.now f.now
+        → MemberKept (strings_in old.now groups.now count 0) old.now f.now
         users.old owners.old n users.new owners.new keys.new }
 {
     let a = text::frame::string_end(f, table::AFTER_KIND);

@@ -1,13 +1,13 @@
 // A rule of the table, judged against the rows before it, and kept: its places are stored where it is not refused. `old` are the decoded frames
 // before it, f is its own frame, which follows them, `last` the kind of the frame before, and n the rules before it.
 ghost use Rattle.std.specs.Prelude.{◌≡◌, ◌≤◌, ◌<◌, length, set};
-ghost use Rattle.limits.specs.Limits.{maxRules};
+ghost use Rattle.limits.specs.Limits.{max_rules};
 ghost use Rattle.text.specs.Test.{if◌then◌else◌};
 ghost use Rattle.text.specs.Refusal.{clear};
-ghost use Rattle.table_rows.specs.Strings.{stringsIn, place};
+ghost use Rattle.table_rows.specs.Strings.{strings_in, place};
 ghost use Rattle.table.specs.Frame.{entry_of};
 ghost use Rattle.table.specs.Refusal.{Earlier, framed, refusal};
-ghost use Rattle.table_keep.specs.Held.{hintPlaces, Groups};
+ghost use Rattle.table_keep.specs.Held.{hint_places, Groups};
 ghost use Rattle.table_keep_rule.specs.Kept.{ids_of, Ids, RuleReady, RuleKept};
 
 use table::frame::RuleFrame;
@@ -30,8 +30,8 @@ fn holder_of(
     by_group: bool,
     subject: &[u8],
 ) -> GroupNumber
-    requires { Groups old.now groups.now names.now count × (hintPlaces ≤ length hints.now) }
-    ensures { result.0 ≡ (if by_group then place subject.now (stringsIn old.now groups.now count 0) else 0) }
+    requires { Groups old.now groups.now names.now count × (hint_places ≤ length hints.now) }
+    ensures { result.0 ≡ (if by_group then place subject.now (strings_in old.now groups.now count 0) else 0) }
 {
     if by_group {
         return table_keep::number_of(old, groups, count, hints, names, subject);
@@ -47,7 +47,7 @@ fn store(
     start: usize,
     g: GroupNumber,
 )
-    requires { (rule.0 < maxRules) × (start < 65536) }
+    requires { (rule.0 < max_rules) × (start < 65536) }
     ensures starts_after { starts.new ≡ set starts.old rule.0 start }
     ensures holders_after { holders.new ≡ set holders.old rule.0 g.0 }
 {
@@ -72,11 +72,11 @@ pub fn take_rule(
 ) -> u8
     requires { RuleReady old.now f.now groups.now names.now count keys.old n }
     ensures value { (b : Earlier) → b.kind ≡ last
-        → b.groups ≡ stringsIn old.now groups.now count 0
+        → b.groups ≡ strings_in old.now groups.now count 0
         → Ids old.now keys.old n (ids_of b.rules)
         → result ≡ refusal b (framed (entry_of f.now)) }
     ensures rule_kept { result ≡ clear
-        → RuleKept (stringsIn old.now groups.now count 0) old.now f.now
+        → RuleKept (strings_in old.now groups.now count 0) old.now f.now
         starts.old holders.old keys.old n starts.new holders.new keys.new }
 {
     let r = table::frame::read_rule(f);

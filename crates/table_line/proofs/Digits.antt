@@ -9,30 +9,30 @@ use lib.Dec.{ltb, leb}
 use lib.ListN.{length, drop, get_or, set, length-drop}
 use lib.Seq.{drop-cons}
 use Rattle.text.specs.Test.{◌and◌, if◌then◌else◌}
-use Rattle.text.specs.Byte.{isHex, hexValue, isDigit, within}
+use Rattle.text.specs.Byte.{is_hex, hex_value, is_digit, within}
 use Rattle.text.specs.HexTable.{HexTable}
 use Rattle.text.specs.Fill.{put}
 use Rattle.text.proofs.Tests.{by, and_right, clash}
-use Rattle.text.proofs.Filling.{Pending, fill_start, fill-set, fill-byte, fill_done}
+use Rattle.text.proofs.Filling.{Pending, fill_start, fill_set, fill_byte, fill_done}
 use Rattle.table_line.specs.Decoding.{digits}
 
 -- ---- a byte is a digit exactly if its value is below 16
 
-hex-cases : (b : ℕ) (t u : Bool) → isDigit b ≡ t → within 97 102 b ≡ u → (t || u) ≡ not (ltb 15 (cond t (b - 48) (cond u (b - 87) 16)))
-hex-cases b true u e f = let h : b ≤ 57 = leb-true _ _ (and_right (leb 48 b) _ e) in rw (le-ltb 15 (b - 48) (omega arith))
-hex-cases b false true e f = let h : b ≤ 102 = leb-true _ _ (and_right (leb 97 b) _ f) in rw (le-ltb 15 (b - 87) (omega arith))
-hex-cases b false false e f = refl
+hex_cases : (b : ℕ) (t u : Bool) → is_digit b ≡ t → within 97 102 b ≡ u → (t || u) ≡ not (ltb 15 (cond t (b - 48) (cond u (b - 87) 16)))
+hex_cases b true u e f = let h : b ≤ 57 = leb-true _ _ (and_right (leb 48 b) _ e) in rw (le-ltb 15 (b - 48) (omega arith))
+hex_cases b false true e f = let h : b ≤ 102 = leb-true _ _ (and_right (leb 97 b) _ f) in rw (le-ltb 15 (b - 87) (omega arith))
+hex_cases b false false e f = refl
 
-pub hex-test : (b : ℕ) → isHex b ≡ not (ltb 15 (hexValue b))
-hex-test b = hex-cases b (isDigit b) (within 97 102 b) refl refl
+pub hex_test : (b : ℕ) → is_hex b ≡ not (ltb 15 (hex_value b))
+hex_test b = hex_cases b (is_digit b) (within 97 102 b) refl refl
 
 unless : (a b : Bool) → (not a and not b) ≡ not (a || b)
 unfolding ◌and◌
 unless true b = refl
 unless false b = refl
 
-pub both-hex : (x y : ℕ) → (isHex x and isHex y) ≡ not (ltb 15 (hexValue x) || ltb 15 (hexValue y))
-both-hex x y = rw (hex-test x, hex-test y) (unless (ltb 15 (hexValue x)) (ltb 15 (hexValue y)))
+pub both_hex : (x y : ℕ) → (is_hex x and is_hex y) ≡ not (ltb 15 (hex_value x) || ltb 15 (hex_value y))
+both_hex x y = rw (hex_test x, hex_test y) (unless (ltb 15 (hex_value x)) (ltb 15 (hex_value y)))
 
 -- ---- a turn
 
@@ -59,15 +59,15 @@ module _ (k : Looked) where
   abbrev pub low : ℕ
   low = get_or k.table (get_or k.text (k.i + 1) 0) 0
 
-  tested : (t : Bool) → (ltb 15 high || ltb 15 low) ≡ t → (isHex (get_or k.text k.i 0) and isHex (get_or k.text (k.i + 1) 0)) ≡ not t
+  tested : (t : Bool) → (ltb 15 high || ltb 15 low) ≡ t → (is_hex (get_or k.text k.i 0) and is_hex (get_or k.text (k.i + 1) 0)) ≡ not t
   tested t g =
-      both-hex (get_or k.text k.i 0) (get_or k.text (k.i + 1) 0)
+      both_hex (get_or k.text k.i 0) (get_or k.text (k.i + 1) 0)
       ∙ rw (← k.values.value (get_or k.text k.i 0) k.first, ← k.values.value (get_or k.text (k.i + 1) 0) k.second, g)
 
   module _ (g : (ltb 15 high || ltb 15 low) ≡ false) where
-    pub digits-turn : digits (drop k.i k.text) ≡ (high * 16 + low) ∷ digits (drop (k.i + 2) k.text)
+    pub digits_turn : digits (drop k.i k.text) ≡ (high * 16 + low) ∷ digits (drop (k.i + 2) k.text)
     unfolding digits if◌then◌else◌
-    digits-turn =
+    digits_turn =
         rw (
           two k.text k.i k.more,
           tested false g,
@@ -75,12 +75,12 @@ module _ (k : Looked) where
           k.values.value (get_or k.text (k.i + 1) 0) k.second,
         )
 
-    pub value-fits : (high ≤ 15) × (low ≤ 15)
-    value-fits = by (ltb 15 high) (λ t. clash refl (rw t at g)) (λ t. (ltb-false 15 high t, ltb-false 15 low (rw t at g)))
+    pub value_fits : (high ≤ 15) × (low ≤ 15)
+    value_fits = by (ltb 15 high) (λ t. clash refl (rw t at g)) (λ t. (ltb-false 15 high t, ltb-false 15 low (rw t at g)))
 
-  pub digits-stop : (ltb 15 high || ltb 15 low) ≡ true → digits (drop k.i k.text) ≡ []
+  pub digits_stop : (ltb 15 high || ltb 15 low) ≡ true → digits (drop k.i k.text) ≡ []
   unfolding digits if◌then◌else◌
-  digits-stop g = rw (two k.text k.i k.more, tested true g)
+  digits_stop g = rw (two k.text k.i k.more, tested true g)
 
 short : (s : List ℕ) → length s ≤ 1 → digits s ≡ []
 unfolding digits
@@ -88,28 +88,28 @@ short [] h = refl
 short (x ∷ []) h = refl
 short (x ∷ y ∷ s) h = absurd (omega arith)
 
-pub digits-end : (s : List ℕ) (i : ℕ) → length s ≤ i + 1 → digits (drop i s) ≡ []
-digits-end s i h = short (drop i s) (omega (arith, length-drop i s))
+pub digits_end : (s : List ℕ) (i : ℕ) → length s ≤ i + 1 → digits (drop i s) ≡ []
+digits_end s i h = short (drop i s) (omega (arith, length-drop i s))
 
 -- ---- how many
 
-pub digits-half : (s : List ℕ) → 2 * length (digits s) ≤ length s
+pub digits_half : (s : List ℕ) → 2 * length (digits s) ≤ length s
 unfolding digits if◌then◌else◌
-digits-half [] = zero-le
-digits-half (x ∷ []) = zero-le
-digits-half (x ∷ y ∷ s) = by (isHex x and isHex y) (λ t. rw t (omega (arith, digits-half s))) (λ t. rw t zero-le)
+digits_half [] = zero-le
+digits_half (x ∷ []) = zero-le
+digits_half (x ∷ y ∷ s) = by (is_hex x and is_hex y) (λ t. rw t (omega (arith, digits_half s))) (λ t. rw t zero-le)
 
 -- ---- storing them
 
-pub decode-start : (s d : List ℕ) (from at : ℕ) → at + (length s - from) / 2 ≤ length d → Pending d at (digits (drop from s)) d at (digits (drop from s))
-decode-start s d from at h = fill_start d at (digits (drop from s)) (omega (arith, digits-half (drop from s), length-drop from s))
+pub decode_start : (s d : List ℕ) (from at : ℕ) → at + (length s - from) / 2 ≤ length d → Pending d at (digits (drop from s)) d at (digits (drop from s))
+decode_start s d from at h = fill_start d at (digits (drop from s)) (omega (arith, digits_half (drop from s), length-drop from s))
 
 module _ (d : List ℕ) (at : ℕ) (w out : List ℕ) (k : ℕ) (r : List ℕ) where
-  pub decode-room : (b : ℕ) (t : List ℕ) → Pending d at w out k r → r ≡ b ∷ t → k < length out
-  decode-room b t g e = fill-byte d at w out k b t (rw e at g)
+  pub decode_room : (b : ℕ) (t : List ℕ) → Pending d at w out k r → r ≡ b ∷ t → k < length out
+  decode_room b t g e = fill_byte d at w out k b t (rw e at g)
 
-  pub decode-turn : (b : ℕ) (t : List ℕ) → Pending d at w out k r → r ≡ b ∷ t → Pending d at w (set out k b) (k + 1) t
-  decode-turn b t g e = fill-set d at w out k b t (rw e at g)
+  pub decode_turn : (b : ℕ) (t : List ℕ) → Pending d at w out k r → r ≡ b ∷ t → Pending d at w (set out k b) (k + 1) t
+  decode_turn b t g e = fill_set d at w out k b t (rw e at g)
 
-  pub decode-done : at ≤ k → Pending d at w out k r → r ≡ [] → (k - at ≡ length w) × (out ≡ put d at w)
-  decode-done h g e = let i = fill_done d at w out k (rw e at g) in (omega (arith, i.0), i.1)
+  pub decode_done : at ≤ k → Pending d at w out k r → r ≡ [] → (k - at ≡ length w) × (out ≡ put d at w)
+  decode_done h g e = let i = fill_done d at w out k (rw e at g) in (omega (arith, i.0), i.1)

@@ -10,18 +10,18 @@ use lib.Dec.{eqb, ltb}
 use lib.ListN.{length, drop, get_or, length-drop}
 use lib.Seq.{drop-drop, get_or-drop}
 use Rattle.text.specs.Test.{◌and◌, if◌then◌else◌}
-use Rattle.text.specs.Byte.{isHex}
+use Rattle.text.specs.Byte.{is_hex}
 use Rattle.text.specs.String.{Str}
 use Rattle.text.proofs.Tests.{by, and_l, and_r, clash}
 use Rattle.table_line.specs.Lines.{onto, lines, pair, pairs, nonempty, frame}
-use Rattle.table_line.specs.Decoding.{digits, taken, firstLine}
+use Rattle.table_line.specs.Decoding.{digits, taken, first_line}
 use Rattle.table_line.specs.declared.Line.{Line}
 use Rattle.table_line.specs.declared.Line.TheVariants.{Frame, Bad}
-use Rattle.table_line.proofs.Digits.{digits-half}
+use Rattle.table_line.proofs.Digits.{digits_half}
 
 -- a digit is no LF
-no-LF : (x : ℕ) → isHex x ≡ true → eqb x 10 ≡ false
-no-LF x h = by (eqb x 10) (λ e. let i : x ≡ 10 = eqb-true _ _ e in clash (rw i at h) refl) (λ e. e)
+no_LF : (x : ℕ) → is_hex x ≡ true → eqb x 10 ≡ false
+no_LF x h = by (eqb x 10) (λ e. let i : x ≡ 10 = eqb-true _ _ e in clash (rw i at h) refl) (λ e. e)
 
 -- the line starts s, its digits are those of s, and it ends with an LF
 pub record Ended (s : Str) (n : ℕ) : Type 0 where
@@ -34,28 +34,28 @@ alone : (x : ℕ) (s : Str) → x ≡ 10 → digits (x ∷ s) ≡ [] → Ended (
 unfolding lines onto pairs if◌then◌else◌
 alone x s e d = record { line = x ∷ []; first = rw (eq-eqb x 10 e); bytes = rw (eq-eqb x 10 e, d); long = refl }
 
-more : (x y : ℕ) (s : Str) (n : ℕ) → (isHex x and isHex y) ≡ true → Ended s n → Ended (x ∷ y ∷ s) (suc n)
+more : (x y : ℕ) (s : Str) (n : ℕ) → (is_hex x and is_hex y) ≡ true → Ended s n → Ended (x ∷ y ∷ s) (suc n)
 unfolding lines onto pairs pair digits if◌then◌else◌
 more x y s n t g = record {
   line = x ∷ y ∷ g.line;
   first =
       let d : 2 * suc n + 1 ≡ suc (suc (2 * n + 1)) = omega arith in
-      rw (no-LF x (and_l _ _ t), no-LF y (and_r _ _ t), g.first, d);
+      rw (no_LF x (and_l _ _ t), no_LF y (and_r _ _ t), g.first, d);
   bytes = rw (t, g.bytes);
   long = omega (arith, g.long);
 }
 
-digits_more : (x y : ℕ) (s : Str) → (isHex x and isHex y) ≡ true → length (digits (x ∷ y ∷ s)) ≡ suc (length (digits s))
+digits_more : (x y : ℕ) (s : Str) → (is_hex x and is_hex y) ≡ true → length (digits (x ∷ y ∷ s)) ≡ suc (length (digits s))
 unfolding digits if◌then◌else◌
 digits_more x y s t = rw t
 
-digits-none : (x y : ℕ) (s : Str) → (isHex x and isHex y) ≡ false → digits (x ∷ y ∷ s) ≡ []
+digits_none : (x y : ℕ) (s : Str) → (is_hex x and is_hex y) ≡ false → digits (x ∷ y ∷ s) ≡ []
 unfolding digits if◌then◌else◌
-digits-none x y s t = rw t
+digits_none x y s t = rw t
 
-digits-one : (x : ℕ) → digits (x ∷ []) ≡ []
+digits_one : (x : ℕ) → digits (x ∷ []) ≡ []
 unfolding digits
-digits-one x = refl
+digits_one x = refl
 
 module _ (x y : ℕ) (s : Str) (n m : ℕ) (e : n ≡ suc m) where
   later : get_or (x ∷ y ∷ s) (2 * n) 0 ≡ get_or s (2 * m) 0
@@ -64,21 +64,21 @@ module _ (x y : ℕ) (s : Str) (n m : ℕ) (e : n ≡ suc m) where
 start : (x : ℕ) (s : Str) (n : ℕ) → n ≡ 0 → get_or (x ∷ s) (2 * n) 0 ≡ x
 start x s n e = let b : 2 * n ≡ 0 = omega arith in ap (λ (j : ℕ). get_or (x ∷ s) j 0) b
 
-ended-alone : (x : ℕ) (s : Str) (n : ℕ) → n ≡ 0 → get_or (x ∷ s) (2 * n) 0 ≡ 10 → digits (x ∷ s) ≡ [] → Ended (x ∷ s) n
-ended-alone x s n a k d = rw a (alone x s (sym (start x s n a) ∙ k) d)
+ended_alone : (x : ℕ) (s : Str) (n : ℕ) → n ≡ 0 → get_or (x ∷ s) (2 * n) 0 ≡ 10 → digits (x ∷ s) ≡ [] → Ended (x ∷ s) n
+ended_alone x s n a k d = rw a (alone x s (sym (start x s n a) ∙ k) d)
 
-ended-more : (x y : ℕ) (s : Str) (n m : ℕ) → n ≡ suc m → (isHex x and isHex y) ≡ true → Ended s m → Ended (x ∷ y ∷ s) n
-ended-more x y s n m a t g = rw a (more x y s m t g)
+ended_more : (x y : ℕ) (s : Str) (n m : ℕ) → n ≡ suc m → (is_hex x and is_hex y) ≡ true → Ended s m → Ended (x ∷ y ∷ s) n
+ended_more x y s n m a t g = rw a (more x y s m t g)
 
 pub ended : (s : Str) (n : ℕ) → n ≡ length (digits s) → 2 * n < length s → get_or s (2 * n) 0 ≡ 10 → Ended s n
 ended [] n e h k = absurd (omega arith)
-ended (x ∷ []) n e h k = ended-alone x [] n (e ∙ ap length (digits-one x)) k (digits-one x)
+ended (x ∷ []) n e h k = ended_alone x [] n (e ∙ ap length (digits_one x)) k (digits_one x)
 ended (x ∷ y ∷ s) n e h k =
-    by (isHex x and isHex y)
+    by (is_hex x and is_hex y)
     (λ t.
     let a : n ≡ suc (length (digits s)) = e ∙ digits_more x y s t in
-    ended-more x y s n (length (digits s)) a t (ended s (length (digits s)) refl (omega arith) (sym (later x y s n (length (digits s)) a) ∙ k)))
-    (λ t. ended-alone x (y ∷ s) n (e ∙ ap length (digits-none x y s t)) k (digits-none x y s t))
+    ended_more x y s n (length (digits s)) a t (ended s (length (digits s)) refl (omega arith) (sym (later x y s n (length (digits s)) a) ∙ k)))
+    (λ t. ended_alone x (y ∷ s) n (e ∙ ap length (digits_none x y s t)) k (digits_none x y s t))
 
 -- ---- a line that does not end so
 
@@ -87,29 +87,29 @@ unfoldable pub head : List Str → Str
 head [] = []
 head (l ∷ ls) = l
 
-head-two : (x y : ℕ) (ls : List Str) → eqb x 10 ≡ false → eqb y 10 ≡ false → head (onto (eqb x 10) x (onto (eqb y 10) y ls)) ≡ x ∷ y ∷ head ls
+head_two : (x y : ℕ) (ls : List Str) → eqb x 10 ≡ false → eqb y 10 ≡ false → head (onto (eqb x 10) x (onto (eqb y 10) y ls)) ≡ x ∷ y ∷ head ls
 unfolding onto head
-head-two x y [] e f = rw (e, f)
-head-two x y (l ∷ ls) e f = rw (e, f)
+head_two x y [] e f = rw (e, f)
+head_two x y (l ∷ ls) e f = rw (e, f)
 
 -- whatever follows, the line goes on with y
-head-next : (x y : ℕ) (ls : List Str) (t : Bool) → eqb x 10 ≡ false → (r : Str) × (head (onto (eqb x 10) x (onto t y ls)) ≡ x ∷ y ∷ r)
+head_next : (x y : ℕ) (ls : List Str) (t : Bool) → eqb x 10 ≡ false → (r : Str) × (head (onto (eqb x 10) x (onto t y ls)) ≡ x ∷ y ∷ r)
 unfolding onto head
-head-next x y ls true e = ([], rw e)
-head-next x y [] false e = ([], rw e)
-head-next x y (l ∷ ls) false e = (l, rw e)
+head_next x y ls true e = ([], rw e)
+head_next x y [] false e = ([], rw e)
+head_next x y (l ∷ ls) false e = (l, rw e)
 
-pairs-more : (x y : ℕ) (r : Str) → pairs r ≡ none → (isHex x and isHex y) ≡ true → pairs (x ∷ y ∷ r) ≡ none
+pairs_more : (x y : ℕ) (r : Str) → pairs r ≡ none → (is_hex x and is_hex y) ≡ true → pairs (x ∷ y ∷ r) ≡ none
 unfolding pairs pair
-pairs-more x y r e t = rw (t, e)
+pairs_more x y r e t = rw (t, e)
 
-pairs-none : (x y : ℕ) (r : Str) → (isHex x and isHex y) ≡ false → pairs (x ∷ y ∷ r) ≡ none
+pairs_none : (x y : ℕ) (r : Str) → (is_hex x and is_hex y) ≡ false → pairs (x ∷ y ∷ r) ≡ none
 unfolding pairs pair
-pairs-none x y r t = rw t
+pairs_none x y r t = rw t
 
-pairs-one : (x : ℕ) → eqb x 10 ≡ false → pairs (head (lines (x ∷ []))) ≡ none
+pairs_one : (x : ℕ) → eqb x 10 ≡ false → pairs (head (lines (x ∷ []))) ≡ none
 unfolding pairs head lines onto if◌then◌else◌
-pairs-one x e = rw (e, e)
+pairs_one x e = rw (e, e)
 
 no_pairs : pairs (head (lines [])) ≡ none
 unfolding pairs head lines
@@ -119,86 +119,86 @@ pub unended : (s : Str) (n : ℕ) → n ≡ length (digits s) → (2 * n < lengt
 unfolding lines
 unended [] n e k = no_pairs
 unended (x ∷ []) n e k =
-    let a : n ≡ 0 = e ∙ ap length (digits-one x) in
-    pairs-one x (ne_eqb x 10 (λ p. k (omega arith) (start x [] n a ∙ p)))
+    let a : n ≡ 0 = e ∙ ap length (digits_one x) in
+    pairs_one x (ne_eqb x 10 (λ p. k (omega arith) (start x [] n a ∙ p)))
 unended (x ∷ y ∷ s) n e k =
-    by (isHex x and isHex y)
+    by (is_hex x and is_hex y)
     (λ t.
     let a : n ≡ suc (length (digits s)) = e ∙ digits_more x y s t in
-    ap pairs (head-two x y (lines s) (no-LF x (and_l _ _ t)) (no-LF y (and_r _ _ t)))
-    ∙ pairs-more x y (head (lines s)) (unended s (length (digits s)) refl (λ l p. k (omega arith) (later x y s n (length (digits s)) a ∙ p))) t)
+    ap pairs (head_two x y (lines s) (no_LF x (and_l _ _ t)) (no_LF y (and_r _ _ t)))
+    ∙ pairs_more x y (head (lines s)) (unended s (length (digits s)) refl (λ l p. k (omega arith) (later x y s n (length (digits s)) a ∙ p))) t)
     (λ t.
-    let a : n ≡ 0 = e ∙ ap length (digits-none x y s t) in
-    let r = head-next x y (lines s) (eqb y 10) (ne_eqb x 10 (λ p. k (omega arith) (start x (y ∷ s) n a ∙ p))) in
-    ap pairs r.1 ∙ pairs-none x y r.0 t)
+    let a : n ≡ 0 = e ∙ ap length (digits_none x y s t) in
+    let r = head_next x y (lines s) (eqb y 10) (ne_eqb x 10 (λ p. k (omega arith) (start x (y ∷ s) n a ∙ p))) in
+    ap pairs r.1 ∙ pairs_none x y r.0 t)
 
 -- ---- the answer
 
-onto-cons : (t : Bool) (b : ℕ) (ls : List Str) → (l : Str) × (ms : List Str) × (onto t b ls ≡ l ∷ ms)
+onto_cons : (t : Bool) (b : ℕ) (ls : List Str) → (l : Str) × (ms : List Str) × (onto t b ls ≡ l ∷ ms)
 unfolding onto
-onto-cons true b ls = (b ∷ [], ls, refl)
-onto-cons false b [] = (b ∷ [], [], refl)
-onto-cons false b (l ∷ ls) = (b ∷ l, ls, refl)
+onto_cons true b ls = (b ∷ [], ls, refl)
+onto_cons false b [] = (b ∷ [], [], refl)
+onto_cons false b (l ∷ ls) = (b ∷ l, ls, refl)
 
 -- there is a line where there are bytes
 pub lines_cons : (s : Str) → 0 < length s → (l : Str) × (ls : List Str) × (lines s ≡ l ∷ ls)
 unfolding lines
 lines_cons [] h = absurd (omega arith)
-lines_cons (x ∷ s) h = onto-cons (eqb x 10) x (lines s)
+lines_cons (x ∷ s) h = onto_cons (eqb x 10) x (lines s)
 
-first-bad : (from : ℕ) (ls : List Str) → frame (head ls) ≡ none → firstLine from ls ≡ Bad
-unfolding firstLine head taken
-first-bad from [] e = refl
-first-bad from (l ∷ ls) e = rw e
+first_bad : (from : ℕ) (ls : List Str) → frame (head ls) ≡ none → first_line from ls ≡ Bad
+unfolding first_line head taken
+first_bad from [] e = refl
+first_bad from (l ∷ ls) e = rw e
 
-frame-bad : (l : Str) → pairs l ≡ none → frame l ≡ none
+frame_bad : (l : Str) → pairs l ≡ none → frame l ≡ none
 unfolding frame nonempty
-frame-bad l e = rw e
+frame_bad l e = rw e
 
-frame-got : (l b : Str) → pairs l ≡ some b → 0 < length b → frame l ≡ some b
+frame_got : (l b : Str) → pairs l ≡ some b → 0 < length b → frame l ≡ some b
 unfolding frame nonempty
-frame-got l [] e h = absurd (omega arith)
-frame-got l (x ∷ b) e h = rw e
+frame_got l [] e h = absurd (omega arith)
+frame_got l (x ∷ b) e h = rw e
 
-frame-empty : (l b : Str) → pairs l ≡ some b → length b ≡ 0 → frame l ≡ none
+frame_empty : (l b : Str) → pairs l ≡ some b → length b ≡ 0 → frame l ≡ none
 unfolding frame nonempty
-frame-empty l [] e h = rw e
-frame-empty l (x ∷ b) e h = absurd (omega arith)
+frame_empty l [] e h = rw e
+frame_empty l (x ∷ b) e h = absurd (omega arith)
 
 module _ (s : Str) (from n : ℕ) (e : n ≡ length (digits s)) where
-  pub line-bad : (2 * n < length s → get_or s (2 * n) 0 ≡ 10 → ⊥) → Bad ≡ firstLine from (lines s)
-  line-bad k = sym (first-bad from (lines s) (frame-bad _ (unended s n e k)))
+  pub line_bad : (2 * n < length s → get_or s (2 * n) 0 ≡ 10 → ⊥) → Bad ≡ first_line from (lines s)
+  line_bad k = sym (first_bad from (lines s) (frame_bad _ (unended s n e k)))
 
   module _ (h : 2 * n < length s) (k : get_or s (2 * n) 0 ≡ 10) where
-    pub line-empty : n ≡ 0 → Bad ≡ firstLine from (lines s)
-    unfolding firstLine taken
-    line-empty z = let g = ended s n e h k in rw (g.first, frame-empty g.line (digits s) g.bytes (sym e ∙ z))
+    pub line_empty : n ≡ 0 → Bad ≡ first_line from (lines s)
+    unfolding first_line taken
+    line_empty z = let g = ended s n e h k in rw (g.first, frame_empty g.line (digits s) g.bytes (sym e ∙ z))
 
-    pub line-good : 0 < n → Frame n (from + 2 * n + 1) ≡ firstLine from (lines s)
-    unfolding firstLine taken
-    line-good z =
+    pub line_good : 0 < n → Frame n (from + 2 * n + 1) ≡ first_line from (lines s)
+    unfolding first_line taken
+    line_good z =
         let g = ended s n e h k in
         let a : from + 2 * n + 1 ≡ from + (2 * n + 1) = omega arith in
-        rw (g.first, frame-got g.line (digits s) g.bytes (omega arith), g.long, ← e, a)
+        rw (g.first, frame_got g.line (digits s) g.bytes (omega arith), g.long, ← e, a)
 
 -- ---- at a position of the text
 
 module _ (text : Str) (from n : ℕ) (e : n ≡ length (digits (drop from text))) where
   pub room : from ≤ length text → from + 2 * n ≤ length text
-  room h = omega (arith, digits-half (drop from text), length-drop from text)
+  room h = omega (arith, digits_half (drop from text), length-drop from text)
 
-  pub at-end : length text ≤ from + 2 * n → Bad ≡ firstLine from (lines (drop from text))
-  at-end h = line-bad (drop from text) from n e (λ l k. omega (arith, length-drop from text))
+  pub at_end_lem : length text ≤ from + 2 * n → Bad ≡ first_line from (lines (drop from text))
+  at_end_lem h = line_bad (drop from text) from n e (λ l k. omega (arith, length-drop from text))
 
-  pub at_other : (get_or text (from + 2 * n) 0 ≡ 10 → ⊥) → Bad ≡ firstLine from (lines (drop from text))
-  at_other h = line-bad (drop from text) from n e (λ l k. h (sym (get_or-drop from text (2 * n) 0) ∙ k))
+  pub at_other : (get_or text (from + 2 * n) 0 ≡ 10 → ⊥) → Bad ≡ first_line from (lines (drop from text))
+  at_other h = line_bad (drop from text) from n e (λ l k. h (sym (get_or-drop from text (2 * n) 0) ∙ k))
 
   module _ (h : from + 2 * n < length text) (k : get_or text (from + 2 * n) 0 ≡ 10) where
-    pub at-empty : n ≡ 0 → Bad ≡ firstLine from (lines (drop from text))
-    at-empty z = line-empty (drop from text) from n e (omega (arith, length-drop from text)) (get_or-drop from text (2 * n) 0 ∙ k) z
+    pub at_empty : n ≡ 0 → Bad ≡ first_line from (lines (drop from text))
+    at_empty z = line_empty (drop from text) from n e (omega (arith, length-drop from text)) (get_or-drop from text (2 * n) 0 ∙ k) z
 
-    pub at-LF : (n ≡ 0 → ⊥) → Frame n (from + 2 * n + 1) ≡ firstLine from (lines (drop from text))
-    at-LF z = line-good (drop from text) from n e (omega (arith, length-drop from text)) (get_or-drop from text (2 * n) 0 ∙ k) (omega arith)
+    pub at_LF : (n ≡ 0 → ⊥) → Frame n (from + 2 * n + 1) ≡ first_line from (lines (drop from text))
+    at_LF z = line_good (drop from text) from n e (omega (arith, length-drop from text)) (get_or-drop from text (2 * n) 0 ∙ k) (omega arith)
 
 -- what an answer of read_line tells
 pub record Read (text : Str) (from len next : ℕ) : Type 0 where
@@ -213,7 +213,7 @@ pub record Read (text : Str) (from len next : ℕ) : Type 0 where
 never : {X : Type 0} {len next : ℕ} → Bad ≡ Frame len next → X
 never e = let z : ◌≡◌ {A = ℕ} 0 1 = cc in absurd (omega arith)
 
-module _ (text : Str) (from : ℕ) (r : Line) (i : r ≡ firstLine from (lines (drop from text))) where
+module _ (text : Str) (from : ℕ) (r : Line) (i : r ≡ first_line from (lines (drop from text))) where
   pub line_read : from ≤ length text → (len next : ℕ) → r ≡ Frame len next → Read text from len next
   line_read f len next g =
       let n = length (digits (drop from text)) in
@@ -224,10 +224,10 @@ module _ (text : Str) (from : ℕ) (r : Line) (i : r ≡ firstLine from (lines (
       (λ b.
       let k : get_or text (from + 2 * n) 0 ≡ 10 = eqb-true _ _ b in
       by (eqb n 0)
-      (λ c. never (at-empty text from n refl h k (eqb-true _ _ c) ∙ sym i ∙ g))
+      (λ c. never (at_empty text from n refl h k (eqb-true _ _ c) ∙ sym i ∙ g))
       (λ c.
       let z : n ≡ 0 → ⊥ = eqb-false _ _ c in
-      let q : Frame n (from + 2 * n + 1) ≡ Frame len next = at-LF text from n refl h k z ∙ sym i ∙ g in
+      let q : Frame n (from + 2 * n + 1) ≡ Frame len next = at_LF text from n refl h k z ∙ sym i ∙ g in
       let x : len ≡ n = cc in
       let y : next ≡ from + 2 * n + 1 = cc in
       let m = ended (drop from text) n refl (omega (arith, length-drop from text)) (get_or-drop from text (2 * n) 0 ∙ k) in
@@ -236,14 +236,14 @@ module _ (text : Str) (from : ℕ) (r : Line) (i : r ≡ firstLine from (lines (
       record {
         line = m.line;
         first = m.first ∙ ap (λ (t : Str). m.line ∷ lines t) d;
-        is = frame-got m.line (digits (drop from text)) m.bytes (omega arith);
+        is = frame_got m.line (digits (drop from text)) m.bytes (omega arith);
         size = x;
         goes = omega arith;
         some' = omega arith;
         ends = omega arith;
       }))
       (λ b. never (at_other text from n refl (eqb-false _ _ b) ∙ sym i ∙ g)))
-      (λ a. never (at-end text from n refl (ltb-false _ _ a) ∙ sym i ∙ g))
+      (λ a. never (at_end_lem text from n refl (ltb-false _ _ a) ∙ sym i ∙ g))
 
 -- where the line is no hex line
 pub record Unhex (text : Str) (from : ℕ) : Type 0 where
@@ -252,12 +252,12 @@ pub record Unhex (text : Str) (from : ℕ) : Type 0 where
   pub first : lines (drop from text) ≡ line ∷ others
   pub is : frame line ≡ none
 
-bad-frame : (from : ℕ) (l : Str) (ls : List Str) (x : Option Str) → frame l ≡ x → Bad ≡ firstLine from (l ∷ ls) → frame l ≡ none
-unfolding firstLine taken
-bad-frame from l ls none e g = e
-bad-frame from l ls (some f) e g = let h : Bad ≡ Frame (length f) (from + length l) = g ∙ rw e in never h
+bad_frame : (from : ℕ) (l : Str) (ls : List Str) (x : Option Str) → frame l ≡ x → Bad ≡ first_line from (l ∷ ls) → frame l ≡ none
+unfolding first_line taken
+bad_frame from l ls none e g = e
+bad_frame from l ls (some f) e g = let h : Bad ≡ Frame (length f) (from + length l) = g ∙ rw e in never h
 
-pub line-unhex : (text : Str) (from : ℕ) (r : Line) → r ≡ firstLine from (lines (drop from text)) → from < length text → r ≡ Bad → Unhex text from
-line-unhex text from r i h g =
+pub line_unhex : (text : Str) (from : ℕ) (r : Line) → r ≡ first_line from (lines (drop from text)) → from < length text → r ≡ Bad → Unhex text from
+line_unhex text from r i h g =
     let c = lines_cons (drop from text) (omega (arith, length-drop from text)) in
-    record { line = c.0; others = c.1; first = c.2; is = bad-frame from c.0 c.1 (frame c.0) refl (sym g ∙ i ∙ ap (firstLine from) c.2) }
+    record { line = c.0; others = c.1; first = c.2; is = bad_frame from c.0 c.1 (frame c.0) refl (sym g ∙ i ∙ ap (first_line from) c.2) }

@@ -2,7 +2,7 @@
 use Rattle.std.specs.Prelude.{ℕ, ◌+◌, ◌*◌, List, [], ◌∷◌, length}
 use Rattle.std.proofs.Math.Option.{Option, none, some}
 use Rattle.text.specs.Test.{◌and◌, if◌then◌else◌}
-use Rattle.text.specs.Byte.{isHex, hexValue}
+use Rattle.text.specs.Byte.{is_hex, hex_value}
 use Rattle.text.specs.String.{Str}
 use Rattle.table_line.specs.Lines.{frame}
 use Rattle.table_line.specs.declared.Line.{Line}
@@ -12,7 +12,7 @@ use Rattle.table_line.specs.declared.Line.TheVariants.{Frame, Bad}
 unfoldable pub digits : Str → Str
 digits [] = []
 digits (x ∷ []) = []
-digits (x ∷ y ∷ s) = if isHex x and isHex y then (hexValue x * 16 + hexValue y) ∷ digits s else []
+digits (x ∷ y ∷ s) = if is_hex x and is_hex y then (hex_value x * 16 + hex_value y) ∷ digits s else []
 
 -- the length of the frame, and where the next line starts
 unfoldable pub taken : ℕ → Str → Option Str → Line
@@ -20,6 +20,6 @@ taken from l none = Bad
 taken from l (some f) = Frame (length f) (from + length l)
 
 -- the first of the lines that start at `from`
-unfoldable pub firstLine : ℕ → List Str → Line
-firstLine from [] = Bad
-firstLine from (l ∷ ls) = taken from l (frame l)
+unfoldable pub first_line : ℕ → List Str → Line
+first_line from [] = Bad
+first_line from (l ∷ ls) = taken from l (frame l)

@@ -2,7 +2,7 @@
 use Rattle.std.specs.Prelude.{ℕ, ◌+◌, ◌*◌, Bool, true, false, List, [], ◌∷◌, eqb}
 use Rattle.std.proofs.Math.Option.{Option, none, some}
 use Rattle.text.specs.Test.{◌and◌, if◌then◌else◌}
-use Rattle.text.specs.Byte.{isHex, hexValue}
+use Rattle.text.specs.Byte.{is_hex, hex_value}
 use Rattle.text.specs.String.{Str}
 
 -- a byte before the lines of the rest: an LF is a line of its own, any other byte begins the first line
@@ -26,7 +26,7 @@ pair false b r = none
 unfoldable pub pairs : Str → Option Str
 pairs [] = none
 pairs (x ∷ []) = if eqb x 10 then some [] else none
-pairs (x ∷ y ∷ s) = pair (isHex x and isHex y) (hexValue x * 16 + hexValue y) (pairs s)
+pairs (x ∷ y ∷ s) = pair (is_hex x and is_hex y) (hex_value x * 16 + hex_value y) (pairs s)
 
 -- at least one byte
 unfoldable pub nonempty : Option Str → Option Str

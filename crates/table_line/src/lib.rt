@@ -3,7 +3,7 @@ ghost use Rattle.std.specs.Prelude.{◌≡◌, ◌+◌, ◌-◌, ◌/◌, ◌≤
 ghost use Rattle.text.specs.Fill.{put};
 ghost use Rattle.text.specs.HexTable.{HexTable};
 ghost use Rattle.table_line.specs.Lines.{lines};
-ghost use Rattle.table_line.specs.Decoding.{digits, firstLine};
+ghost use Rattle.table_line.specs.Decoding.{digits, first_line};
 
 #[derive(Drop)]
 pub enum Line {
@@ -40,7 +40,7 @@ fn decode(text: &[u8], from: usize, hex: &[u8; 256], out: &mut [u8], at: usize) 
 pub fn read_line(text: &[u8], from: usize, hex: &[u8; 256], out: &mut [u8], at: usize) -> Line
     requires hex_table { HexTable hex.now }
     requires from_in_bounds { (from ≤ length text.now) × (at + (length text.now - from) / 2 ≤ length out.old) }
-    ensures value { result ≡ firstLine from (lines (drop from text.now)) }
+    ensures value { result ≡ first_line from (lines (drop from text.now)) }
     ensures out_after { out.new ≡ put out.old at (digits (drop from text.now)) }
 {
     let len = decode(text, from, hex, out, at);

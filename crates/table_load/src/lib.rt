@@ -1,7 +1,7 @@
 // A table text, decoded once and checked: its bytes, and where groups, members and rules stand in them.
 ghost use Rattle.std.specs.Prelude.{◌≡◌, ◌≤◌, length};
-ghost use Rattle.limits.specs.Limits.{maxGroups, maxMembers, maxRules};
-ghost use Rattle.limits.specs.Sizes.{maxTableBytes};
+ghost use Rattle.limits.specs.Limits.{max_groups, max_members, max_rules};
+ghost use Rattle.limits.specs.Sizes.{max_table_bytes};
 ghost use Rattle.table_load.specs.Loaded.{Outcome};
 
 use crate::row::Counts;
@@ -28,12 +28,12 @@ pub fn load(
     starts: &mut [u16; limits::MAX_RULES],
     holders: &mut [u8; limits::MAX_RULES],
 ) -> Loaded
-    requires max_table_bytes_in_bounds { maxTableBytes ≤ length buf.old }
-    requires groups_len { (length groups.old ≡ maxGroups)
-        × (length users.old ≡ maxMembers)
-        × (length owners.old ≡ maxMembers)
-        × (length starts.old ≡ maxRules)
-        × (length holders.old ≡ maxRules) }
+    requires max_table_bytes_in_bounds { max_table_bytes ≤ length buf.old }
+    requires groups_len { (length groups.old ≡ max_groups)
+        × (length users.old ≡ max_members)
+        × (length owners.old ≡ max_members)
+        × (length starts.old ≡ max_rules)
+        × (length holders.old ≡ max_rules) }
     ensures { Outcome text.now result buf.new
         groups.new users.new owners.new starts.new holders.new }
 {

@@ -1,12 +1,12 @@
 // A row of any kind.
 ghost use Rattle.std.specs.Prelude.{◌≡◌, ◌≤◌, ◌<◌, length, take};
-ghost use Rattle.limits.specs.Limits.{maxGroups, maxMembers, maxRules};
-ghost use Rattle.limits.specs.Sizes.{maxTableBytes};
+ghost use Rattle.limits.specs.Limits.{max_groups, max_members, max_rules};
+ghost use Rattle.limits.specs.Sizes.{max_table_bytes};
 ghost use Rattle.text.specs.Refusal.{clear};
 ghost use Rattle.text.specs.Frame.{part};
 ghost use Rattle.table.specs.Frame.{entry_of};
 ghost use Rattle.table.specs.Refusal.{Earlier, framed, refusal};
-ghost use Rattle.table_load.specs.Held.{Held, countsAfter};
+ghost use Rattle.table_load.specs.Held.{Held, counts_after};
 ghost use Rattle.table_load.specs.Loaded.{Grown};
 
 // What the rows so far are: the kind of the last, and how many groups, members and rules.
@@ -20,8 +20,8 @@ pub struct Counts {
 
 // The counts after one row more, of that kind.
 pub fn after(c: Counts, kind: u8) -> Counts
-    requires { (c.groups ≤ maxGroups) × (c.members ≤ maxMembers) × (c.rules ≤ maxRules) }
-    ensures { result ≡ countsAfter c kind }
+    requires { (c.groups ≤ max_groups) × (c.members ≤ max_members) × (c.rules ≤ max_rules) }
+    ensures { result ≡ counts_after c kind }
 {
     if kind == table::KIND_GROUP {
         return Counts {
@@ -71,7 +71,7 @@ pub fn take_row(
     memberkeys: &mut [u32; table_keep::MEMBER_KEYS],
     idkeys: &mut [u32; table_keep_rule::ID_KEYS],
 ) -> u8
-    requires used_lt_end { (used < end) × (end ≤ length buf.now) × (end ≤ maxTableBytes) }
+    requires used_lt_end { (used < end) × (end ≤ length buf.now) × (end ≤ max_table_bytes) }
     requires held { (b : Earlier)
         × Held b (take used buf.now) c groups.old users.old owners.old starts.old holders.old
         names.old memberkeys.old idkeys.old }

@@ -9,29 +9,29 @@ use Rattle.text.specs.String.{Str}
 use Rattle.text.proofs.Tests.{by}
 use Rattle.table.specs.Table.{Member, Table}
 use Rattle.table.specs.Group.{lists, numbered, memberships, groups_of}
-use Rattle.table_membership.specs.Set.{has_of, numbersIn, UserGroups}
+use Rattle.table_membership.specs.Set.{has_of, numbers_in, UserGroups}
 
-pub numbers_more : (set n i : ℕ) → numbersIn set (suc n) i ≡ numbersIn set n i ++ numbered (has_of set (i + n)) (i + n) []
-unfolding numbersIn numbered if◌then◌else◌
+pub numbers_more : (set n i : ℕ) → numbers_in set (suc n) i ≡ numbers_in set n i ++ numbered (has_of set (i + n)) (i + n) []
+unfolding numbers_in numbered if◌then◌else◌
 numbers_more set zero i = let e : i + 0 ≡ i = omega arith in rw e
 numbers_more set (suc n) i =
     let e : suc i + n ≡ i + suc n = omega arith in
-    let r : numbersIn set (suc n) (suc i) ≡ numbersIn set n (suc i) ++ numbered (has_of set (i + suc n)) (i + suc n) [] = rw e at (numbers_more set n (suc i)) in
+    let r : numbers_in set (suc n) (suc i) ≡ numbers_in set n (suc i) ++ numbered (has_of set (i + suc n)) (i + suc n) [] = rw e at (numbers_more set n (suc i)) in
     by (has_of set i) (λ t. rw t (ap (λ (ns : List ℕ). i ∷ ns) r)) (λ t. rw t r)
 
 module _ (members : List Member) (user : Str) (set : ℕ) where
-  numbers-from : (i : ℕ) (xs : List Str) → ((g : ℕ) → g < length xs → has_of set (i + g) ≡ lists members user (get_or xs g []))
-      → numbersIn set (length xs) i ≡ memberships members user i xs
-  unfolding numbersIn memberships
-  numbers-from i [] h = refl
-  numbers-from i (s ∷ xs) h =
+  numbers_from : (i : ℕ) (xs : List Str) → ((g : ℕ) → g < length xs → has_of set (i + g) ≡ lists members user (get_or xs g []))
+      → numbers_in set (length xs) i ≡ memberships members user i xs
+  unfolding numbers_in memberships
+  numbers_from i [] h = refl
+  numbers_from i (s ∷ xs) h =
       let z : i + 0 ≡ i = omega arith in
       let a : has_of set i ≡ lists members user s = rw z at (h 0 (omega arith)) in
-      let r = numbers-from (suc i) xs (λ g l. let e : i + suc g ≡ suc i + g = omega arith in rw e at (h (suc g) (omega arith))) in
+      let r = numbers_from (suc i) xs (λ g l. let e : i + suc g ≡ suc i + g = omega arith in rw e at (h (suc g) (omega arith))) in
       rw (a, r)
 
 -- the set of a user's groups has their numbers
-pub numbers-are : (t : Table) (user : Str) (set : ℕ) → UserGroups t user set → numbersIn set (length t.groups) 0 ≡ groups_of t user
+pub numbers_are : (t : Table) (user : Str) (set : ℕ) → UserGroups t user set → numbers_in set (length t.groups) 0 ≡ groups_of t user
 unfolding groups_of
-numbers-are t user set h =
-    numbers-from t.members user set 0 t.groups (λ g l. let z : 0 + g ≡ g = omega arith in rw z (h g l))
+numbers_are t user set h =
+    numbers_from t.members user set 0 t.groups (λ g l. let z : 0 + g ≡ g = omega arith in rw z (h g l))

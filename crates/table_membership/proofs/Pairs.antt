@@ -8,29 +8,29 @@ use lib.Dec.{eqb}
 use lib.ListN.{length, get_or}
 use Rattle.text.specs.Test.{◌and◌, ◌or◌, any, twice}
 use Rattle.text.specs.String.{Str, same}
-use Rattle.table_place.specs.Place.{strIn}
+use Rattle.table_place.specs.Place.{str_in}
 use Rattle.table_rows.specs.Strings.{rows_of, place}
-use Rattle.table_rows.proofs.Grow.{place-test}
-use Rattle.table.specs.Refusal.{sameMember}
-use Rattle.table_keep.specs.Held.{memberIn, Owned}
+use Rattle.table_rows.proofs.Grow.{place_test}
+use Rattle.table.specs.Refusal.{same_member}
+use Rattle.table_keep.specs.Held.{member_in, Owned}
 
-unfoldable pub isPair : ℕ → Str → List ℕ → List ℕ → List ℕ → ℕ → Bool
-isPair owner name f starts owners i = eqb (get_or owners i 0) owner and same name (strIn f (get_or starts i 0))
+unfoldable pub is_pair : ℕ → Str → List ℕ → List ℕ → List ℕ → ℕ → Bool
+is_pair owner name f starts owners i = eqb (get_or owners i 0) owner and same name (str_in f (get_or starts i 0))
 
 -- one of n from number i on is such
-unfoldable pub hasPair : ℕ → Str → List ℕ → List ℕ → List ℕ → ℕ → ℕ → Bool
-hasPair owner name f starts owners zero i = false
-hasPair owner name f starts owners (suc n) i = isPair owner name f starts owners i or hasPair owner name f starts owners n (suc i)
+unfoldable pub has_pair : ℕ → Str → List ℕ → List ℕ → List ℕ → ℕ → ℕ → Bool
+has_pair owner name f starts owners zero i = false
+has_pair owner name f starts owners (suc n) i = is_pair owner name f starts owners i or has_pair owner name f starts owners n (suc i)
 
 -- pairs are members
 module _ (groups : List Str) (name u : Str) (f users owners : List ℕ) (d : twice same groups ≡ false) where
   pair_is : (j : ℕ) → get_or owners j 0 < length groups
-      → isPair (place name groups) u f users owners j ≡ sameMember (record { group = name; user = u }) (memberIn groups owners f users j)
-  unfolding isPair sameMember
-  pair_is j h = ap (λ (t : Bool). t and same u (strIn f (get_or users j 0))) (sym (place-test name groups (get_or owners j 0) d h))
+      → is_pair (place name groups) u f users owners j ≡ same_member (record { group = name; user = u }) (member_in groups owners f users j)
+  unfolding is_pair same_member
+  pair_is j h = ap (λ (t : Bool). t and same u (str_in f (get_or users j 0))) (sym (place_test name groups (get_or owners j 0) d h))
 
-  pub pairs-any : (k i n : ℕ) → i + k ≤ n → Owned owners n (length groups)
-      → hasPair (place name groups) u f users owners k i ≡ any (sameMember (record { group = name; user = u })) (rows_of (memberIn groups owners f users) k i)
-  unfolding hasPair any rows_of
-  pairs-any zero i n l h = refl
-  pairs-any (suc k) i n l h = ap₂ ◌or◌ (pair_is i (h i (omega arith))) (pairs-any k (suc i) n (omega arith) h)
+  pub pairs_any : (k i n : ℕ) → i + k ≤ n → Owned owners n (length groups)
+      → has_pair (place name groups) u f users owners k i ≡ any (same_member (record { group = name; user = u })) (rows_of (member_in groups owners f users) k i)
+  unfolding has_pair any rows_of
+  pairs_any zero i n l h = refl
+  pairs_any (suc k) i n l h = ap₂ ◌or◌ (pair_is i (h i (omega arith))) (pairs_any k (suc i) n (omega arith) h)

@@ -1,17 +1,17 @@
 // The groups of a user: a set with one bit for each group.
 ghost use Rattle.std.specs.Prelude.{◌≡◌, ◌≤◌, ◌<◌, length};
-ghost use Rattle.limits.specs.Limits.{maxGroups};
+ghost use Rattle.limits.specs.Limits.{max_groups};
 ghost use Rattle.text.specs.Test.{if◌then◌else◌};
 ghost use Rattle.text.specs.String.{same};
-ghost use Rattle.table_place.specs.Place.{strEnd, strIn};
-ghost use Rattle.table_membership.specs.Set.{insertOf, has_of, Members, setIn, group_of, countIn};
+ghost use Rattle.table_place.specs.Place.{str_end, str_in};
+ghost use Rattle.table_membership.specs.Set.{insert_of, has_of, Members, set_in, group_of, count_in};
 
 use table::{Counted, GroupNumber, RuleNumber};
 
 // The set with group g.
 fn insert(set: u64, g: GroupNumber) -> u64
-    requires { g.0 < maxGroups }
-    ensures { result ≡ insertOf set g.0 }
+    requires { g.0 < max_groups }
+    ensures { result ≡ insert_of set g.0 }
 {
     let n = g.0;
     set | (1 << n)
@@ -19,7 +19,7 @@ fn insert(set: u64, g: GroupNumber) -> u64
 
 // Group g is in the set.
 pub fn has(set: u64, g: GroupNumber) -> bool
-    requires { g.0 < maxGroups }
+    requires { g.0 < max_groups }
     ensures { result ≡ has_of set g.0 }
 {
     let n = g.0;
@@ -37,8 +37,8 @@ pub fn group_of(holders: &[u8], rule: RuleNumber) -> GroupNumber
 
 // The group is put in where the string at `at` is the user.
 pub fn join(set: u64, g: GroupNumber, f: &[u8], at: usize, user: &[u8]) -> u64
-    requires { (g.0 < maxGroups) × (strEnd f.now at ≤ length f.now) }
-    ensures { result ≡ (if same user.now (strIn f.now at) then insertOf set g.0 else set) }
+    requires { (g.0 < max_groups) × (str_end f.now at ≤ length f.now) }
+    ensures { result ≡ (if same user.now (str_in f.now at) then insert_of set g.0 else set) }
 {
     if table_rows::is_at(f, at, user) {
         return insert(set, g);
@@ -49,7 +49,7 @@ pub fn join(set: u64, g: GroupNumber, f: &[u8], at: usize, user: &[u8]) -> u64
 // The set of the user's groups, by the first n members.
 pub fn memberships(f: &[u8], users: &[u16], owners: &[u8], n: usize, user: &[u8]) -> u64
     requires { Members f.now users.now owners.now n }
-    ensures { result ≡ setIn user.now f.now users.now owners.now n 0 0 }
+    ensures { result ≡ set_in user.now f.now users.now owners.now n 0 0 }
 {
     let mut set: u64 = 0;
     let mut i = 0;
@@ -63,7 +63,7 @@ pub fn memberships(f: &[u8], users: &[u16], owners: &[u8], n: usize, user: &[u8]
 
 // The count of the user's groups, which the set has.
 pub fn count_of(set: u64, user: &[u8]) -> Counted
-    ensures { result ≡ countIn user.now set }
+    ensures { result ≡ count_in user.now set }
 {
     if table::is_bad_user(user) {
         return Counted::Declined {

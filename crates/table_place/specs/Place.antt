@@ -6,50 +6,50 @@ use Rattle.text.specs.Frame.{part}
 use Rattle.path.specs.Path.{Key, Elem, Path}
 
 -- "S is one length byte, then that many bytes"
-unfoldable pub strEnd : List ℕ → ℕ → ℕ
-strEnd f at = at + 1 + get_or f at 0
+unfoldable pub str_end : List ℕ → ℕ → ℕ
+str_end f at = at + 1 + get_or f at 0
 
-unfoldable pub strIn : List ℕ → ℕ → Str
-strIn f at = part f (at + 1) (strEnd f at)
+unfoldable pub str_in : List ℕ → ℕ → Str
+str_in f at = part f (at + 1) (str_end f at)
 
 -- a key: "S name, S value"
-abbrev pub keyEnd : List ℕ → ℕ → ℕ
-keyEnd f at = strEnd f (strEnd f at)
+abbrev pub key_end : List ℕ → ℕ → ℕ
+key_end f at = str_end f (str_end f at)
 
-unfoldable pub keyIn : List ℕ → ℕ → Key
-keyIn f at = record { name = strIn f at; value = strIn f (strEnd f at) }
+unfoldable pub key_in : List ℕ → ℕ → Key
+key_in f at = record { name = str_in f at; value = str_in f (str_end f at) }
 
 -- k keys
-unfoldable pub keysEnd : ℕ → List ℕ → ℕ → ℕ
-keysEnd zero f at = at
-keysEnd (suc k) f at = keysEnd k f (keyEnd f at)
+unfoldable pub keys_end : ℕ → List ℕ → ℕ → ℕ
+keys_end zero f at = at
+keys_end (suc k) f at = keys_end k f (key_end f at)
 
-unfoldable pub keysIn : ℕ → List ℕ → ℕ → List Key
-keysIn zero f at = []
-keysIn (suc k) f at = keyIn f at ∷ keysIn k f (keyEnd f at)
+unfoldable pub keys_in : ℕ → List ℕ → ℕ → List Key
+keys_in zero f at = []
+keys_in (suc k) f at = key_in f at ∷ keys_in k f (key_end f at)
 
 -- an element: "S name, a count of keys, and for each key .."
-abbrev pub keyCount : List ℕ → ℕ → ℕ
-keyCount f at = get_or f (strEnd f at) 0
+abbrev pub key_count : List ℕ → ℕ → ℕ
+key_count f at = get_or f (str_end f at) 0
 
-unfoldable pub elemEnd : List ℕ → ℕ → ℕ
-elemEnd f at = keysEnd (keyCount f at) f (strEnd f at + 1)
+unfoldable pub elem_end : List ℕ → ℕ → ℕ
+elem_end f at = keys_end (key_count f at) f (str_end f at + 1)
 
-unfoldable pub elemIn : List ℕ → ℕ → Elem
-elemIn f at = record { name = strIn f at; keys = keysIn (keyCount f at) f (strEnd f at + 1) }
+unfoldable pub elem_in : List ℕ → ℕ → Elem
+elem_in f at = record { name = str_in f at; keys = keys_in (key_count f at) f (str_end f at + 1) }
 
 -- n elements
-unfoldable pub elemsEnd : ℕ → List ℕ → ℕ → ℕ
-elemsEnd zero f at = at
-elemsEnd (suc n) f at = elemsEnd n f (elemEnd f at)
+unfoldable pub elems_end : ℕ → List ℕ → ℕ → ℕ
+elems_end zero f at = at
+elems_end (suc n) f at = elems_end n f (elem_end f at)
 
-unfoldable pub elemsIn : ℕ → List ℕ → ℕ → Path
-elemsIn zero f at = []
-elemsIn (suc n) f at = elemIn f at ∷ elemsIn n f (elemEnd f at)
+unfoldable pub elems_in : ℕ → List ℕ → ℕ → Path
+elems_in zero f at = []
+elems_in (suc n) f at = elem_in f at ∷ elems_in n f (elem_end f at)
 
 -- a path: "a count of elements, then for each: .."
-abbrev pub pathEnd : List ℕ → ℕ → ℕ
-pathEnd f at = elemsEnd (get_or f at 0) f (at + 1)
+abbrev pub path_end : List ℕ → ℕ → ℕ
+path_end f at = elems_end (get_or f at 0) f (at + 1)
 
-abbrev pub pathIn : List ℕ → ℕ → Path
-pathIn f at = elemsIn (get_or f at 0) f (at + 1)
+abbrev pub path_in : List ℕ → ℕ → Path
+path_in f at = elems_in (get_or f at 0) f (at + 1)

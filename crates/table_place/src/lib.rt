@@ -1,27 +1,27 @@
 // Where the parts of checked path bytes end.
 ghost use Rattle.std.specs.Prelude.{◌≡◌, ◌≤◌, length};
-ghost use Rattle.table_place.specs.Place.{strEnd, keyEnd, keysEnd, elemEnd};
+ghost use Rattle.table_place.specs.Place.{str_end, key_end, keys_end, elem_end};
 
 // The string at `at`.
 pub fn str_end(f: &[u8], at: usize) -> usize
-    requires { strEnd f.now at ≤ length f.now }
-    ensures { result ≡ strEnd f.now at }
+    requires { str_end f.now at ≤ length f.now }
+    ensures { result ≡ str_end f.now at }
 {
     at + 1 + f[at] as usize
 }
 
 // The key at `at`.
 pub fn key_end(f: &[u8], at: usize) -> usize
-    requires { keyEnd f.now at ≤ length f.now }
-    ensures { result ≡ keyEnd f.now at }
+    requires { key_end f.now at ≤ length f.now }
+    ensures { result ≡ key_end f.now at }
 {
     str_end(f, str_end(f, at))
 }
 
 // The k keys from `at` on.
 fn keys_end(f: &[u8], at: usize, k: usize) -> usize
-    requires { keysEnd k f.now at ≤ length f.now }
-    ensures { result ≡ keysEnd k f.now at }
+    requires { keys_end k f.now at ≤ length f.now }
+    ensures { result ≡ keys_end k f.now at }
 {
     let mut q = at;
     let mut left = k;
@@ -34,8 +34,8 @@ fn keys_end(f: &[u8], at: usize, k: usize) -> usize
 
 // The element at `at`.
 pub fn elem_end(f: &[u8], at: usize) -> usize
-    requires { elemEnd f.now at ≤ length f.now }
-    ensures { result ≡ elemEnd f.now at }
+    requires { elem_end f.now at ≤ length f.now }
+    ensures { result ≡ elem_end f.now at }
 {
     let a = str_end(f, at);
     let k = f[a] as usize;

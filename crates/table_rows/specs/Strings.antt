@@ -2,7 +2,7 @@
 use Rattle.std.specs.Prelude.{ℕ, zero, suc, ◌/◌, ◌≤◌, ◌<◌, ◌≡◌, false, List, [], ◌∷◌, length, get_or}
 use Rattle.text.specs.Test.{if◌then◌else◌, twice}
 use Rattle.text.specs.String.{Str, same}
-use Rattle.table_place.specs.Place.{strEnd, strIn}
+use Rattle.table_place.specs.Place.{str_end, str_in}
 use Rattle.text_hash.specs.declared.Seed.{Seed}
 use Rattle.text_hash.specs.Mix.{mix}
 
@@ -12,12 +12,12 @@ rows_of g zero i = []
 rows_of g (suc n) i = g i ∷ rows_of g n (suc i)
 
 -- n strings, from number i on
-unfoldable pub stringsIn : List ℕ → List ℕ → ℕ → ℕ → List Str
-stringsIn f starts n i = rows_of (λ j. strIn f (get_or starts j 0)) n i
+unfoldable pub strings_in : List ℕ → List ℕ → ℕ → ℕ → List Str
+strings_in f starts n i = rows_of (λ j. str_in f (get_or starts j 0)) n i
 
 -- the first n strings lie within the bytes
 abbrev pub Laid : List ℕ → List ℕ → ℕ → Type 0
-Laid f starts n = (i : ℕ) → i < n → strEnd f (get_or starts i 0) ≤ length f
+Laid f starts n = (i : ℕ) → i < n → str_end f (get_or starts i 0) ≤ length f
 
 -- what a lookup among them needs
 pub record Listed (f starts : List ℕ) (n : ℕ) : Type 0 where
@@ -27,7 +27,7 @@ pub record Listed (f starts : List ℕ) (n : ℕ) : Type 0 where
 -- and where no two of them are alike
 pub record Distinct (f starts : List ℕ) (n : ℕ) : Type 0 where
   pub listed : Listed f starts n
-  pub distinct : twice same (stringsIn f starts n 0) ≡ false
+  pub distinct : twice same (strings_in f starts n 0) ≡ false
 
 -- the number of the first string that is the name; where none is, how many there are
 unfoldable pub place : Str → List Str → ℕ
@@ -43,9 +43,9 @@ factors = record { first = 1201626857; second = 1150305587 }
 abbrev pub hashes : ℕ
 hashes = 8192
 
-abbrev pub hashStep : ℕ
-hashStep = 4294967296 / hashes
+abbrev pub hash_step : ℕ
+hash_step = 4294967296 / hashes
 
 -- a number below `hashes` that equal strings share
-unfoldable pub hashOf : Str → ℕ
-hashOf s = mix factors 0 s / hashStep
+unfoldable pub hash_of : Str → ℕ
+hash_of s = mix factors 0 s / hash_step

@@ -1,15 +1,15 @@
 // Strings of decoded rows, found by an array of positions: lookups, and a hash that says where to look first.
 ghost use Rattle.std.specs.Prelude.{◌≡◌, ◌≤◌, length};
 ghost use Rattle.text.specs.String.{same};
-ghost use Rattle.table_place.specs.Place.{strEnd, strIn};
-ghost use Rattle.table_rows.specs.Strings.{stringsIn, Listed, place, hashOf};
+ghost use Rattle.table_place.specs.Place.{str_end, str_in};
+ghost use Rattle.table_rows.specs.Strings.{strings_in, Listed, place, hash_of};
 
 use text_hash::Seed;
 
 // The string at `at` is the name.
 pub fn is_at(f: &[u8], at: usize, name: &[u8]) -> bool
-    requires { strEnd f.now at ≤ length f.now }
-    ensures { result ≡ same name.now (strIn f.now at) }
+    requires { str_end f.now at ≤ length f.now }
+    ensures { result ≡ same name.now (str_in f.now at) }
 {
     let n = f[at] as usize;
     let start = at + 1;
@@ -20,7 +20,7 @@ pub fn is_at(f: &[u8], at: usize, name: &[u8]) -> bool
 // The number of the first of n strings that is the name; n where none is.
 pub fn find(f: &[u8], starts: &[u16], n: usize, name: &[u8]) -> usize
     requires { Listed f.now starts.now n }
-    ensures { result ≡ place name.now (stringsIn f.now starts.now n 0) }
+    ensures { result ≡ place name.now (strings_in f.now starts.now n 0) }
 {
     let mut i = 0;
     while i < n {
@@ -40,7 +40,7 @@ const HASH_STEP: usize = 4294967296 / HASHES;
 
 // A number below HASHES that equal strings share.
 pub fn hash(s: &[u8]) -> usize
-    ensures { result ≡ hashOf s.now }
+    ensures { result ≡ hash_of s.now }
 {
     let factors = Seed {
         first: 1201626857,

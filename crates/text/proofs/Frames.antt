@@ -11,34 +11,34 @@ use Rattle.text.specs.declared.frame.End.TheVariants.{At, Unread}
 use Rattle.text.proofs.Tests.{by}
 
 module _ (f : List ℕ) (at : ℕ) where
-  pub byte-got : at < length f → byte f at ≡ got (get_or f at 0) (at + 1)
+  pub byte_got : at < length f → byte f at ≡ got (get_or f at 0) (at + 1)
   unfolding byte if◌then◌else◌
-  byte-got h = rw (lt-ltb _ _ h)
+  byte_got h = rw (lt-ltb _ _ h)
 
-  pub byte-unread : length f ≤ at → byte f at ≡ unread
+  pub byte_unread : length f ≤ at → byte f at ≡ unread
   unfolding byte if◌then◌else◌
-  byte-unread h = rw (le-ltb _ _ h)
+  byte_unread h = rw (le-ltb _ _ h)
 
-  pub string-got : at < length f → get_or f at 0 ≤ length f - (at + 1)
+  pub string_got : at < length f → get_or f at 0 ≤ length f - (at + 1)
       → string f at ≡ got (part f (at + 1) (at + 1 + get_or f at 0)) (at + 1 + get_or f at 0)
   unfolding string ◌>>=◌ run if◌then◌else◌
-  string-got h k = rw (byte-got h, le-leb _ _ k)
+  string_got h k = rw (byte_got h, le-leb _ _ k)
 
-  pub string-none : length f ≤ at → string f at ≡ unread
+  pub string_none : length f ≤ at → string f at ≡ unread
   unfolding string ◌>>=◌
-  string-none h = rw (byte-unread h)
+  string_none h = rw (byte_unread h)
 
-  pub string-unread : at < length f → length f - (at + 1) < get_or f at 0 → string f at ≡ unread
+  pub string_unread : at < length f → length f - (at + 1) < get_or f at 0 → string f at ≡ unread
   unfolding string ◌>>=◌ run if◌then◌else◌
-  string-unread h k = rw (byte-got h, lt-leb _ _ k)
+  string_unread h k = rw (byte_got h, lt-leb _ _ k)
 
 -- no bytes
 pub no_part : (f : List ℕ) (a : ℕ) → part f a a ≡ []
 no_part f a = let q : a - a ≡ 0 = omega arith in rw q
 
 -- bytes that follow change no part
-pub part-front : (f g : List ℕ) (a b : ℕ) → a ≤ length f → b ≤ length f → part (f ++ g) a b ≡ part f a b
-part-front f g a b p q = let h : b - a ≤ length (drop a f) = omega (arith, length-drop a f) in rw (drop-append-le a f g p, take-append-le (b - a) (drop a f) g h)
+pub part_front : (f g : List ℕ) (a b : ℕ) → a ≤ length f → b ≤ length f → part (f ++ g) a b ≡ part f a b
+part_front f g a b p q = let h : b - a ≤ length (drop a f) = omega (arith, length-drop a f) in rw (drop-append-le a f g p, take-append-le (b - a) (drop a f) g h)
 
 -- what is known of a string that was read
 abbrev Told : List ℕ → ℕ → Parsed Str → Type 0
@@ -50,9 +50,9 @@ told f at =
     by (ltb at (length f))
     (λ u. let a : at < length f = ltb-true _ _ u in
     by (leb (get_or f at 0) (length f - (at + 1)))
-    (λ v. let b : get_or f at 0 ≤ length f - (at + 1) = leb-true _ _ v in rw (string-got f at a b) (refl, omega arith, omega arith))
-    (λ v. rw (string-unread f at a (leb-false _ _ v)) tt))
-    (λ u. rw (string-none f at (ltb-false _ _ u)) tt)
+    (λ v. let b : get_or f at 0 ≤ length f - (at + 1) = leb-true _ _ v in rw (string_got f at a b) (refl, omega arith, omega arith))
+    (λ v. rw (string_unread f at a (leb-false _ _ v)) tt))
+    (λ u. rw (string_none f at (ltb-false _ _ u)) tt)
 
 ended : (f : List ℕ) (at : ℕ) (x : Parsed Str) (t : ℕ) → At t ≡ end_of x → Told f at x → (x ≡ got (part f (at + 1) t) t) × (at + 1 ≤ t) × (t ≤ length f)
 unfolding end_of
@@ -66,28 +66,28 @@ missed unread g = refl
 
 -- what an answer r of string_end tells
 module _ (f : List ℕ) (at : ℕ) (r : End) (e : r ≡ end_of (string f at)) where
-  pub string-ends : (t : ℕ) → r ≡ At t → (string f at ≡ got (part f (at + 1) t) t) × (at + 1 ≤ t) × (t ≤ length f)
-  string-ends t g = ended f at (string f at) t (sym g ∙ e) (told f at)
+  pub string_ends : (t : ℕ) → r ≡ At t → (string f at ≡ got (part f (at + 1) t) t) × (at + 1 ≤ t) × (t ≤ length f)
+  string_ends t g = ended f at (string f at) t (sym g ∙ e) (told f at)
 
-  pub string-misses : r ≡ Unread → string f at ≡ unread
-  string-misses g = missed (string f at) (sym g ∙ e)
+  pub string_misses : r ≡ Unread → string f at ≡ unread
+  string_misses g = missed (string f at) (sym g ∙ e)
 
 -- n readings, the first of which is known
 module _ {A : Type 0} (r : Reader A) (f : List ℕ) (p : ℕ) where
-  pub times-turn : (n : ℕ) (a : A) (q : ℕ) → 0 < n → r f p ≡ got a q → times n r f p ≡ and_then (times (n - 1) r f q) (λ xs t. got (a ∷ xs) t)
+  pub times_turn : (n : ℕ) (a : A) (q : ℕ) → 0 < n → r f p ≡ got a q → times n r f p ≡ and_then (times (n - 1) r f q) (λ xs t. got (a ∷ xs) t)
   unfolding times ◌>>=◌ ret
-  times-turn zero a q z g = absurd (omega arith)
-  times-turn (suc n) a q z g = let i : suc n - 1 ≡ n = omega arith in rw (g, i)
+  times_turn zero a q z g = absurd (omega arith)
+  times_turn (suc n) a q z g = let i : suc n - 1 ≡ n = omega arith in rw (g, i)
 
-  pub times-unread : (n : ℕ) → 0 < n → r f p ≡ unread → times n r f p ≡ unread
+  pub times_unread : (n : ℕ) → 0 < n → r f p ≡ unread → times n r f p ≡ unread
   unfolding times ◌>>=◌
-  times-unread zero z g = absurd (omega arith)
-  times-unread (suc n) z g = rw g
+  times_unread zero z g = absurd (omega arith)
+  times_unread (suc n) z g = rw g
 
-  pub times-done : (n : ℕ) → n ≤ 0 → times n r f p ≡ got [] p
+  pub times_done : (n : ℕ) → n ≤ 0 → times n r f p ≡ got [] p
   unfolding times ret
-  times-done zero z = refl
-  times-done (suc n) z = absurd (omega arith)
+  times_done zero z = refl
+  times_done (suc n) z = absurd (omega arith)
 
 counted : {A : Type 0} (n : ℕ) (a : A) (x : Parsed (List A)) (xs : List A) (t : ℕ)
     → ((ys : List A) (q : ℕ) → x ≡ got ys q → length ys ≡ n) → and_then x (λ ys q. got (a ∷ ys) q) ≡ got xs t → length xs ≡ suc n
@@ -95,10 +95,10 @@ counted n a (got ys q) xs t h e = let i : a ∷ ys ≡ xs = cc in ap length (sym
 counted n a unread xs t h e = let x : ◌≡◌ {A = ℕ} 0 1 = cc in absurd (omega arith)
 
 -- n readings give n things
-pub times-length : {A : Type 0} (r : Reader A) (f : List ℕ) (n p : ℕ) (xs : List A) (t : ℕ) → times n r f p ≡ got xs t → length xs ≡ n
+pub times_length : {A : Type 0} (r : Reader A) (f : List ℕ) (n p : ℕ) (xs : List A) (t : ℕ) → times n r f p ≡ got xs t → length xs ≡ n
 unfolding times ◌>>=◌ ret
-times-length r f zero p xs t e = let i : [] ≡ xs = cc in ap length (sym i)
-times-length {A = A} r f (suc n) p xs t e = go (λ q ys u h. times-length r f n q ys u h) (r f p) e
+times_length r f zero p xs t e = let i : [] ≡ xs = cc in ap length (sym i)
+times_length {A = A} r f (suc n) p xs t e = go (λ q ys u h. times_length r f n q ys u h) (r f p) e
   where
     go : ((q : ℕ) (ys : List A) (u : ℕ) → times n r f q ≡ got ys u → length ys ≡ n) → (x : Parsed A)
         → and_then x (λ a q. and_then (times n r f q) (λ ys u. got (a ∷ ys) u)) ≡ got xs t → length xs ≡ suc n

@@ -14,10 +14,10 @@ pub by {ℓ} : {X : Type ℓ} (b : Bool) → (b ≡ true → X) → (b ≡ false
 by true f g = f refl
 by false f g = g refl
 
-pub bool-ext : (a b : Bool) → (a ≡ true → b ≡ true) → (b ≡ true → a ≡ true) → a ≡ b
-bool-ext true b f g = sym (f refl)
-bool-ext false true f g = g refl
-bool-ext false false f g = refl
+pub bool_ext : (a b : Bool) → (a ≡ true → b ≡ true) → (b ≡ true → a ≡ true) → a ≡ b
+bool_ext true b f g = sym (f refl)
+bool_ext false true f g = g refl
+bool_ext false false f g = refl
 
 pub and_l : (a b : Bool) → (a and b) ≡ true → a ≡ true
 unfolding ◌and◌
@@ -33,9 +33,9 @@ pub both : (a b : Bool) → a ≡ true → b ≡ true → (a and b) ≡ true
 unfolding ◌and◌
 both a b p q = rw (p, q)
 
-pub and-false : (a b : Bool) → a ≡ true → (a and b) ≡ false → b ≡ false
+pub and_false : (a b : Bool) → a ≡ true → (a and b) ≡ false → b ≡ false
 unfolding ◌and◌
-and-false a b e h = rw e at h
+and_false a b e h = rw e at h
 
 pub and_first : (a b : Bool) → a ≡ false → (a and b) ≡ false
 unfolding ◌and◌
@@ -60,15 +60,15 @@ unfolding ◌or◌
 or_cases true b e = inl refl
 or_cases false b e = inr e
 
-pub or-false-l : (a b : Bool) → (a or b) ≡ false → a ≡ false
+pub or_false_l : (a b : Bool) → (a or b) ≡ false → a ≡ false
 unfolding ◌or◌
-or-false-l true b e = e
-or-false-l false b e = refl
+or_false_l true b e = e
+or_false_l false b e = refl
 
-pub or-false-r : (a b : Bool) → (a or b) ≡ false → b ≡ false
+pub or_false_r : (a b : Bool) → (a or b) ≡ false → b ≡ false
 unfolding ◌or◌
-or-false-r true b e = clash refl e
-or-false-r false b e = e
+or_false_r true b e = clash refl e
+or_false_r false b e = e
 
 pub neither : (a b : Bool) → a ≡ false → b ≡ false → (a or b) ≡ false
 unfolding ◌or◌
@@ -79,10 +79,10 @@ unfolding ◌or◌
 or_assoc true b c = refl
 or_assoc false b c = refl
 
-pub or-none : (a : Bool) → (a or false) ≡ a
+pub or_none_lem : (a : Bool) → (a or false) ≡ a
 unfolding ◌or◌
-or-none true = refl
-or-none false = refl
+or_none_lem true = refl
+or_none_lem false = refl
 
 pub none_or : (a : Bool) → (false or a) ≡ a
 unfolding ◌or◌
@@ -101,15 +101,15 @@ unfolding ◌or◌
 or_is true b = refl
 or_is false b = refl
 
-pub or-join : (a b c : Bool) → (a or (b or c)) ≡ ((a || b) or c)
+pub or_join : (a b c : Bool) → (a or (b or c)) ≡ ((a || b) or c)
 unfolding ◌or◌
-or-join true b c = refl
-or-join false b c = refl
+or_join true b c = refl
+or_join false b c = refl
 
-pub and-join : (a b c : Bool) → (a and (b and c)) ≡ ((a && b) and c)
+pub and_join : (a b c : Bool) → (a and (b and c)) ≡ ((a && b) and c)
 unfolding ◌and◌
-and-join true b c = refl
-and-join false b c = refl
+and_join true b c = refl
+and_join false b c = refl
 
 pub and_left : (s t : Bool) → (s && t) ≡ true → s ≡ true
 and_left true t e = refl
@@ -139,26 +139,26 @@ same_refl (x ∷ xs) = both _ _ (eq-eqb x x refl) (same_refl xs)
 pub ≡→same : {xs ys : Str} → xs ≡ ys → same xs ys ≡ true
 ≡→same {xs} e = rw (← e) (same_refl xs)
 
-pub same-sym : (a b : Str) → same a b ≡ same b a
-same-sym a b = bool-ext _ _ (λ e. ≡→same (sym (same→≡ a b e))) (λ e. ≡→same (sym (same→≡ b a e)))
+pub same_sym : (a b : Str) → same a b ≡ same b a
+same_sym a b = bool_ext _ _ (λ e. ≡→same (sym (same→≡ a b e))) (λ e. ≡→same (sym (same→≡ b a e)))
 
 -- ---- lists
 
 module _ {A : Type 0} where
-  pub any-or : (f g : A → Bool) (l : List A) → any (λ y. f y or g y) l ≡ (any f l or any g l)
+  pub any_or : (f g : A → Bool) (l : List A) → any (λ y. f y or g y) l ≡ (any f l or any g l)
   unfolding any ◌or◌
-  any-or f g [] = refl
-  any-or f g (x ∷ l) = ap (λ (t : Bool). (f x or g x) or t) (any-or f g l) ∙ or_swap (f x) (g x) (any f l) (any g l)
+  any_or f g [] = refl
+  any_or f g (x ∷ l) = ap (λ (t : Bool). (f x or g x) or t) (any_or f g l) ∙ or_swap (f x) (g x) (any f l) (any g l)
 
   -- what holds of the first and of the others holds of all
-  pub on-cons : (P : A → Type 0) {x : A} {xs : List A} → P x → ((y : A) → y ∈ xs → P y) → (y : A) → y ∈ x ∷ xs → P y
-  on-cons P p h y (Memᴰ.head e) = subst P (sym e) p
-  on-cons P p h y (Memᴰ.tail m) = h y m
+  pub on_cons : (P : A → Type 0) {x : A} {xs : List A} → P x → ((y : A) → y ∈ xs → P y) → (y : A) → y ∈ x ∷ xs → P y
+  on_cons P p h y (Memᴰ.head e) = subst P (sym e) p
+  on_cons P p h y (Memᴰ.tail m) = h y m
 
   pub all→ : (f : A → Bool) (xs : List A) → all f xs ≡ true → (x : A) → x ∈ xs → f x ≡ true
   unfolding all
   all→ f [] e = λ x m. absurd (Memᴰ.not-nil m)
-  all→ f (y ∷ ys) e = on-cons _ (and_l _ _ e) (all→ f ys (and_r _ _ e))
+  all→ f (y ∷ ys) e = on_cons _ (and_l _ _ e) (all→ f ys (and_r _ _ e))
 
   pub →all : (f : A → Bool) (xs : List A) → ((x : A) → x ∈ xs → f x ≡ true) → all f xs ≡ true
   unfolding all

@@ -45,8 +45,8 @@ string = do
   run n
 
 -- and the bytes of such a string
-unfoldable pub stringBytes : Str → Str
-stringBytes s = length s ∷ s
+unfoldable pub string_bytes : Str → Str
+string_bytes s = length s ∷ s
 
 -- n readings, one after another
 unfoldable pub times : {A : Type 0} → ℕ → Reader A → Reader (List A)

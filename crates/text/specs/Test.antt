@@ -49,6 +49,6 @@ module _ {A : Type 0} where
   absent (some a) = false
 
   -- the list that is there; where there is nothing, the empty one
-  unfoldable pub orNothing : Option (List A) → List A
-  orNothing none = []
-  orNothing (some l) = l
+  unfoldable pub or_nothing : Option (List A) → List A
+  or_nothing none = []
+  or_nothing (some l) = l

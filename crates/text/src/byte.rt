@@ -1,11 +1,11 @@
 // Classes of bytes, and hex digits.
 ghost use Rattle.std.specs.Prelude.{◌≡◌};
-ghost use Rattle.text.specs.Byte.{hexValue, isName, isPrint};
+ghost use Rattle.text.specs.Byte.{hex_value, is_name, is_print};
 ghost use Rattle.text.specs.HexTable.{HexTable};
 
 // The value of a hex digit, and 16 for any other byte.
 pub fn hex_value(b: u8) -> u8
-    ensures { result ≡ hexValue b }
+    ensures { result ≡ hex_value b }
 {
     let digit = std::num::wrapping_sub_u8(b, b'0');
     if digit < 10 {
@@ -39,7 +39,7 @@ pub fn hex_table() -> [u8; 256]
 // A letter, a digit or one of -_.: (setting bit 32 makes a capital letter small, and no other byte a letter; the digits and : stand side by side, as - and .
 // do).
 pub fn is_name(b: u8) -> bool
-    ensures { result ≡ isName b }
+    ensures { result ≡ is_name b }
 {
     let small = b | 32;
     ((b'a' <= small) & (small <= b'z'))
@@ -50,7 +50,7 @@ pub fn is_name(b: u8) -> bool
 
 // The bytes 0x20 to 0x7E.
 pub fn is_print(b: u8) -> bool
-    ensures { result ≡ isPrint b }
+    ensures { result ≡ is_print b }
 {
     (b' ' <= b) & (b <= b'~')
 }

@@ -1,12 +1,12 @@
 // Strings: bytes that are the same, and their order.
 ghost use Rattle.std.specs.Prelude.{◌≡◌};
-ghost use Rattle.text.specs.Byte.{isPrint};
+ghost use Rattle.text.specs.Byte.{is_print};
 ghost use Rattle.text.specs.Test.{all};
 ghost use Rattle.text.specs.String.{same, before};
 
 // Every byte is printable.
 pub fn all_print(s: &[u8]) -> bool
-    ensures { result ≡ all isPrint s.now }
+    ensures { result ≡ all is_print s.now }
 {
     let mut i = 0;
     while i < s.len() {

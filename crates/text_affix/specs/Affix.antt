@@ -1,7 +1,7 @@
 -- Prefixes and suffixes of strings, and an asterisk at either end.
 use Rattle.std.specs.Prelude.{Bool, ◌-◌, leb, eqb, length, take, drop, get_or}
 use Rattle.text.specs.Test.{◌and◌}
-use Rattle.text.specs.Byte.{isStar}
+use Rattle.text.specs.Byte.{is_star}
 use Rattle.text.specs.String.{Str, same}
 
 unfoldable pub empty : Str → Bool
@@ -15,8 +15,8 @@ unfoldable pub ends : Str → Str → Bool
 ends p v = leb (length p) (length v) and same p (drop (length v - length p) v)
 
 -- an asterisk first, an asterisk last
-abbrev pub starFirst : Str → Bool
-starFirst s = isStar (get_or s 0 0)
+abbrev pub star_first : Str → Bool
+star_first s = is_star (get_or s 0 0)
 
-abbrev pub starLast : Str → Bool
-starLast s = isStar (get_or s (length s - 1) 0)
+abbrev pub star_last : Str → Bool
+star_last s = is_star (get_or s (length s - 1) 0)

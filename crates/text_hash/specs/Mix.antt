@@ -16,10 +16,10 @@ abbrev pub middle : ℕ → ℕ
 middle p = p / 65536 % 4294967296
 
 -- n turns on x and y, from word number k on
-unfoldable pub mixFrom : Seed → Str → ℕ → ℕ → ℕ → ℕ → ℕ
-mixFrom s t zero k x y = y
-mixFrom s t (suc n) k x y =
-    mixFrom s t n (k + 1) (middle ((x + word_at t (4 * k)) * s.first)) (middle ((y + middle ((x + word_at t (4 * k)) * s.first)) * s.second))
+unfoldable pub mix_from : Seed → Str → ℕ → ℕ → ℕ → ℕ → ℕ
+mix_from s t zero k x y = y
+mix_from s t (suc n) k x y =
+    mix_from s t n (k + 1) (middle ((x + word_at t (4 * k)) * s.first)) (middle ((y + middle ((x + word_at t (4 * k)) * s.first)) * s.second))
 
 -- how many words n bytes take
 abbrev pub words_in : ℕ → ℕ
@@ -27,17 +27,17 @@ words_in n = (n + 3) / 4
 
 -- from h on
 unfoldable pub mix : Seed → ℕ → Str → ℕ
-mix s h t = mixFrom s t (words_in (length t)) 0 0 h
+mix s h t = mix_from s t (words_in (length t)) 0 0 h
 
 -- a hash of 32 bits times the number of places fits 64
-abbrev pub maxPlaces : ℕ
-maxPlaces = 65536
+abbrev pub max_places : ℕ
+max_places = 65536
 
 -- the hash of a string from a number on that the factors give
-abbrev pub hashOf : Seed → Str → ℕ
-hashOf s t = mix s (middle (s.first * s.second)) t
+abbrev pub hash_of : Seed → Str → ℕ
+hash_of s t = mix s (middle (s.first * s.second)) t
 
 -- The place of a string, of `size` places, from the middle of its hash's square: the hash of a short string is nearly linear in its bytes, and
 -- some factors would leave many such strings in few places.
 unfoldable pub place_of : Seed → ℕ → Str → ℕ
-place_of s size t = middle (hashOf s t * hashOf s t) * size / 4294967296
+place_of s size t = middle (hash_of s t * hash_of s t) * size / 4294967296

@@ -3,7 +3,7 @@ pub mod factors;
 pub mod word;
 
 ghost use Rattle.std.specs.Prelude.{◌≡◌, ◌≤◌, ◌<◌};
-ghost use Rattle.text_hash.specs.Mix.{Small, middle, mix, maxPlaces, place_of};
+ghost use Rattle.text_hash.specs.Mix.{Small, middle, mix, max_places, place_of};
 
 // The factors, odd numbers.
 #[derive(Drop)]
@@ -40,7 +40,7 @@ pub fn mix(s: Seed, h: usize, t: &[u8]) -> usize
 
 // The place of t, of `size` places: from the middle of its hash's square. The hash begins with a number that the factors give.
 pub fn place(s: Seed, size: usize, t: &[u8]) -> usize
-    requires { Small s × (size ≤ maxPlaces) }
+    requires { Small s × (size ≤ max_places) }
     ensures { result ≡ place_of s size t.now }
 {
     let from = middle(s.first * s.second);

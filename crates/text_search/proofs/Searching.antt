@@ -8,16 +8,16 @@ use native.Mathlib.Omega.{arith}
 use lib.ListN.{length, drop, get_or, length-drop, drop_of_length-le}
 use lib.Seq.{drop-cons}
 use Rattle.text.specs.Test.{if◌then◌else◌}
-use Rattle.text.specs.Byte.{isPrint}
+use Rattle.text.specs.Byte.{is_print}
 use Rattle.text.specs.String.{Str}
 use Rattle.text.proofs.Tests.{by}
 use Rattle.text_search.specs.Search.{until, unprinted}
 
 -- what is found lies within the string, or at its end
-pub until-fits : (p : ℕ → Bool) (s : Str) → until p s ≤ length s
+pub until_fits : (p : ℕ → Bool) (s : Str) → until p s ≤ length s
 unfolding until if◌then◌else◌
-until-fits p [] = omega arith
-until-fits p (x ∷ s) = by (p x) (λ u. rw u (omega arith)) (λ u. rw u (let h = until-fits p s in omega arith))
+until_fits p [] = omega arith
+until_fits p (x ∷ s) = by (p x) (λ u. rw u (omega arith)) (λ u. rw u (let h = until_fits p s in omega arith))
 
 module _ (p : ℕ → Bool) (s : Str) (i : ℕ) where
   pub found : i < length s → p (get_or s i 0) ≡ true → until p (drop i s) ≡ 0
@@ -34,16 +34,16 @@ module _ (p : ℕ → Bool) (s : Str) (i : ℕ) where
 
 -- the search from `at` on answers r
 module _ (p : ℕ → Bool) (s : Str) (at r : ℕ) (h : at ≤ length s) (e : r ≡ at + until p (drop at s)) where
-  pub found-low : at ≤ r
-  found-low = omega arith
+  pub found_low : at ≤ r
+  found_low = omega arith
 
-  pub found-high : r ≤ length s
-  found-high = omega (arith, until-fits p (drop at s), length-drop at s)
+  pub found_high : r ≤ length s
+  found_high = omega (arith, until_fits p (drop at s), length-drop at s)
 
-pub printed : (x : ℕ) → isPrint x ≡ true → unprinted x ≡ false
+pub printed : (x : ℕ) → is_print x ≡ true → unprinted x ≡ false
 unfolding unprinted
 printed x t = ap not t
 
-pub unprinted-is : (x : ℕ) → isPrint x ≡ false → unprinted x ≡ true
+pub unprinted_is : (x : ℕ) → is_print x ≡ false → unprinted x ≡ true
 unfolding unprinted
-unprinted-is x t = ap not t
+unprinted_is x t = ap not t

@@ -3,14 +3,14 @@
 use Rattle.std.specs.Prelude.{ℕ, ◌+◌, ◌≤◌, ◌<◌, ◌≡◌, Bool, false, List, eqb, length, get_or, set}
 use Rattle.text.specs.Test.{◌or◌, if◌then◌else◌, any}
 use Rattle.text.specs.String.{Str, same}
-use Rattle.text_sorted.specs.Spans.{spanIn, Inside, stringsOf, Sorted, Sought, inserted}
+use Rattle.text_sorted.specs.Spans.{span_in, Inside, strings_of, Sorted, Sought, inserted}
 use Rattle.text_sorted.specs.declared.Found.{Found}
 
 -- x, whose place is p, is in the set: a place where nothing stands proves that it is not
 unfoldable pub among : List ℕ → List ℕ → ℕ → ℕ → Str → Bool
 among f keys room p x =
     if eqb (get_or keys p 0) 0 then false
-    else (same x (spanIn f (get_or keys p 0)) or any (same x) (stringsOf f keys (get_or keys room 0)))
+    else (same x (span_in f (get_or keys p 0)) or any (same x) (strings_of f keys (get_or keys room 0)))
 
 -- every span lies within the text
 pub record Ready (f keys : List ℕ) (room : ℕ) : Type 0 where
@@ -34,4 +34,4 @@ pub record Holds (h : Str → ℕ) (f keys : List ℕ) (room : ℕ) (xs : List S
   pub ready : Ready f keys room
   pub few : get_or keys room 0 ≤ length xs
   pub told : (y : Str) → any (same y) xs ≡ among f keys room (h y) y
-  pub free : (y : Str) → get_or keys (h y) 0 ≡ 0 → any (same y) (stringsOf f keys (get_or keys room 0)) ≡ false
+  pub free : (y : Str) → get_or keys (h y) 0 ≡ 0 → any (same y) (strings_of f keys (get_or keys room 0)) ≡ false

@@ -1,6 +1,6 @@
 // Questions about a path. Each line goes up to its LF.
 ghost use Rattle.std.specs.Prelude.{◌≤◌, length};
-ghost use Rattle.limits.specs.Sizes.{maxPathText};
+ghost use Rattle.limits.specs.Sizes.{max_path_text};
 
 // As many bytes as the digits of a large buffer (io) make.
 const MAX_BYTES: usize = 65536 / 2;
@@ -41,7 +41,7 @@ fn write_hex(line: &[u8], out: &mut [u8])
 
 // `PATH`, or `HEX`: path text to path bytes and back, or path bytes to path text, by a lent buffer of `room` bytes.
 pub fn transcribe(is_text: bool, line: &[u8], room: usize)
-    requires { (length line.now ≤ 65536) × (room ≤ maxPathText) }
+    requires { (length line.now ≤ 65536) × (room ≤ max_path_text) }
 {
     let mut out = [0u8; limits::MAX_PATH_TEXT];
     if !is_text {

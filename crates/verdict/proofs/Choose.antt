@@ -8,10 +8,10 @@ use Prim.Native.Nat.{ℕ, suc, ◌+◌}
 use native.Mathlib.Omega.{arith}
 use lib.ListN.{get_elem?}
 use Rattle.text.specs.Test.{if◌then◌else◌, ◌∈◌, twice}
-use Rattle.text.proofs.Tests.{clash, by, on-cons, same→≡, ≡→same}
+use Rattle.text.proofs.Tests.{clash, by, on_cons, same→≡, ≡→same}
 use Rattle.table.specs.Table.{Rule}
 use Rattle.verdict.specs.Order.{Numbered, prefer, candidate, choose}
-use Rattle.table.specs.Refusal.{sameId}
+use Rattle.table.specs.Refusal.{same_id}
 use Rattle.verdict.proofs.Twice.{twice→}
 use Rattle.verdict.proofs.Order.{Order}
 
@@ -32,15 +32,15 @@ module _ {over : Rule → Rule → Bool} (o : Order over) (test : Rule → Bool)
   step : (r : Rule) (rs : List Rule) (i : ℕ) → test r ≡ true → (a : Option Numbered) → Chosen over test rs a
       → Chosen over test (r ∷ rs) (prefer over (some (record { number = i; rule = r })) a)
   unfolding prefer if◌then◌else◌
-  step r rs i e none h = record { listed = Memᴰ.head refl; passes = e; unbeaten = on-cons _ (λ t. irreflexive r) (λ s m t. clash t (h s m)) }
+  step r rs i e none h = record { listed = Memᴰ.head refl; passes = e; unbeaten = on_cons _ (λ t. irreflexive r) (λ s m t. clash t (h s m)) }
   step r rs i e (some n) h =
       by (over n.rule r)
-      (λ k. rw k (record { listed = Memᴰ.tail h.listed; passes = h.passes; unbeaten = on-cons _ (λ t. o.oasym _ _ k) h.unbeaten }))
-      (λ k. rw k (record { listed = Memᴰ.head refl; passes = e; unbeaten = on-cons _ (λ t. irreflexive r) (λ s m t. o.ochain s n.rule r (h.unbeaten s m t) k) }))
+      (λ k. rw k (record { listed = Memᴰ.tail h.listed; passes = h.passes; unbeaten = on_cons _ (λ t. o.oasym _ _ k) h.unbeaten }))
+      (λ k. rw k (record { listed = Memᴰ.head refl; passes = e; unbeaten = on_cons _ (λ t. irreflexive r) (λ s m t. o.ochain s n.rule r (h.unbeaten s m t) k) }))
 
   skip : (r : Rule) (rs : List Rule) → test r ≡ false → (a : Option Numbered) → Chosen over test rs a → Chosen over test (r ∷ rs) a
-  skip r rs e none h = on-cons _ e h
-  skip r rs e (some n) h = record { listed = Memᴰ.tail h.listed; passes = h.passes; unbeaten = on-cons _ (λ t. clash t e) h.unbeaten }
+  skip r rs e none h = on_cons _ e h
+  skip r rs e (some n) h = record { listed = Memᴰ.tail h.listed; passes = h.passes; unbeaten = on_cons _ (λ t. clash t e) h.unbeaten }
 
   pub chosen : (rs : List Rule) (i : ℕ) → Chosen over test rs (choose over test i rs)
   unfolding choose candidate prefer if◌then◌else◌
@@ -48,15 +48,15 @@ module _ {over : Rule → Rule → Bool} (o : Order over) (test : Rule → Bool)
   chosen (r ∷ rs) i =
       by (test r) (λ e. rw e (step r rs i e (choose over test (suc i) rs) (chosen rs (suc i)))) (λ e. rw e (skip r rs e (choose over test (suc i) rs) (chosen rs (suc i))))
 
-pub same-id-turned : (r s : Rule) → sameId r s ≡ true → sameId s r ≡ true
-unfolding sameId
-same-id-turned r s e = let i : r.id ≡ s.id = same→≡ r.id s.id e in ≡→same (sym i)
+pub same_id_turned : (r s : Rule) → same_id r s ≡ true → same_id s r ≡ true
+unfolding same_id
+same_id_turned r s e = let i : r.id ≡ s.id = same→≡ r.id s.id e in ≡→same (sym i)
 
 -- two rules of one table of which none is over the other are one rule
-pub tied-same : {over : Rule → Rule → Bool} → Order over → (rs : List Rule) → twice sameId rs ≡ false
+pub tied_same : {over : Rule → Rule → Bool} → Order over → (rs : List Rule) → twice same_id rs ≡ false
     → (r s : Rule) → r ∈ rs → s ∈ rs → over r s ≡ false → over s r ≡ false → r ≡ s
-unfolding sameId
-tied-same o rs d r s m n e f = twice→ sameId same-id-turned rs d m n (≡→same (o.otied r s e f))
+unfolding same_id
+tied_same o rs d r s m n e f = twice→ same_id same_id_turned rs d m n (≡→same (o.otied r s e f))
 
 -- ---- the number is the rule's place
 
@@ -88,15 +88,15 @@ numbered over test rs n e =
 -- ---- the best of two parts, for a loop that goes on from the best so far
 
 module _ {over : Rule → Rule → Bool} (o : Order over) where
-  over-trans : (r s u : Rule) → over r s ≡ true → over s u ≡ true → over r u ≡ true
-  over-trans r s u e h = by (over r u) (λ k. k) (λ k. clash e (o.ochain r u s k (o.oasym s u h)))
+  over_trans : (r s u : Rule) → over r s ≡ true → over s u ≡ true → over r u ≡ true
+  over_trans r s u e h = by (over r u) (λ k. k) (λ k. clash e (o.ochain r u s k (o.oasym s u h)))
 
-  pub prefer-assoc : (x y z : Option Numbered) → prefer over (prefer over x y) z ≡ prefer over x (prefer over y z)
+  pub prefer_assoc : (x y z : Option Numbered) → prefer over (prefer over x y) z ≡ prefer over x (prefer over y z)
   unfolding prefer if◌then◌else◌
-  prefer-assoc none y z = refl
-  prefer-assoc (some n) none z = refl
-  prefer-assoc (some n) (some m) none = refl
-  prefer-assoc (some n) (some m) (some k) =
+  prefer_assoc none y z = refl
+  prefer_assoc (some n) none z = refl
+  prefer_assoc (some n) (some m) none = refl
+  prefer_assoc (some n) (some m) (some k) =
       by (over m.rule n.rule)
-      (λ a. by (over k.rule m.rule) (λ b. simp (a, b, over-trans _ _ _ b a)) (λ b. simp (a, b)))
+      (λ a. by (over k.rule m.rule) (λ b. simp (a, b, over_trans _ _ _ b a)) (λ b. simp (a, b)))
       (λ a. by (over k.rule m.rule) (λ b. simp (a, b)) (λ b. simp (a, b, o.ochain k.rule m.rule n.rule b a)))

@@ -5,7 +5,7 @@ use mathlib.Core.Bool.{Bool, true, false}
 use mathlib.Core.List.Memᴰ
 use mathlib.Core.List.{List, [], ◌∷◌, ◌++◌}
 use Rattle.text.specs.Test.{◌or◌, if◌then◌else◌, ◌∈◌, any, only, twice}
-use Rattle.text.proofs.Tests.{clash, by, or-false-l, or-false-r, neither, any→, none_any, only→}
+use Rattle.text.proofs.Tests.{clash, by, or_false_l, or_false_r, neither, any→, none_any, only→}
 
 module _ {A : Type 0} where
   -- where no member passes, none is found
@@ -15,28 +15,28 @@ module _ {A : Type 0} where
   module _ (alike : A → A → Bool) where
     pub first_alone : (x : A) (xs : List A) → twice alike (x ∷ xs) ≡ false → {y : A} → y ∈ xs → alike x y ≡ false
     unfolding twice
-    first_alone x xs d m = none_any (alike x) xs (or-false-l (any (alike x) xs) (twice alike xs) d) m
+    first_alone x xs d m = none_any (alike x) xs (or_false_l (any (alike x) xs) (twice alike xs) d) m
 
-    pub rest-alone : (x : A) (xs : List A) → twice alike (x ∷ xs) ≡ false → twice alike xs ≡ false
+    pub rest_alone : (x : A) (xs : List A) → twice alike (x ∷ xs) ≡ false → twice alike xs ≡ false
     unfolding twice
-    rest-alone x xs d = or-false-r (any (alike x) xs) (twice alike xs) d
+    rest_alone x xs d = or_false_r (any (alike x) xs) (twice alike xs) d
 
     pub →alone : (x : A) (xs : List A) → ((y : A) → y ∈ xs → alike x y ≡ false) → twice alike xs ≡ false → twice alike (x ∷ xs) ≡ false
     unfolding twice
     →alone x xs h d = neither (any (alike x) xs) (twice alike xs) (→none (alike x) xs h) d
 
-    pub twice-only : (g : A → Bool) (xs : List A) → twice alike xs ≡ false → twice alike (only g xs) ≡ false
+    pub twice_only : (g : A → Bool) (xs : List A) → twice alike xs ≡ false → twice alike (only g xs) ≡ false
     unfolding only if◌then◌else◌
-    twice-only g [] d = d
-    twice-only g (x ∷ xs) d =
-        let ih = twice-only g xs (rest-alone x xs d) in
+    twice_only g [] d = d
+    twice_only g (x ∷ xs) d =
+        let ih = twice_only g xs (rest_alone x xs d) in
         by (g x) (λ e. rw e (→alone x (only g xs) (λ y m. first_alone x xs d (only→ g xs m).0) ih)) (λ e. rw e ih)
 
-    pub twice-append : (xs ys : List A) → twice alike xs ≡ false → twice alike ys ≡ false
+    pub twice_append : (xs ys : List A) → twice alike xs ≡ false → twice alike ys ≡ false
         → ((x : A) → x ∈ xs → (y : A) → y ∈ ys → alike x y ≡ false) → twice alike (xs ++ ys) ≡ false
-    twice-append [] ys d e h = e
-    twice-append (x ∷ xs) ys d e h =
-        →alone x (xs ++ ys) (λ y m. apart y (Memᴰ.append_cases xs m)) (twice-append xs ys (rest-alone x xs d) e (λ a m. h a (Memᴰ.tail m)))
+    twice_append [] ys d e h = e
+    twice_append (x ∷ xs) ys d e h =
+        →alone x (xs ++ ys) (λ y m. apart y (Memᴰ.append_cases xs m)) (twice_append xs ys (rest_alone x xs d) e (λ a m. h a (Memᴰ.tail m)))
       where
         apart : (y : A) → (y ∈ xs) ⊎ (y ∈ ys) → alike x y ≡ false
         apart y (inl m) = first_alone x xs d m
@@ -48,4 +48,4 @@ module _ {A : Type 0} where
       twice→ (z ∷ zs) d (Memᴰ.head p) (Memᴰ.head q) e = p ∙ sym q
       twice→ (z ∷ zs) {x} {y} d (Memᴰ.head p) (Memᴰ.tail n) e = clash (ap (λ (w : A). alike w y) (sym p) ∙ e) (first_alone z zs d n)
       twice→ (z ∷ zs) {x} {y} d (Memᴰ.tail m) (Memᴰ.head q) e = clash (ap (λ (w : A). alike w x) (sym q) ∙ turned x y e) (first_alone z zs d m)
-      twice→ (z ∷ zs) d (Memᴰ.tail m) (Memᴰ.tail n) e = twice→ zs (rest-alone z zs d) m n e
+      twice→ (z ∷ zs) d (Memᴰ.tail m) (Memᴰ.tail n) e = twice→ zs (rest_alone z zs d) m n e

@@ -16,12 +16,12 @@ given ks = only (λ (k : Key). not (wild k)) ks
 unfoldable pub definite : Elem → List Key
 definite e = given e.keys
 
-abbrev pub sameKey : Key → Key → Bool
-sameKey j k = same j.name k.name and same j.value k.value
+abbrev pub same_key : Key → Key → Bool
+same_key j k = same j.name k.name and same j.value k.value
 
 -- k is one of the keys, "with that value"
 unfoldable pub holds : List Key → Key → Bool
-holds ks k = any (λ (j : Key). sameKey j k) ks
+holds ks k = any (λ (j : Key). same_key j k) ks
 
 -- "the names agree .., and each definite key of the rule .. is given in that element of the request with that value";
 -- "and, in each of those, every key P gives, with P's value"

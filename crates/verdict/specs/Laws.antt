@@ -6,7 +6,7 @@ use Rattle.std.proofs.Math.ListN.{get_elem?}
 use Rattle.text.specs.Test.{◌and◌, ◌∈◌, all}
 use Rattle.text.specs.String.{Str}
 use Rattle.path.specs.Path.{Key, Elem, Path}
-use Rattle.path.specs.Refusal.{keyTwice}
+use Rattle.path.specs.Refusal.{key_twice}
 use Rattle.table.specs.Table.{Rule, Table}
 use Rattle.verdict.specs.Cover.{covers}
 use Rattle.verdict.specs.Order.{better, earlier, Numbered}
@@ -31,19 +31,19 @@ Decided t q (some n) = Best better (matches t q) t n
 abbrev pub is_byte : ℕ → Bool
 is_byte b = ltb b 256
 
-unfoldable pub keyOfBytes : Key → Bool
-keyOfBytes k = all is_byte k.name and all is_byte k.value
+unfoldable pub key_of_bytes : Key → Bool
+key_of_bytes k = all is_byte k.name and all is_byte k.value
 
-unfoldable pub elemOfBytes : Elem → Bool
-elemOfBytes e = all is_byte e.name and all keyOfBytes e.keys
+unfoldable pub elem_of_bytes : Elem → Bool
+elem_of_bytes e = all is_byte e.name and all key_of_bytes e.keys
 
 unfoldable pub of_bytes : Path → Bool
-of_bytes p = all elemOfBytes p
+of_bytes p = all elem_of_bytes p
 
 -- "judged over every such D by the single-path definition": every path of bytes at or beneath the asked one, of any length and with any keys,
 -- "each key once an element", gets the action b
 abbrev pub Everywhere : Table → Request → Bool → Type 0
-Everywhere t q b = (d : Path) → of_bytes d ≡ true → covers q.path d ≡ true → keyTwice d ≡ false → permits t (at q d) ≡ b
+Everywhere t q b = (d : Path) → of_bytes d ≡ true → covers q.path d ≡ true → key_twice d ≡ false → permits t (at q d) ≡ b
 
 -- the answer is ALL exactly if all are permitted, NONE exactly if all are denied, and otherwise MIXED, with a rule that opposes and no such of
 -- smaller id

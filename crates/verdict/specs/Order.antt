@@ -13,8 +13,8 @@ definites [] = 0
 definites (e ∷ es) = length (definite e) + definites es
 
 -- 1 unless b holds: so a user weighs more than a group, and a deny more than a permit
-abbrev pub oneUnless : Bool → ℕ
-oneUnless b = if b then 0 else 1
+abbrev pub one_unless : Bool → ℕ
+one_unless b = if b then 0 else 1
 
 -- "more elements; then more definite keys, counted over the whole rule path; then user over group; then deny over permit ..; then .. the
 -- smaller id in byte order, where a proper prefix is smaller"
@@ -22,8 +22,8 @@ unfoldable pub better : Rule → Rule → Bool
 better r s =
     more (length r.path) (length s.path)
     (more (definites r.path) (definites s.path)
-    (more (oneUnless r.byGroup) (oneUnless s.byGroup)
-    (more (oneUnless r.permit) (oneUnless s.permit)
+    (more (one_unless r.by_group) (one_unless s.by_group)
+    (more (one_unless r.permit) (one_unless s.permit)
     (before r.id s.id))))
 
 -- "the one with the smallest id"

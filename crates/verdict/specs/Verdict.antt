@@ -26,7 +26,7 @@ at q d = record { user = q.user; mode = q.mode; origin = q.origin; path = d }
 
 -- "its subject is the user or a group holding the user"
 unfoldable pub concerns : Table → Rule → Str → Bool
-concerns t r u = if r.byGroup then lists t.members u r.subject else same r.subject u
+concerns t r u = if r.by_group then lists t.members u r.subject else same r.subject u
 
 -- "mode and origin are equal", and the subject matches
 unfoldable pub applies : Table → Request → Rule → Bool

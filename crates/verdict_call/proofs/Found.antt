@@ -9,19 +9,19 @@ use Rattle.text.specs.Test.{◌and◌, if◌then◌else◌}
 use Rattle.text.specs.String.{Str, same}
 use Rattle.text.proofs.Tests.{by}
 use Rattle.path.specs.Path.{Path}
-use Rattle.path.specs.Refusal.{keyTwice}
+use Rattle.path.specs.Refusal.{key_twice}
 use Rattle.table.specs.Table.{Rule, Table}
 use Rattle.table.specs.Group.{lists}
 use Rattle.verdict.specs.Order.{better, earlier, choose}
 use Rattle.verdict.specs.Verdict.{Request, concerns, applies, decider, action, permits, opposes, answer, tree}
-use Rattle.table_rows.specs.Rules.{ruleIn, rulesIn}
+use Rattle.table_rows.specs.Rules.{rule_in, rules_in}
 use Rattle.verdict_judge.specs.Rules.{Marked}
 use Rattle.verdict_judge.specs.Best.{held, matching}
 use Rattle.verdict_judge.specs.declared.best.Best.{Best}
 use Rattle.verdict_judge.proofs.Verdict.{decided}
 use Rattle.verdict_tree.specs.Tree.{opposing, fitting, Weights}
 use Rattle.verdict_tree.proofs.Verdict.{opposed}
-use Rattle.verdict_concern.specs.Concern.{concernsBy, appliesBy, Applying}
+use Rattle.verdict_concern.specs.Concern.{concerns_by, applies_by, Applying}
 use Rattle.verdict_request.specs.Calls.{asked}
 use Rattle.table_membership.specs.Set.{UserGroups}
 use Rattle.verdict_call.specs.Holding.{Holding}
@@ -29,45 +29,45 @@ use Rattle.verdict_call.specs.Holding.{Holding}
 -- ---- the rules that concern the request
 
 module _ (t : Table) (f starts holders : List ℕ) (n : ℕ) (holding : Holding t f starts holders n) (user : Str) (set : ℕ) (groups : UserGroups t user set) where
-  concerned : (i : ℕ) → i < n → concernsBy set (get_or holders i 0) user (ruleIn f (get_or starts i 0)) ≡ concerns t (ruleIn f (get_or starts i 0)) user
-  unfolding concernsBy concerns if◌then◌else◌
+  concerned : (i : ℕ) → i < n → concerns_by set (get_or holders i 0) user (rule_in f (get_or starts i 0)) ≡ concerns t (rule_in f (get_or starts i 0)) user
+  unfolding concerns_by concerns if◌then◌else◌
   concerned i l =
-      by (ruleIn f (get_or starts i 0)).byGroup
+      by (rule_in f (get_or starts i 0)).by_group
       (λ e. let h = holding.groups i l e in rw e (groups (get_or holders i 0) h.0 ∙ ap (λ (s : Str). lists t.members user s) h.1))
       (λ e. rw e)
 
   pub applied : (mode : ℕ) (origin : Str) (p : Path) (i : ℕ) → i < n
-      → appliesBy set (get_or holders i 0) user mode origin (ruleIn f (get_or starts i 0)) ≡ applies t (asked user mode origin p) (ruleIn f (get_or starts i 0))
-  unfolding applies appliesBy
+      → applies_by set (get_or holders i 0) user mode origin (rule_in f (get_or starts i 0)) ≡ applies t (asked user mode origin p) (rule_in f (get_or starts i 0))
+  unfolding applies applies_by
   applied mode origin p i l =
-      ap (λ (b : Bool). eqb (ruleIn f (get_or starts i 0)).mode mode and same (ruleIn f (get_or starts i 0)).origin origin and b) (concerned i l)
+      ap (λ (b : Bool). eqb (rule_in f (get_or starts i 0)).mode mode and same (rule_in f (get_or starts i 0)).origin origin and b) (concerned i l)
 
   module _ (mode : ℕ) (origin : Str) (p : Path) (on : List ℕ) (a : Applying f starts holders n set user mode origin on) where
     pub marks : Marked (applies t (asked user mode origin p)) f starts on n
     marks i l = a i l ∙ applied mode origin p i l
 
     -- the deciding rule
-    pub found : (b : Best) → ((app : Rule → Bool) → Marked app f starts on n → held f b ≡ choose better (matching app p) 0 (rulesIn f starts n 0))
+    pub found : (b : Best) → ((app : Rule → Bool) → Marked app f starts on n → held f b ≡ choose better (matching app p) 0 (rules_in f starts n 0))
         → held f b ≡ decider t (asked user mode origin p)
     found b h =
         h (applies t (asked user mode origin p)) marks
         ∙ ap (λ (rs : List Rule). choose better (matching (applies t (asked user mode origin p)) p) 0 rs) holding.rules
         ∙ decided t (asked user mode origin p)
 
-    pub verdict-is : (b : Best) (v : Bool) → ((app : Rule → Bool) → Marked app f starts on n → held f b ≡ choose better (matching app p) 0 (rulesIn f starts n 0))
+    pub verdict_is : (b : Best) (v : Bool) → ((app : Rule → Bool) → Marked app f starts on n → held f b ≡ choose better (matching app p) 0 (rules_in f starts n 0))
         → v ≡ action (held f b) → v ≡ permits t (asked user mode origin p)
     unfolding permits
-    verdict-is b v h e = e ∙ ap action (found b h)
+    verdict_is b v h e = e ∙ ap action (found b h)
 
     -- the opposing rule
     module _ (weights : List ℕ) (w : (app : Rule → Bool) → Marked app f starts on n → Weights (fitting app p) f starts weights n) where
-      module _ (v : Bool) (b : Best) (h : (test : Rule → Bool) → Weights test f starts weights n → held f b ≡ choose earlier (opposing test (rulesIn f starts n 0) p v) 0 (rulesIn f starts n 0)) where
-        opposer : held f b ≡ choose earlier (opposing (fitting (applies t (asked user mode origin p)) p) (rulesIn f starts n 0) p v) 0 (rulesIn f starts n 0)
+      module _ (v : Bool) (b : Best) (h : (test : Rule → Bool) → Weights test f starts weights n → held f b ≡ choose earlier (opposing test (rules_in f starts n 0) p v) 0 (rules_in f starts n 0)) where
+        opposer : held f b ≡ choose earlier (opposing (fitting (applies t (asked user mode origin p)) p) (rules_in f starts n 0) p v) 0 (rules_in f starts n 0)
         opposer = h (fitting (applies t (asked user mode origin p)) p) (w (applies t (asked user mode origin p)) marks)
 
-        pub spread-is : keyTwice p ≡ false → v ≡ permits t (asked user mode origin p) → answer v (held f b) ≡ tree t (asked user mode origin p)
+        pub spread_is : key_twice p ≡ false → v ≡ permits t (asked user mode origin p) → answer v (held f b) ≡ tree t (asked user mode origin p)
         unfolding tree
-        spread-is k e =
+        spread_is k e =
             let q : Request = asked user mode origin p in
             let o : held f b ≡ choose earlier (opposes t q) 0 t.rules =
             opposer

@@ -1,8 +1,8 @@
 // The single-path verdict and the tree verdict on a table text and a request, with every refusal.
 ghost use Rattle.std.specs.Prelude.{◌≡◌};
-ghost use Rattle.verdict_request.specs.Calls.{pathVerdict, treeVerdict};
+ghost use Rattle.verdict_request.specs.Calls.{path_verdict, tree_verdict};
 ghost use Rattle.verdict_request.specs.Either.{one_of};
-ghost use Rattle.verdict_call.specs.Refused.{refusedBy};
+ghost use Rattle.verdict_call.specs.Refused.{refused_by};
 
 use table_load::Loaded;
 use verdict_request::{PathAnswer, TreeAnswer, Verdict};
@@ -11,7 +11,7 @@ pub mod loaded;
 
 // A table's own refusal.
 fn refused(l: Loaded, whole: bool) -> Verdict
-    ensures { result ≡ refusedBy whole l }
+    ensures { result ≡ refused_by whole l }
 {
     let Loaded::Refused { number, line } = l else {
         return verdict_request::answer::refused(0, 0, whole);
@@ -29,8 +29,8 @@ pub fn verdict(
     whole: bool,
 ) -> Verdict
     ensures { result ≡ one_of whole
-        (pathVerdict table.now user.now mode origin.now path.now)
-        (treeVerdict table.now user.now mode origin.now path.now) }
+        (path_verdict table.now user.now mode origin.now path.now)
+        (tree_verdict table.now user.now mode origin.now path.now) }
 {
     let mut buf = [0u8; limits::MAX_TABLE_BYTES];
     let mut groups = [0u16; limits::MAX_GROUPS];
@@ -68,14 +68,14 @@ pub fn verdict(
 
 // The action for one path, and the deciding rule.
 pub fn path_verdict(table: &[u8], user: &[u8], mode: u32, origin: &[u8], path: &[u8]) -> PathAnswer
-    ensures { result ≡ pathVerdict table.now user.now mode origin.now path.now }
+    ensures { result ≡ path_verdict table.now user.now mode origin.now path.now }
 {
     verdict_request::answer::path_of(verdict(table, user, mode, origin, path, false))
 }
 
 // ALL, NONE or MIXED for the paths at or beneath, and the rule that MIXED names.
 pub fn tree_verdict(table: &[u8], user: &[u8], mode: u32, origin: &[u8], path: &[u8]) -> TreeAnswer
-    ensures { result ≡ treeVerdict table.now user.now mode origin.now path.now }
+    ensures { result ≡ tree_verdict table.now user.now mode origin.now path.now }
 {
     verdict_request::answer::tree_of(verdict(table, user, mode, origin, path, true))
 }

@@ -1,12 +1,12 @@
 // The verdicts on a loaded table. f are its decoded bytes, `starts` and `holders` the positions and the groups of its n rules, `set` the user's groups,
 // g the bytes of the path asked for. Required is only what keeps all reading within the arrays: so they serve arrays of any origin.
 ghost use Rattle.std.specs.Prelude.{◌≡◌, false, ◌≤◌, length};
-ghost use Rattle.path.specs.Refusal.{keyTwice};
+ghost use Rattle.path.specs.Refusal.{key_twice};
 ghost use Rattle.verdict.specs.Verdict.{decider, tree};
-ghost use Rattle.table_place.specs.Place.{pathEnd, pathIn};
-ghost use Rattle.verdict_request.specs.Calls.{asked, decidedBy, spread};
+ghost use Rattle.table_place.specs.Place.{path_end, path_in};
+ghost use Rattle.verdict_request.specs.Calls.{asked, decided_by, spread};
 ghost use Rattle.verdict_concern.specs.Concern.{Safe};
-ghost use Rattle.verdict_call.specs.Holding.{OfTable, answerOn};
+ghost use Rattle.verdict_call.specs.Holding.{OfTable, answer_on};
 
 use path_read::Filled;
 use verdict_request::{PathAnswer, TreeAnswer, Verdict};
@@ -23,9 +23,9 @@ fn path_answer(
     origin: &[u8],
     g: &[u8],
 ) -> PathAnswer
-    requires { Safe f.now starts.now holders.now n × (pathEnd g.now 0 ≤ length g.now) }
+    requires { Safe f.now starts.now holders.now n × (path_end g.now 0 ≤ length g.now) }
     ensures { OfTable f.now starts.now holders.now n user.now set
-        (λ t. result ≡ decidedBy (decider t (asked user.now mode origin.now (pathIn g.now 0)))) }
+        (λ t. result ≡ decided_by (decider t (asked user.now mode origin.now (path_in g.now 0)))) }
 {
     let mut on = [0u8; limits::MAX_RULES];
     verdict_concern::mark(f, starts, holders, n, set, user, mode, origin, &mut on);
@@ -46,10 +46,10 @@ fn tree_answer(
     origin: &[u8],
     g: &[u8],
 ) -> TreeAnswer
-    requires { Safe f.now starts.now holders.now n × (pathEnd g.now 0 ≤ length g.now) }
+    requires { Safe f.now starts.now holders.now n × (path_end g.now 0 ≤ length g.now) }
     ensures { OfTable f.now starts.now holders.now n user.now set
-        (λ t. keyTwice (pathIn g.now 0) ≡ false
-        → result ≡ spread (tree t (asked user.now mode origin.now (pathIn g.now 0)))) }
+        (λ t. key_twice (path_in g.now 0) ≡ false
+        → result ≡ spread (tree t (asked user.now mode origin.now (path_in g.now 0)))) }
 {
     let mut on = [0u8; limits::MAX_RULES];
     verdict_concern::mark(f, starts, holders, n, set, user, mode, origin, &mut on);
@@ -78,7 +78,7 @@ pub fn call(
 ) -> Verdict
     requires { Safe f.now starts.now holders.now n }
     ensures { OfTable f.now starts.now holders.now n user.now set
-        (λ t. result ≡ answerOn t whole user.now mode origin.now text.now) }
+        (λ t. result ≡ answer_on t whole user.now mode origin.now text.now) }
 {
     let number = verdict_request::request::number(user, mode, origin);
     if number != limits::CLEAR {

@@ -10,130 +10,130 @@ use lib.Seq.{drop-cons}
 use Rattle.text.specs.Test.{◌and◌, ◌or◌, if◌then◌else◌, all, any, only}
 use Rattle.text.specs.String.{Str, bytes, same}
 use Rattle.text.proofs.Tests.{clash, by, and_r, same→≡}
-use Rattle.text.proofs.Scans.{same-lengths}
+use Rattle.text.proofs.Scans.{same_lengths}
 use Rattle.path.specs.Path.{Key}
-use Rattle.verdict.specs.Cover.{wild, given, sameKey, holds}
+use Rattle.verdict.specs.Cover.{wild, given, same_key, holds}
 use Rattle.verdict.specs.Join.{conflict, clashes}
-use Rattle.table_place.specs.Place.{strEnd, strIn, keyEnd, keyIn, keysIn}
-use Rattle.table_place.proofs.Cursor.{length-str, keys-cons, keys-nil}
-use Rattle.verdict_compare.specs.Compare.{answers, keyPasses}
+use Rattle.table_place.specs.Place.{str_end, str_in, key_end, key_in, keys_in}
+use Rattle.table_place.proofs.Cursor.{length_str, keys_cons, keys_nil}
+use Rattle.verdict_compare.specs.Compare.{answers, key_passes}
 
 -- ---- the value `*`
 
-module _ (f : List ℕ) (p : ℕ) (h : strEnd f p ≤ length f) where
-  pub star-other : (get_or f p 0 ≡ 1 → ⊥) → same (strIn f p) (bytes "*") ≡ false
-  star-other n = same-lengths _ _ (λ e. n (sym (length-str f p h) ∙ e))
+module _ (f : List ℕ) (p : ℕ) (h : str_end f p ≤ length f) where
+  pub star_other : (get_or f p 0 ≡ 1 → ⊥) → same (str_in f p) (bytes "*") ≡ false
+  star_other n = same_lengths _ _ (λ e. n (sym (length_str f p h) ∙ e))
 
-  str-one : get_or f p 0 ≡ 1 → strIn f p ≡ get_or f (p + 1) 0 ∷ []
-  unfolding strIn strEnd
-  str-one e =
+  str_one : get_or f p 0 ≡ 1 → str_in f p ≡ get_or f (p + 1) 0 ∷ []
+  unfolding str_in str_end
+  str_one e =
       let a : p + 1 < length f = omega arith in
       let b : (p + 1 + get_or f p 0) - (p + 1) ≡ 1 = omega arith in
       rw (b, drop-cons f (p + 1) 0 a)
 
-  and-true : (t : Bool) → (t and true) ≡ t
+  and_true : (t : Bool) → (t and true) ≡ t
   unfolding ◌and◌
-  and-true true = refl
-  and-true false = refl
+  and_true true = refl
+  and_true false = refl
 
-  pub star-one : get_or f p 0 ≡ 1 → same (strIn f p) (bytes "*") ≡ eqb (get_or f (p + 1) 0) 42
+  pub star_one : get_or f p 0 ≡ 1 → same (str_in f p) (bytes "*") ≡ eqb (get_or f (p + 1) 0) 42
   unfolding same
-  star-one e = rw (str-one e) (and-true (eqb (get_or f (p + 1) 0) 42))
+  star_one e = rw (str_one e) (and_true (eqb (get_or f (p + 1) 0) 42))
 
 -- ---- one of the keys
 
 module _ (t : Key → Bool) (g : List ℕ) (n q : ℕ) where
-  pub any-hit : 0 < n → t (keyIn g q) ≡ true → any t (keysIn n g q) ≡ true
+  pub any_hit : 0 < n → t (key_in g q) ≡ true → any t (keys_in n g q) ≡ true
   unfolding any ◌or◌
-  any-hit z e = rw (keys-cons g n q z, e)
+  any_hit z e = rw (keys_cons g n q z, e)
 
-  pub any-miss : 0 < n → t (keyIn g q) ≡ false → (b : ℕ) → b ≡ keyEnd g q → any t (keysIn n g q) ≡ any t (keysIn (n - 1) g b)
+  pub any_miss : 0 < n → t (key_in g q) ≡ false → (b : ℕ) → b ≡ key_end g q → any t (keys_in n g q) ≡ any t (keys_in (n - 1) g b)
   unfolding any ◌or◌
-  any-miss z e b i = rw (keys-cons g n q z, e, i)
+  any_miss z e b i = rw (keys_cons g n q z, e, i)
 
-  pub any-end : n ≤ 0 → any t (keysIn n g q) ≡ false
+  pub any_end : n ≤ 0 → any t (keys_in n g q) ≡ false
   unfolding any
-  any-end z = rw (keys-nil g n q z)
+  any_end z = rw (keys_nil g n q z)
 
 -- a definite key is one of the keys, or of the definite ones
-not-wild : (j k : Key) → wild k ≡ false → wild j ≡ true → sameKey j k ≡ false
+not_wild : (j k : Key) → wild k ≡ false → wild j ≡ true → same_key j k ≡ false
 unfolding wild
-not-wild j k u v =
-    by (sameKey j k)
+not_wild j k u v =
+    by (same_key j k)
     (λ e. let i : j.value ≡ k.value = same→≡ _ _ (and_r _ _ e) in clash (sym (ap (λ (s : Str). same s (bytes "*")) i) ∙ v) u)
     (λ e. e)
 
-pub holds-given : (ks : List Key) (k : Key) → wild k ≡ false → holds (given ks) k ≡ holds ks k
+pub holds_given : (ks : List Key) (k : Key) → wild k ≡ false → holds (given ks) k ≡ holds ks k
 unfolding holds any only if◌then◌else◌ ◌or◌
-holds-given [] k u = refl
-holds-given (j ∷ ks) k u =
-    by (wild j) (λ e. rw (e, not-wild j k u e) (holds-given ks k u)) (λ e. rw e (ap (λ (b : Bool). sameKey j k or b) (holds-given ks k u)))
+holds_given [] k u = refl
+holds_given (j ∷ ks) k u =
+    by (wild j) (λ e. rw (e, not_wild j k u e) (holds_given ks k u)) (λ e. rw e (ap (λ (b : Bool). same_key j k or b) (holds_given ks k u)))
 
 -- a key that clashes with a definite one is in conflict with one that is definite
-clashes-given : (ks : List Key) (k : Key) → clashes (given ks) k ≡ any (λ (j : Key). answers false j k) ks
+clashes_given : (ks : List Key) (k : Key) → clashes (given ks) k ≡ any (λ (j : Key). answers false j k) ks
 unfolding clashes any only if◌then◌else◌ ◌and◌ ◌or◌
-clashes-given [] k = refl
-clashes-given (j ∷ ks) k = by (wild j) (λ e. rw e (clashes-given ks k)) (λ e. rw e (ap (λ (b : Bool). conflict j k or b) (clashes-given ks k)))
+clashes_given [] k = refl
+clashes_given (j ∷ ks) k = by (wild j) (λ e. rw e (clashes_given ks k)) (λ e. rw e (ap (λ (b : Bool). conflict j k or b) (clashes_given ks k)))
 
 -- ---- each definite one
 
-all-given : (t : Key → Bool) (j : Key) (ks : List Key) → all t (given (j ∷ ks)) ≡ ((wild j or t j) and all t (given ks))
+all_given : (t : Key → Bool) (j : Key) (ks : List Key) → all t (given (j ∷ ks)) ≡ ((wild j or t j) and all t (given ks))
 unfolding all only if◌then◌else◌ ◌and◌ ◌or◌
-all-given t j ks = by (wild j) (λ e. rw e) (λ e. rw e)
+all_given t j ks = by (wild j) (λ e. rw e) (λ e. rw e)
 
 module _ (t : Key → Bool) (g : List ℕ) (n q : ℕ) where
-  pub all_pass : 0 < n → (wild (keyIn g q) or t (keyIn g q)) ≡ true → (b : ℕ) → b ≡ keyEnd g q → all t (given (keysIn n g q)) ≡ all t (given (keysIn (n - 1) g b))
+  pub all_pass : 0 < n → (wild (key_in g q) or t (key_in g q)) ≡ true → (b : ℕ) → b ≡ key_end g q → all t (given (keys_in n g q)) ≡ all t (given (keys_in (n - 1) g b))
   unfolding ◌and◌
-  all_pass z e b i = rw (keys-cons g n q z, all-given, e, i)
+  all_pass z e b i = rw (keys_cons g n q z, all_given, e, i)
 
-  pub all-fail : 0 < n → (wild (keyIn g q) or t (keyIn g q)) ≡ false → all t (given (keysIn n g q)) ≡ false
+  pub all_fail : 0 < n → (wild (key_in g q) or t (key_in g q)) ≡ false → all t (given (keys_in n g q)) ≡ false
   unfolding ◌and◌
-  all-fail z e = rw (keys-cons g n q z, all-given, e)
+  all_fail z e = rw (keys_cons g n q z, all_given, e)
 
-  pub all_end : n ≤ 0 → all t (given (keysIn n g q)) ≡ true
+  pub all_end : n ≤ 0 → all t (given (keys_in n g q)) ≡ true
   unfolding all only
-  all_end z = rw (keys-nil g n q z)
+  all_end z = rw (keys_nil g n q z)
 
 -- ---- one key against the others
 
-pub wild-in : (f : List ℕ) (s a : ℕ) (b : Bool) → a ≡ strEnd f s → b ≡ same (strIn f a) (bytes "*") → wild (keyIn f s) ≡ b
-unfolding wild keyIn
-wild-in f s a b i e = rw (← i) (sym e)
+pub wild_in : (f : List ℕ) (s a : ℕ) (b : Bool) → a ≡ str_end f s → b ≡ same (str_in f a) (bytes "*") → wild (key_in f s) ≡ b
+unfolding wild key_in
+wild_in f s a b i e = rw (← i) (sym e)
 
 module _ (rs ps : List Key) (k : Key) (w : wild k ≡ false) where
-  pub pass-first : (cover : Bool) → holds rs k ≡ true → (wild k or keyPasses cover rs ps k) ≡ true
+  pub pass_first : (cover : Bool) → holds rs k ≡ true → (wild k or key_passes cover rs ps k) ≡ true
   unfolding ◌or◌
-  pass-first true e = rw (w, holds-given rs k w ∙ e)
-  pass-first false e = rw (w, holds-given rs k w ∙ e)
+  pass_first true e = rw (w, holds_given rs k w ∙ e)
+  pass_first false e = rw (w, holds_given rs k w ∙ e)
 
   module _ (cover : Bool) (e : holds rs k ≡ false) where
-    pub pass-cover : cover ≡ true → (wild k or keyPasses cover rs ps k) ≡ holds ps k
+    pub pass_cover : cover ≡ true → (wild k or key_passes cover rs ps k) ≡ holds ps k
     unfolding ◌or◌
-    pass-cover y = rw (w, y, holds-given rs k w ∙ e) (holds-given ps k w)
+    pass_cover y = rw (w, y, holds_given rs k w ∙ e) (holds_given ps k w)
 
-    pub pass-agree : cover ≡ false → (wild k or keyPasses cover rs ps k) ≡ not (any (λ (j : Key). answers false j k) ps)
+    pub pass_agree : cover ≡ false → (wild k or key_passes cover rs ps k) ≡ not (any (λ (j : Key). answers false j k) ps)
     unfolding ◌or◌
-    pass-agree y = rw (w, y, holds-given rs k w ∙ e) (ap not (clashes-given ps k))
+    pass_agree y = rw (w, y, holds_given rs k w ∙ e) (ap not (clashes_given ps k))
 
 -- ---- two keys: names first, then values
 
 module _ (g : List ℕ) (q : ℕ) (f : List ℕ) (p : ℕ) where
-  pub answers-name : (cover : Bool) → same (strIn g q) (strIn f p) ≡ false → answers cover (keyIn g q) (keyIn f p) ≡ false
-  unfolding conflict keyIn ◌and◌
-  answers-name true e = rw e
-  answers-name false e = by (wild (keyIn g q)) (λ w. rw w) (λ w. rw (w, e))
+  pub answers_name : (cover : Bool) → same (str_in g q) (str_in f p) ≡ false → answers cover (key_in g q) (key_in f p) ≡ false
+  unfolding conflict key_in ◌and◌
+  answers_name true e = rw e
+  answers_name false e = by (wild (key_in g q)) (λ w. rw w) (λ w. rw (w, e))
 
-  module _ (e : same (strIn g q) (strIn f p) ≡ true) (b a : ℕ) (i : b ≡ strEnd g q) (j : a ≡ strEnd f p) where
-    pub answers-value : (cover : Bool) → same (strIn g b) (strIn f a) ≡ true → answers cover (keyIn g q) (keyIn f p) ≡ cover
-    unfolding conflict keyIn ◌and◌
-    answers-value true v = rw (e, ← i, ← j, v)
-    answers-value false v = by (wild (keyIn g q)) (λ w. rw w) (λ w. rw (w, e, ← i, ← j, v))
+  module _ (e : same (str_in g q) (str_in f p) ≡ true) (b a : ℕ) (i : b ≡ str_end g q) (j : a ≡ str_end f p) where
+    pub answers_value : (cover : Bool) → same (str_in g b) (str_in f a) ≡ true → answers cover (key_in g q) (key_in f p) ≡ cover
+    unfolding conflict key_in ◌and◌
+    answers_value true v = rw (e, ← i, ← j, v)
+    answers_value false v = by (wild (key_in g q)) (λ w. rw w) (λ w. rw (w, e, ← i, ← j, v))
 
-    pub answers-other : (cover : Bool) → same (strIn g b) (strIn f a) ≡ false → (s : Bool) → s ≡ same (strIn g b) (bytes "*")
-        → answers cover (keyIn g q) (keyIn f p) ≡ not (cover || s)
-    unfolding conflict keyIn ◌and◌
-    answers-other true v s y = rw (e, ← i, ← j, v)
-    answers-other false v s y =
+    pub answers_other : (cover : Bool) → same (str_in g b) (str_in f a) ≡ false → (s : Bool) → s ≡ same (str_in g b) (bytes "*")
+        → answers cover (key_in g q) (key_in f p) ≡ not (cover || s)
+    unfolding conflict key_in ◌and◌
+    answers_other true v s y = rw (e, ← i, ← j, v)
+    answers_other false v s y =
         by s
-        (λ w. rw (wild-in g q b s i y ∙ w, w))
-        (λ w. rw (wild-in g q b s i y ∙ w, w, e, ← i, ← j, v))
+        (λ w. rw (wild_in g q b s i y ∙ w, w))
+        (λ w. rw (wild_in g q b s i y ∙ w, w, e, ← i, ← j, v))

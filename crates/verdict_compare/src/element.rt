@@ -1,13 +1,13 @@
 // Two elements, and an element against two.
 ghost use Rattle.std.specs.Prelude.{◌≡◌, ◌≤◌, length};
-ghost use Rattle.verdict.specs.Pair.{meetsBoth};
-ghost use Rattle.table_place.specs.Place.{elemEnd, elemIn};
-ghost use Rattle.verdict_compare.specs.Compare.{elemPasses};
+ghost use Rattle.verdict.specs.Pair.{meets_both};
+ghost use Rattle.table_place.specs.Place.{elem_end, elem_in};
+ghost use Rattle.verdict_compare.specs.Compare.{elem_passes};
 
 // Whether the element at p of g has the name of the element at s of f and, as `cover` says, gives its definite keys, or gives none of them another value.
 pub fn elem_passes(cover: bool, f: &[u8], s: usize, g: &[u8], p: usize) -> bool
-    requires { (elemEnd f.now s ≤ length f.now) × (elemEnd g.now p ≤ length g.now) }
-    ensures { result ≡ elemPasses cover (elemIn f.now s) (elemIn g.now p) }
+    requires { (elem_end f.now s ≤ length f.now) × (elem_end g.now p ≤ length g.now) }
+    ensures { result ≡ elem_passes cover (elem_in f.now s) (elem_in g.now p) }
 {
     if !crate::key::same_at(f, s, g, p) {
         return false;
@@ -24,8 +24,8 @@ pub fn elem_passes(cover: bool, f: &[u8], s: usize, g: &[u8], p: usize) -> bool
 
 // Whether the elements at r of f and p of g together have the name, and give the definite keys, of the element at s of f.
 pub fn meets_both(f: &[u8], s: usize, r: usize, g: &[u8], p: usize) -> bool
-    requires { (elemEnd f.now s ≤ length f.now) × (elemEnd f.now r ≤ length f.now) × (elemEnd g.now p ≤ length g.now) }
-    ensures { result ≡ meetsBoth (elemIn f.now s) (elemIn f.now r) (elemIn g.now p) }
+    requires { (elem_end f.now s ≤ length f.now) × (elem_end f.now r ≤ length f.now) × (elem_end g.now p ≤ length g.now) }
+    ensures { result ≡ meets_both (elem_in f.now s) (elem_in f.now r) (elem_in g.now p) }
 {
     if !crate::key::same_at(f, s, f, r) {
         return false;

@@ -4,13 +4,13 @@ ghost use Rattle.path.specs.Path.{Key};
 ghost use Rattle.text.specs.Test.{◌or◌, all, any};
 ghost use Rattle.text.specs.String.{bytes, same};
 ghost use Rattle.verdict.specs.Cover.{wild, given, holds};
-ghost use Rattle.table_place.specs.Place.{strEnd, strIn, keyEnd, keyIn, keysEnd, keysIn};
-ghost use Rattle.verdict_compare.specs.Compare.{answers, keyPasses};
+ghost use Rattle.table_place.specs.Place.{str_end, str_in, key_end, key_in, keys_end, keys_in};
+ghost use Rattle.verdict_compare.specs.Compare.{answers, key_passes};
 
 // Whether the strings at two positions are the same.
 pub fn same_at(f: &[u8], p: usize, g: &[u8], q: usize) -> bool
-    requires { (strEnd f.now p ≤ length f.now) × (strEnd g.now q ≤ length g.now) }
-    ensures { result ≡ same (strIn f.now p) (strIn g.now q) }
+    requires { (str_end f.now p ≤ length f.now) × (str_end g.now q ≤ length g.now) }
+    ensures { result ≡ same (str_in f.now p) (str_in g.now q) }
 {
     let a = p + 1;
     let b = q + 1;
@@ -21,8 +21,8 @@ pub fn same_at(f: &[u8], p: usize, g: &[u8], q: usize) -> bool
 
 // Whether the string is `*`.
 pub fn is_star(f: &[u8], at: usize) -> bool
-    requires { strEnd f.now at ≤ length f.now }
-    ensures { result ≡ same (strIn f.now at) (bytes "*") }
+    requires { str_end f.now at ≤ length f.now }
+    ensures { result ≡ same (str_in f.now at) (bytes "*") }
 {
     if f[at] != 1 {
         return false;
@@ -32,8 +32,8 @@ pub fn is_star(f: &[u8], at: usize) -> bool
 
 // Whether the key at q of g has the name of the key at p of f and, as `cover` says, its value, or another definite value.
 fn answers(cover: bool, g: &[u8], q: usize, f: &[u8], p: usize) -> bool
-    requires { (keyEnd g.now q ≤ length g.now) × (keyEnd f.now p ≤ length f.now) }
-    ensures { result ≡ answers cover (keyIn g.now q) (keyIn f.now p) }
+    requires { (key_end g.now q ≤ length g.now) × (key_end f.now p ≤ length f.now) }
+    ensures { result ≡ answers cover (key_in g.now q) (key_in f.now p) }
 {
     if !same_at(g, q, f, p) {
         return false;
@@ -48,8 +48,8 @@ fn answers(cover: bool, g: &[u8], q: usize, f: &[u8], p: usize) -> bool
 
 // Whether one of the n keys at `at` of g does.
 fn any_answers(cover: bool, g: &[u8], at: usize, n: usize, f: &[u8], p: usize) -> bool
-    requires { (keysEnd n g.now at ≤ length g.now) × (keyEnd f.now p ≤ length f.now) }
-    ensures { result ≡ any (λ (j : Key). answers cover j (keyIn f.now p)) (keysIn n g.now at) }
+    requires { (keys_end n g.now at ≤ length g.now) × (key_end f.now p ≤ length f.now) }
+    ensures { result ≡ any (λ (j : Key). answers cover j (key_in f.now p)) (keys_in n g.now at) }
 {
     let mut q = at;
     let mut left = n;
@@ -65,8 +65,8 @@ fn any_answers(cover: bool, g: &[u8], at: usize, n: usize, f: &[u8], p: usize) -
 
 // Whether one of the n keys at `at` of g is the key at p of f.
 pub fn gives(g: &[u8], at: usize, n: usize, f: &[u8], p: usize) -> bool
-    requires { (keysEnd n g.now at ≤ length g.now) × (keyEnd f.now p ≤ length f.now) }
-    ensures { result ≡ holds (keysIn n g.now at) (keyIn f.now p) }
+    requires { (keys_end n g.now at ≤ length g.now) × (key_end f.now p ≤ length f.now) }
+    ensures { result ≡ holds (keys_in n g.now at) (key_in f.now p) }
 {
     any_answers(true, g, at, n, f, p)
 }
@@ -83,9 +83,9 @@ fn key_passes(
     p: usize,
     n: usize,
 ) -> bool
-    requires { (keyEnd f.now s ≤ length f.now) × (keysEnd m f.now r ≤ length f.now) × (keysEnd n g.now p ≤ length g.now) }
-    ensures { result ≡ (wild (keyIn f.now s)
-        or keyPasses cover (keysIn m f.now r) (keysIn n g.now p) (keyIn f.now s)) }
+    requires { (key_end f.now s ≤ length f.now) × (keys_end m f.now r ≤ length f.now) × (keys_end n g.now p ≤ length g.now) }
+    ensures { result ≡ (wild (key_in f.now s)
+        or key_passes cover (keys_in m f.now r) (keys_in n g.now p) (key_in f.now s)) }
 {
     if is_star(f, table_place::str_end(f, s)) {
         return true;
@@ -111,8 +111,8 @@ pub fn keys_pass(
     p: usize,
     n: usize,
 ) -> bool
-    requires { (keysEnd k f.now s ≤ length f.now) × (keysEnd m f.now r ≤ length f.now) × (keysEnd n g.now p ≤ length g.now) }
-    ensures { result ≡ all (keyPasses cover (keysIn m f.now r) (keysIn n g.now p)) (given (keysIn k f.now s)) }
+    requires { (keys_end k f.now s ≤ length f.now) × (keys_end m f.now r ≤ length f.now) × (keys_end n g.now p ≤ length g.now) }
+    ensures { result ≡ all (key_passes cover (keys_in m f.now r) (keys_in n g.now p)) (given (keys_in k f.now s)) }
 {
     let mut q = s;
     let mut left = k;

@@ -2,15 +2,15 @@
 ghost use Rattle.std.specs.Prelude.{◌≡◌, ◌≤◌, length};
 ghost use Rattle.verdict.specs.Cover.{covers};
 ghost use Rattle.verdict.specs.Join.{agree};
-ghost use Rattle.verdict.specs.Pair.{coversBoth};
-ghost use Rattle.table_place.specs.Place.{elemsEnd, elemsIn};
-ghost use Rattle.verdict_compare.specs.Compare.{pathPasses};
+ghost use Rattle.verdict.specs.Pair.{covers_both};
+ghost use Rattle.table_place.specs.Place.{elems_end, elems_in};
+ghost use Rattle.verdict_compare.specs.Compare.{path_passes};
 
 // The elements at s of f and at p of g in step, each pair by the test that `cover` says. Where the second path ends first, the first does not
 // cover it, and the two agree.
 fn in_step(cover: bool, f: &[u8], s: usize, k: usize, g: &[u8], p: usize, n: usize) -> bool
-    requires { (elemsEnd k f.now s ≤ length f.now) × (elemsEnd n g.now p ≤ length g.now) }
-    ensures { result ≡ pathPasses cover (elemsIn k f.now s) (elemsIn n g.now p) }
+    requires { (elems_end k f.now s ≤ length f.now) × (elems_end n g.now p ≤ length g.now) }
+    ensures { result ≡ path_passes cover (elems_in k f.now s) (elems_in n g.now p) }
 {
     let mut a = s;
     let mut b = p;
@@ -33,16 +33,16 @@ fn in_step(cover: bool, f: &[u8], s: usize, k: usize, g: &[u8], p: usize, n: usi
 
 // Whether the path of n elements at p of g lies at or beneath that of k elements at s of f.
 pub fn covers_at(f: &[u8], s: usize, k: usize, g: &[u8], p: usize, n: usize) -> bool
-    requires { (elemsEnd k f.now s ≤ length f.now) × (elemsEnd n g.now p ≤ length g.now) }
-    ensures { result ≡ covers (elemsIn k f.now s) (elemsIn n g.now p) }
+    requires { (elems_end k f.now s ≤ length f.now) × (elems_end n g.now p ≤ length g.now) }
+    ensures { result ≡ covers (elems_in k f.now s) (elems_in n g.now p) }
 {
     in_step(true, f, s, k, g, p, n)
 }
 
 // Whether two paths agree as far as both go.
 pub fn agree_at(f: &[u8], r: usize, m: usize, g: &[u8], p: usize, n: usize) -> bool
-    requires { (elemsEnd m f.now r ≤ length f.now) × (elemsEnd n g.now p ≤ length g.now) }
-    ensures { result ≡ agree (elemsIn m f.now r) (elemsIn n g.now p) }
+    requires { (elems_end m f.now r ≤ length f.now) × (elems_end n g.now p ≤ length g.now) }
+    ensures { result ≡ agree (elems_in m f.now r) (elems_in n g.now p) }
 {
     in_step(false, f, r, m, g, p, n)
 }
@@ -58,8 +58,8 @@ pub fn covers_both(
     p: usize,
     n: usize,
 ) -> bool
-    requires { (elemsEnd k f.now s ≤ length f.now) × (elemsEnd m f.now r ≤ length f.now) × (elemsEnd n g.now p ≤ length g.now) }
-    ensures { result ≡ coversBoth (elemsIn k f.now s) (elemsIn m f.now r) (elemsIn n g.now p) }
+    requires { (elems_end k f.now s ≤ length f.now) × (elems_end m f.now r ≤ length f.now) × (elems_end n g.now p ≤ length g.now) }
+    ensures { result ≡ covers_both (elems_in k f.now s) (elems_in m f.now r) (elems_in n g.now p) }
 {
     let mut a = s;
     let mut b = r;

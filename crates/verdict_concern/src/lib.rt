@@ -1,8 +1,8 @@
 // Which rules of a checked table concern a request.
 ghost use Rattle.std.specs.Prelude.{◌≡◌, true, ◌≤◌, ◌<◌, eqb, length};
-ghost use Rattle.limits.specs.Limits.{maxGroups};
-ghost use Rattle.table_rows.specs.Rules.{ruleIn, ruleEnd};
-ghost use Rattle.verdict_concern.specs.Concern.{concernsBy, appliesBy, Safe, Applying};
+ghost use Rattle.limits.specs.Limits.{max_groups};
+ghost use Rattle.table_rows.specs.Rules.{rule_in, rule_end};
+ghost use Rattle.verdict_concern.specs.Concern.{concerns_by, applies_by, Safe, Applying};
 
 use table::{GroupNumber, RuleNumber};
 
@@ -11,8 +11,8 @@ const SUBJECT_NAME: usize = table::RULE_SUBJECT + 1;
 
 // Whether the subject of the rule at s, group g if it is a group, is the user or in the user's groups.
 fn concerns_at(f: &[u8], s: usize, g: GroupNumber, set: u64, user: &[u8]) -> bool
-    requires { (ruleEnd f.now s ≤ length f.now) × ((ruleIn f.now s).byGroup ≡ true → g.0 < maxGroups) }
-    ensures { result ≡ concernsBy set g.0 user.now (ruleIn f.now s) }
+    requires { (rule_end f.now s ≤ length f.now) × ((rule_in f.now s).by_group ≡ true → g.0 < max_groups) }
+    ensures { result ≡ concerns_by set g.0 user.now (rule_in f.now s) }
 {
     if f[s + table::RULE_SUBJECT_KIND] == table::SUBJECT_GROUP {
         return table_membership::has(set, g);
@@ -32,8 +32,8 @@ pub fn mark_at(
     mode: u32,
     origin: &[u8],
 ) -> u8
-    requires { (ruleEnd f.now s ≤ length f.now) × ((ruleIn f.now s).byGroup ≡ true → g.0 < maxGroups) }
-    ensures { eqb result 1 ≡ appliesBy set g.0 user.now mode origin.now (ruleIn f.now s) }
+    requires { (rule_end f.now s ≤ length f.now) × ((rule_in f.now s).by_group ≡ true → g.0 < max_groups) }
+    ensures { eqb result 1 ≡ applies_by set g.0 user.now mode origin.now (rule_in f.now s) }
 {
     if f[s + table::RULE_MODE] as u32 != mode {
         return 0;

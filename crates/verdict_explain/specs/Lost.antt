@@ -2,7 +2,7 @@
 use Rattle.std.specs.Prelude.{◌<◌, ◌≡◌, true, length}
 use Rattle.text.specs.String.{before}
 use Rattle.table.specs.Table.{Rule}
-use Rattle.verdict.specs.Order.{definites, oneUnless, better}
+use Rattle.verdict.specs.Order.{definites, one_unless, better}
 use Rattle.verdict_explain.specs.Standing.{standing, step_of}
 use Rattle.verdict_explain.specs.declared.Step.{Step}
 use Rattle.verdict_explain.specs.declared.Step.TheVariants as step
@@ -13,13 +13,13 @@ LostAt step.Elements r s = length s.path < length r.path
 LostAt step.Keys r s = (length r.path ≡ length s.path) × (definites s.path < definites r.path)
 LostAt step.Subject r s =
     (length r.path ≡ length s.path) × (definites r.path ≡ definites s.path)
-    × (oneUnless s.byGroup < oneUnless r.byGroup)
+    × (one_unless s.by_group < one_unless r.by_group)
 LostAt step.Action r s =
-    (length r.path ≡ length s.path) × (definites r.path ≡ definites s.path) × (oneUnless r.byGroup ≡ oneUnless s.byGroup)
-    × (oneUnless s.permit < oneUnless r.permit)
+    (length r.path ≡ length s.path) × (definites r.path ≡ definites s.path) × (one_unless r.by_group ≡ one_unless s.by_group)
+    × (one_unless s.permit < one_unless r.permit)
 LostAt step.Id r s =
-    (length r.path ≡ length s.path) × (definites r.path ≡ definites s.path) × (oneUnless r.byGroup ≡ oneUnless s.byGroup)
-    × (oneUnless r.permit ≡ oneUnless s.permit) × (before r.id s.id ≡ true)
+    (length r.path ≡ length s.path) × (definites r.path ≡ definites s.path) × (one_unless r.by_group ≡ one_unless s.by_group)
+    × (one_unless r.permit ≡ one_unless s.permit) × (before r.id s.id ≡ true)
 
 -- of a rule and one that the ranking prefers, `step_of` names the step at which the first lost
 abbrev pub NamesTheStep : Type 0

@@ -2,14 +2,14 @@
 use Rattle.std.specs.Prelude.{ℕ, eqb, length}
 use Rattle.text.specs.Test.{if◌then◌else◌}
 use Rattle.table.specs.Table.{Rule}
-use Rattle.verdict.specs.Order.{definites, oneUnless}
+use Rattle.verdict.specs.Order.{definites, one_unless}
 use Rattle.verdict_explain.specs.declared.Standing.{Standing}
 use Rattle.verdict_explain.specs.declared.Step.{Step}
 use Rattle.verdict_explain.specs.declared.Step.TheVariants as step
 
 -- what the ranking looks at, apart from the id
 unfoldable pub standing : Rule → Standing
-standing r = record { elements = length r.path; keys = definites r.path; group = r.byGroup; permit = r.permit }
+standing r = record { elements = length r.path; keys = definites r.path; group = r.by_group; permit = r.permit }
 
 -- this step decides where its two numbers differ, and else the next
 unfoldable pub decides : ℕ → ℕ → Step → Step → Step
@@ -20,6 +20,6 @@ unfoldable pub step_of : Standing → Standing → Step
 step_of a b =
     decides a.elements b.elements step.Elements
     (decides a.keys b.keys step.Keys
-    (decides (oneUnless a.group) (oneUnless b.group) step.Subject
-    (decides (oneUnless a.permit) (oneUnless b.permit) step.Action
+    (decides (one_unless a.group) (one_unless b.group) step.Subject
+    (decides (one_unless a.permit) (one_unless b.permit) step.Action
     step.Id)))

@@ -29,27 +29,27 @@ digits h = record {
 
 -- ---- paths: depth d is this many times the number of elements before
 
-abbrev pub depthStep : ℕ
-depthStep = 256
+abbrev pub depth_step : ℕ
+depth_step = 256
 
 -- a key, unless it is a wildcard or among the asked ones
-unfoldable pub keyDigits : Seed → ℕ → List Key → Key → Filter
-keyDigits s d asked k = if wild k or holds asked k then none else digits (mix s (mix s d k.name) k.value)
+unfoldable pub key_digits : Seed → ℕ → List Key → Key → Filter
+key_digits s d asked k = if wild k or holds asked k then none else digits (mix s (mix s d k.name) k.value)
 
-unfoldable pub keysDigits : Seed → ℕ → List Key → List Key → Filter
-keysDigits s d asked [] = none
-keysDigits s d asked (k ∷ ks) = unite (keyDigits s d asked k) (keysDigits s d asked ks)
+unfoldable pub keys_digits : Seed → ℕ → List Key → List Key → Filter
+keys_digits s d asked [] = none
+keys_digits s d asked (k ∷ ks) = unite (key_digits s d asked k) (keys_digits s d asked ks)
 
 -- an element where nothing is asked
-unfoldable pub elemDigits : Seed → ℕ → Elem → Filter
-elemDigits s d e = unite (digits (mix s d e.name)) (keysDigits s d [] e.keys)
+unfoldable pub elem_digits : Seed → ℕ → Elem → Filter
+elem_digits s d e = unite (digits (mix s d e.name)) (keys_digits s d [] e.keys)
 
-unfoldable pub pathDigits : Seed → ℕ → Path → Filter
-pathDigits s d [] = none
-pathDigits s d (e ∷ es) = unite (elemDigits s d e) (pathDigits s (d + depthStep) es)
+unfoldable pub path_digits : Seed → ℕ → Path → Filter
+path_digits s d [] = none
+path_digits s d (e ∷ es) = unite (elem_digits s d e) (path_digits s (d + depth_step) es)
 
 -- what a path has beyond the asked one
 unfoldable pub beyond : Seed → ℕ → Path → Path → Filter
 beyond s d [] ps = none
-beyond s d (e ∷ es) [] = pathDigits s d (e ∷ es)
-beyond s d (e ∷ es) (p ∷ ps) = unite (keysDigits s d p.keys e.keys) (beyond s (d + depthStep) es ps)
+beyond s d (e ∷ es) [] = path_digits s d (e ∷ es)
+beyond s d (e ∷ es) (p ∷ ps) = unite (keys_digits s d p.keys e.keys) (beyond s (d + depth_step) es ps)

@@ -2,8 +2,8 @@
 
 ghost use Rattle.std.specs.Prelude.{◌≡◌, ◌+◌, ◌*◌, ◌≤◌, ◌<◌, length};
 ghost use Rattle.text_hash.specs.Mix.{Small, mix};
-ghost use Rattle.table_place.specs.Place.{strEnd, strIn, keyEnd, keyIn, keysEnd, keysIn, elemEnd, elemIn, elemsEnd, elemsIn};
-ghost use Rattle.verdict_filter.specs.Bloom.{none, digits, unite, depthStep, keyDigits, keysDigits, elemDigits, pathDigits, beyond};
+ghost use Rattle.table_place.specs.Place.{str_end, str_in, key_end, key_in, keys_end, keys_in, elem_end, elem_in, elems_end, elems_in};
+ghost use Rattle.verdict_filter.specs.Bloom.{none, digits, unite, depth_step, key_digits, keys_digits, elem_digits, path_digits, beyond};
 
 use text_hash::Seed;
 
@@ -44,8 +44,8 @@ fn unite(x: Filter, y: Filter) -> Filter
 
 // The hash of the string at a position.
 fn hash_at(s: Seed, h: usize, f: &[u8], at: usize) -> usize
-    requires { Small s × (h < 4294967296) × (strEnd f.now at ≤ length f.now) }
-    ensures { result ≡ mix s h (strIn f.now at) }
+    requires { Small s × (h < 4294967296) × (str_end f.now at ≤ length f.now) }
+    ensures { result ≡ mix s h (str_in f.now at) }
 {
     let a = at + 1;
     let e = table_place::str_end(f, at);
@@ -65,8 +65,8 @@ fn digits(h: usize) -> Filter
 
 // The key at `at` of f, unless it is a wildcard or one of the k keys at p of g.
 fn key_digits(s: Seed, d: usize, f: &[u8], at: usize, g: &[u8], p: usize, k: usize) -> Filter
-    requires { Small s × (d < 65536) × (keyEnd f.now at ≤ length f.now) × (keysEnd k g.now p ≤ length g.now) }
-    ensures { result ≡ keyDigits s d (keysIn k g.now p) (keyIn f.now at) }
+    requires { Small s × (d < 65536) × (key_end f.now at ≤ length f.now) × (keys_end k g.now p ≤ length g.now) }
+    ensures { result ≡ key_digits s d (keys_in k g.now p) (key_in f.now at) }
 {
     let v = table_place::str_end(f, at);
     if verdict_compare::key::is_star(f, v) {
@@ -90,8 +90,8 @@ fn keys_digits(
     p: usize,
     k: usize,
 ) -> Filter
-    requires { Small s × (d < 65536) × (keysEnd n f.now at ≤ length f.now) × (keysEnd k g.now p ≤ length g.now) }
-    ensures { result ≡ keysDigits s d (keysIn k g.now p) (keysIn n f.now at) }
+    requires { Small s × (d < 65536) × (keys_end n f.now at ≤ length f.now) × (keys_end k g.now p ≤ length g.now) }
+    ensures { result ≡ keys_digits s d (keys_in k g.now p) (keys_in n f.now at) }
 {
     let mut x = empty();
     let mut q = at;
@@ -106,8 +106,8 @@ fn keys_digits(
 
 // An element where nothing is asked.
 fn elem_digits(s: Seed, d: usize, f: &[u8], at: usize) -> Filter
-    requires { Small s × (d < 65536) × (elemEnd f.now at ≤ length f.now) }
-    ensures { result ≡ elemDigits s d (elemIn f.now at) }
+    requires { Small s × (d < 65536) × (elem_end f.now at ≤ length f.now) }
+    ensures { result ≡ elem_digits s d (elem_in f.now at) }
 {
     let a = table_place::str_end(f, at);
     let n = f[a] as usize;
@@ -117,8 +117,8 @@ fn elem_digits(s: Seed, d: usize, f: &[u8], at: usize) -> Filter
 
 // The keys of the element at `at` of f, beyond those of the element at p of g.
 fn new_digits(s: Seed, d: usize, f: &[u8], at: usize, g: &[u8], p: usize) -> Filter
-    requires { Small s × (d < 65536) × (elemEnd f.now at ≤ length f.now) × (elemEnd g.now p ≤ length g.now) }
-    ensures { result ≡ keysDigits s d (elemIn g.now p).keys (elemIn f.now at).keys }
+    requires { Small s × (d < 65536) × (elem_end f.now at ≤ length f.now) × (elem_end g.now p ≤ length g.now) }
+    ensures { result ≡ keys_digits s d (elem_in g.now p).keys (elem_in f.now at).keys }
 {
     let a = table_place::str_end(f, at);
     let b = table_place::str_end(g, p);
@@ -129,8 +129,8 @@ fn new_digits(s: Seed, d: usize, f: &[u8], at: usize, g: &[u8], p: usize) -> Fil
 
 // n elements where nothing is asked, the first at depth d.
 fn path_digits(s: Seed, d: usize, f: &[u8], at: usize, n: usize) -> Filter
-    requires { Small s × (d + depthStep * n < 65536) × (elemsEnd n f.now at ≤ length f.now) }
-    ensures { result ≡ pathDigits s d (elemsIn n f.now at) }
+    requires { Small s × (d + depth_step * n < 65536) × (elems_end n f.now at ≤ length f.now) }
+    ensures { result ≡ path_digits s d (elems_in n f.now at) }
 {
     let mut x = empty();
     let mut e = d;
@@ -147,8 +147,8 @@ fn path_digits(s: Seed, d: usize, f: &[u8], at: usize, n: usize) -> Filter
 
 // What the n elements at `at` of f have beyond the k at p of g.
 pub fn beyond(s: Seed, f: &[u8], at: usize, n: usize, g: &[u8], p: usize, k: usize) -> Filter
-    requires { Small s × (n < 256) × (elemsEnd n f.now at ≤ length f.now) × (elemsEnd k g.now p ≤ length g.now) }
-    ensures { result ≡ beyond s 0 (elemsIn n f.now at) (elemsIn k g.now p) }
+    requires { Small s × (n < 256) × (elems_end n f.now at ≤ length f.now) × (elems_end k g.now p ≤ length g.now) }
+    ensures { result ≡ beyond s 0 (elems_in n f.now at) (elems_in k g.now p) }
 {
     let mut x = empty();
     let mut d = 0;

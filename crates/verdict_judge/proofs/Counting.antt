@@ -8,65 +8,65 @@ use Rattle.text.specs.Test.{if◌then◌else◌, only}
 use Rattle.text.proofs.Tests.{by}
 use Rattle.path.specs.Path.{Key}
 use Rattle.verdict.specs.Cover.{wild, given, definite}
-use Rattle.verdict.specs.Order.{oneUnless, definites}
-use Rattle.verdict.proofs.Order.{unless-small}
-use Rattle.table_place.specs.Place.{strEnd, keyEnd, keyIn, keysEnd, keysIn, keyCount, elemEnd, elemIn, elemsEnd, elemsIn}
-use Rattle.table_place.proofs.Cursor.{str-grows, keys-cons, keys-nil, elems-cons, elems-nil}
+use Rattle.verdict.specs.Order.{one_unless, definites}
+use Rattle.verdict.proofs.Order.{unless_small}
+use Rattle.table_place.specs.Place.{str_end, key_end, key_in, keys_end, keys_in, key_count, elem_end, elem_in, elems_end, elems_in}
+use Rattle.table_place.proofs.Cursor.{str_grows, keys_cons, keys_nil, elems_cons, elems_nil}
 
-given-cons : (k : Key) (ks : List Key) → length (given (k ∷ ks)) ≡ oneUnless (wild k) + length (given ks)
+given_cons : (k : Key) (ks : List Key) → length (given (k ∷ ks)) ≡ one_unless (wild k) + length (given ks)
 unfolding only if◌then◌else◌
-given-cons k ks = by (wild k) (λ e. rw e (omega arith)) (λ e. rw e (omega arith))
+given_cons k ks = by (wild k) (λ e. rw e (omega arith)) (λ e. rw e (omega arith))
 
 module _ (f : List ℕ) where
-  pub count_turn : (k q : ℕ) → 0 < k → (b c n t : ℕ) → b ≡ keyEnd f q → c ≡ oneUnless (wild (keyIn f q))
-      → t ≡ n + length (given (keysIn k f q)) → t ≡ n + c + length (given (keysIn (k - 1) f b))
+  pub count_turn : (k q : ℕ) → 0 < k → (b c n t : ℕ) → b ≡ key_end f q → c ≡ one_unless (wild (key_in f q))
+      → t ≡ n + length (given (keys_in k f q)) → t ≡ n + c + length (given (keys_in (k - 1) f b))
   count_turn k q z b c n t i j e =
-      let g : length (given (keysIn k f q)) ≡ oneUnless (wild (keyIn f q)) + length (given (keysIn (k - 1) f (keyEnd f q))) =
-      rw (keys-cons f k q z) (given-cons (keyIn f q) (keysIn (k - 1) f (keyEnd f q))) in
+      let g : length (given (keys_in k f q)) ≡ one_unless (wild (key_in f q)) + length (given (keys_in (k - 1) f (key_end f q))) =
+      rw (keys_cons f k q z) (given_cons (key_in f q) (keys_in (k - 1) f (key_end f q))) in
       rw i (omega arith)
 
-  pub count-end : (k q n t : ℕ) → k ≤ 0 → t ≡ n + length (given (keysIn k f q)) → t ≡ n
+  pub count_end : (k q n t : ℕ) → k ≤ 0 → t ≡ n + length (given (keys_in k f q)) → t ≡ n
   unfolding only
-  count-end k q n t z e =
-      let g : length (given (keysIn k f q)) ≡ 0 = rw (keys-nil f k q z) in
+  count_end k q n t z e =
+      let g : length (given (keys_in k f q)) ≡ 0 = rw (keys_nil f k q z) in
       omega arith
 
   -- a key takes more room than it counts
-  few : (k q : ℕ) → q + length (given (keysIn k f q)) ≤ keysEnd k f q
-  unfolding keysIn keysEnd
+  few : (k q : ℕ) → q + length (given (keys_in k f q)) ≤ keys_end k f q
+  unfolding keys_in keys_end
   few zero q = unfold only in omega arith
   few (suc k) q =
-      let a = few k (keyEnd f q) in
-      let b = given-cons (keyIn f q) (keysIn k f (keyEnd f q)) in
-      let d = unless-small (wild (keyIn f q)) in
-      let x = str-grows f q in
-      let y = str-grows f (strEnd f q) in
+      let a = few k (key_end f q) in
+      let b = given_cons (key_in f q) (keys_in k f (key_end f q)) in
+      let d = unless_small (wild (key_in f q)) in
+      let x = str_grows f q in
+      let y = str_grows f (str_end f q) in
       omega arith
 
-  pub few-in : (q a : ℕ) → a ≡ strEnd f q → q + length (given (keysIn (get_or f a 0) f (a + 1))) < elemEnd f q
-  unfolding elemEnd
-  few-in q a i = let x = str-grows f q in let y = few (get_or f (strEnd f q) 0) (strEnd f q + 1) in rw i (omega arith)
+  pub few_in : (q a : ℕ) → a ≡ str_end f q → q + length (given (keys_in (get_or f a 0) f (a + 1))) < elem_end f q
+  unfolding elem_end
+  few_in q a i = let x = str_grows f q in let y = few (get_or f (str_end f q) 0) (str_end f q + 1) in rw i (omega arith)
 
   -- definite keys take room
-  pub few-keys : (k q : ℕ) → q + definites (elemsIn k f q) ≤ elemsEnd k f q
-  unfolding elemsIn elemsEnd definites definite elemIn
-  few-keys zero q = omega arith
-  few-keys (suc k) q =
-      let a = few-keys k (elemEnd f q) in
-      let b = few-in q (strEnd f q) refl in
+  pub few_keys : (k q : ℕ) → q + definites (elems_in k f q) ≤ elems_end k f q
+  unfolding elems_in elems_end definites definite elem_in
+  few_keys zero q = omega arith
+  few_keys (suc k) q =
+      let a = few_keys k (elem_end f q) in
+      let b = few_in q (str_end f q) refl in
       omega arith
 
-  pub keys-turn : (k q : ℕ) → 0 < k → (a b c n t : ℕ) → a ≡ strEnd f q → b ≡ elemEnd f q → c ≡ length (given (keysIn (get_or f a 0) f (a + 1)))
-      → t ≡ n + definites (elemsIn k f q) → t ≡ n + c + definites (elemsIn (k - 1) f b)
-  unfolding definites definite elemIn
-  keys-turn k q z a b c n t i j e h =
-      let d : c ≡ length (given (keysIn (keyCount f q) f (strEnd f q + 1))) = rw (sym i) e in
-      let g : definites (elemsIn k f q) ≡ length (given (keysIn (keyCount f q) f (strEnd f q + 1))) + definites (elemsIn (k - 1) f (elemEnd f q)) =
-      rw (elems-cons f k q z) in
+  pub keys_turn : (k q : ℕ) → 0 < k → (a b c n t : ℕ) → a ≡ str_end f q → b ≡ elem_end f q → c ≡ length (given (keys_in (get_or f a 0) f (a + 1)))
+      → t ≡ n + definites (elems_in k f q) → t ≡ n + c + definites (elems_in (k - 1) f b)
+  unfolding definites definite elem_in
+  keys_turn k q z a b c n t i j e h =
+      let d : c ≡ length (given (keys_in (key_count f q) f (str_end f q + 1))) = rw (sym i) e in
+      let g : definites (elems_in k f q) ≡ length (given (keys_in (key_count f q) f (str_end f q + 1))) + definites (elems_in (k - 1) f (elem_end f q)) =
+      rw (elems_cons f k q z) in
       rw j (omega arith)
 
-  pub keys-end : (k q n t : ℕ) → k ≤ 0 → t ≡ n + definites (elemsIn k f q) → t ≡ n
+  pub keys_end_lem : (k q n t : ℕ) → k ≤ 0 → t ≡ n + definites (elems_in k f q) → t ≡ n
   unfolding definites
-  keys-end k q n t z e =
-      let g : definites (elemsIn k f q) ≡ 0 = rw (elems-nil f k q z) in
+  keys_end_lem k q n t z e =
+      let g : definites (elems_in k f q) ≡ 0 = rw (elems_nil f k q z) in
       omega arith

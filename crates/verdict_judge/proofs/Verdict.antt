@@ -11,13 +11,13 @@ use Rattle.verdict.specs.Verdict.{Request, applies, matches, decider}
 use Rattle.verdict_judge.specs.Best.{matching}
 
 -- rules that are tested alike are chosen alike
-pub choose-alike : (over : Rule → Rule → Bool) (t u : Rule → Bool) (i : ℕ) (rs : List Rule) → ((r : Rule) → r ∈ rs → t r ≡ u r)
+pub choose_alike : (over : Rule → Rule → Bool) (t u : Rule → Bool) (i : ℕ) (rs : List Rule) → ((r : Rule) → r ∈ rs → t r ≡ u r)
     → choose over t i rs ≡ choose over u i rs
 unfolding choose candidate
-choose-alike over t u i [] h = refl
-choose-alike over t u i (r ∷ rs) h = rw (h r (Memᴰ.head refl), choose-alike over t u (suc i) rs (λ s m. h s (Memᴰ.tail m)))
+choose_alike over t u i [] h = refl
+choose_alike over t u i (r ∷ rs) h = rw (h r (Memᴰ.head refl), choose_alike over t u (suc i) rs (λ s m. h s (Memᴰ.tail m)))
 
 module _ (t : Table) (q : Request) where
   pub decided : choose better (matching (applies t q) q.path) 0 t.rules ≡ decider t q
   unfolding decider matches
-  decided = choose-alike better _ _ 0 t.rules (λ r m. refl)
+  decided = choose_alike better _ _ 0 t.rules (λ r m. refl)

@@ -3,7 +3,7 @@ ghost use Rattle.std.specs.Prelude.{◌≡◌, suc, ◌≤◌, length};
 ghost use Rattle.verdict.specs.Order.{better, earlier};
 ghost use Rattle.verdict.specs.Rank.{rank};
 ghost use Rattle.verdict.specs.Verdict.{action};
-ghost use Rattle.table_rows.specs.Rules.{ruleIn, ruleEnd};
+ghost use Rattle.table_rows.specs.Rules.{rule_in, rule_end};
 ghost use Rattle.verdict_judge.specs.Rules.{Short};
 ghost use Rattle.verdict_judge.specs.Best.{held, Sound, Ranked, wins};
 
@@ -19,8 +19,8 @@ pub struct Best {
 
 // Whether the id of the rule at s comes before that of the rule at t.
 fn earlier_at(f: &[u8], s: usize, t: usize) -> bool
-    requires { (ruleEnd f.now s ≤ length f.now) × (ruleEnd f.now t ≤ length f.now) }
-    ensures { result ≡ earlier (ruleIn f.now s) (ruleIn f.now t) }
+    requires { (rule_end f.now s ≤ length f.now) × (rule_end f.now t ≤ length f.now) }
+    ensures { result ≡ earlier (rule_in f.now s) (rule_in f.now t) }
 {
     let i = crate::rule::id_at(f, s);
     let j = crate::rule::id_at(f, t);
@@ -33,7 +33,7 @@ fn earlier_at(f: &[u8], s: usize, t: usize) -> bool
 
 // Whether the rule at s, of weight x, is better than the best so far. Ids are compared only where the weights are equal.
 pub fn wins_better(f: &[u8], s: usize, x: usize, b: Best) -> bool
-    requires { (ruleEnd f.now s ≤ length f.now) × (x ≡ suc (rank (ruleIn f.now s))) × Ranked f.now b × Short f.now }
+    requires { (rule_end f.now s ≤ length f.now) × (x ≡ suc (rank (rule_in f.now s))) × Ranked f.now b × Short f.now }
     ensures { result ≡ wins better f.now s b }
 {
     let w = b.weight;
@@ -45,7 +45,7 @@ pub fn wins_better(f: &[u8], s: usize, x: usize, b: Best) -> bool
 
 // Whether the id of the rule at s comes before that of the best so far.
 pub fn wins_earlier(f: &[u8], s: usize, b: Best) -> bool
-    requires { (ruleEnd f.now s ≤ length f.now) × Sound f.now b }
+    requires { (rule_end f.now s ≤ length f.now) × Sound f.now b }
     ensures { result ≡ wins earlier f.now s b }
 {
     if b.weight == 0 {

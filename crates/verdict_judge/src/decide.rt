@@ -1,7 +1,7 @@
 // The deciding rule for a path.
 ghost use Rattle.std.specs.Prelude.{◌≤◌, length};
-ghost use Rattle.table_place.specs.Place.{elemsEnd, elemsIn};
-ghost use Rattle.table_rows.specs.Rules.{ruleEnd};
+ghost use Rattle.table_place.specs.Place.{elems_end, elems_in};
+ghost use Rattle.table_rows.specs.Rules.{rule_end};
 ghost use Rattle.verdict_judge.specs.Rules.{Short};
 ghost use Rattle.verdict_judge.specs.Best.{Ranked, Taken, Asked, BestMarked};
 
@@ -19,8 +19,8 @@ fn take_match(
     p: usize,
     k: usize,
 ) -> Best
-    requires { (ruleEnd f.now s ≤ length f.now) × Ranked f.now b × (elemsEnd k g.now p ≤ length g.now) × Short f.now }
-    ensures { Taken f.now b i.0 s mark (elemsIn k g.now p) result }
+    requires { (rule_end f.now s ≤ length f.now) × Ranked f.now b × (elems_end k g.now p ≤ length g.now) × Short f.now }
+    ensures { Taken f.now b i.0 s mark (elems_in k g.now p) result }
 {
     if mark != 1 {
         return b;
@@ -44,7 +44,7 @@ fn take_match(
 // The deciding rule for the k elements at p of g, of those n rules that `on` marks: they concern the request.
 pub fn decide(f: &[u8], starts: &[u16], on: &[u8], n: usize, g: &[u8], p: usize, k: usize) -> Best
     requires { Asked f.now starts.now on.now n g.now p k }
-    ensures { BestMarked f.now starts.now on.now n (elemsIn k g.now p) result }
+    ensures { BestMarked f.now starts.now on.now n (elems_in k g.now p) result }
 {
     let mut b = Best {
         weight: 0,

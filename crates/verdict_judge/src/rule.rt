@@ -1,16 +1,16 @@
 // The parts of a rule, and its rank.
 ghost use Rattle.std.specs.Prelude.{◌≡◌, ◌≤◌, length};
 ghost use Rattle.verdict.specs.Cover.{wild, given};
-ghost use Rattle.verdict.specs.Order.{oneUnless, definites};
+ghost use Rattle.verdict.specs.Order.{one_unless, definites};
 ghost use Rattle.verdict.specs.Rank.{rank};
-ghost use Rattle.table_place.specs.Place.{keyEnd, keyIn, keysEnd, keysIn, elemsEnd, elemsIn};
-ghost use Rattle.table_rows.specs.Rules.{id_at, pathAt, ruleIn, ruleEnd};
+ghost use Rattle.table_place.specs.Place.{key_end, key_in, keys_end, keys_in, elems_end, elems_in};
+ghost use Rattle.table_rows.specs.Rules.{id_at, path_at, rule_in, rule_end};
 ghost use Rattle.verdict_judge.specs.Rules.{Short};
 
 // 1 for a definite key, 0 for a wildcard.
 fn count_key(f: &[u8], at: usize) -> usize
-    requires { keyEnd f.now at ≤ length f.now }
-    ensures { result ≡ oneUnless (wild (keyIn f.now at)) }
+    requires { key_end f.now at ≤ length f.now }
+    ensures { result ≡ one_unless (wild (key_in f.now at)) }
 {
     if verdict_compare::key::is_star(f, table_place::str_end(f, at)) {
         return 0;
@@ -20,8 +20,8 @@ fn count_key(f: &[u8], at: usize) -> usize
 
 // How many of k keys are definite.
 fn count_given(f: &[u8], at: usize, k: usize) -> usize
-    requires { keysEnd k f.now at ≤ length f.now }
-    ensures { result ≡ length (given (keysIn k f.now at)) }
+    requires { keys_end k f.now at ≤ length f.now }
+    ensures { result ≡ length (given (keys_in k f.now at)) }
 {
     let mut n = 0;
     let mut q = at;
@@ -36,8 +36,8 @@ fn count_given(f: &[u8], at: usize, k: usize) -> usize
 
 // How many definite keys k elements have.
 pub fn count_keys(f: &[u8], at: usize, k: usize) -> usize
-    requires { elemsEnd k f.now at ≤ length f.now }
-    ensures { result ≡ definites (elemsIn k f.now at) }
+    requires { elems_end k f.now at ≤ length f.now }
+    ensures { result ≡ definites (elems_in k f.now at) }
 {
     let mut n = 0;
     let mut q = at;
@@ -54,7 +54,7 @@ pub fn count_keys(f: &[u8], at: usize, k: usize) -> usize
 
 // Where the id of the rule at `at` stands.
 pub fn id_at(f: &[u8], at: usize) -> usize
-    requires { ruleEnd f.now at ≤ length f.now }
+    requires { rule_end f.now at ≤ length f.now }
     ensures { result ≡ id_at f.now at }
 {
     table_place::str_end(f, at + table::RULE_SUBJECT)
@@ -62,16 +62,16 @@ pub fn id_at(f: &[u8], at: usize) -> usize
 
 // Where the path of the rule at `at` stands.
 pub fn path_at(f: &[u8], at: usize) -> usize
-    requires { ruleEnd f.now at ≤ length f.now }
-    ensures { result ≡ pathAt f.now at }
+    requires { rule_end f.now at ≤ length f.now }
+    ensures { result ≡ path_at f.now at }
 {
     table_place::str_end(f, table_place::str_end(f, id_at(f, at)))
 }
 
 // The rank of the rule at `at`, whose path is at a.
 pub fn rank_at(f: &[u8], at: usize, a: usize) -> usize
-    requires { (ruleEnd f.now at ≤ length f.now) × (a ≡ pathAt f.now at) × Short f.now }
-    ensures { result ≡ rank (ruleIn f.now at) }
+    requires { (rule_end f.now at ≤ length f.now) × (a ≡ path_at f.now at) × Short f.now }
+    ensures { result ≡ rank (rule_in f.now at) }
 {
     let n = f[a] as usize;
     let k = count_keys(f, a + 1, n);

@@ -9,11 +9,11 @@ use lib.ListN.{length, length-append}
 use Rattle.text.specs.String.{Str, joined}
 
 module _ {A : Type 0} where
-  pub perm-length : {xs ys : List A} → Permᴰ xs ys → length xs ≡ length ys
-  perm-length Permᴰ.nil = refl
-  perm-length (Permᴰ.cons e d) = ap suc (perm-length d)
-  perm-length (Permᴰ.swap e f) = refl
-  perm-length (Permᴰ.trans d e) = perm-length d ∙ perm-length e
+  pub perm_length : {xs ys : List A} → Permᴰ xs ys → length xs ≡ length ys
+  perm_length Permᴰ.nil = refl
+  perm_length (Permᴰ.cons e d) = ap suc (perm_length d)
+  perm_length (Permᴰ.swap e f) = refl
+  perm_length (Permᴰ.trans d e) = perm_length d ∙ perm_length e
 
   module _ {B : Type 0} (f : A → Option B) where
     -- one more, if there is one
@@ -34,22 +34,22 @@ module _ {A : Type 0} where
     change (some a) (some b) xs = Permᴰ.swap refl refl
 
     -- what f finds in the one, it finds in the other
-    pub perm-filterMap : {xs ys : List A} → Permᴰ xs ys → Permᴰ (filter_map f xs) (filter_map f ys)
+    pub perm_filter_map : {xs ys : List A} → Permᴰ xs ys → Permᴰ (filter_map f xs) (filter_map f ys)
     unfolding filter_map
-    perm-filterMap Permᴰ.nil = Permᴰ.nil
-    perm-filterMap (Permᴰ.cons {a} {b} {l₁ = xs} {l₂ = ys} e d) = onto (f a) (f b) (filter_map f xs) (filter_map f ys) (ap f e) (perm-filterMap d)
-    perm-filterMap (Permᴰ.swap {a} {b} {a'} {b'} {l} e g) =
+    perm_filter_map Permᴰ.nil = Permᴰ.nil
+    perm_filter_map (Permᴰ.cons {a} {b} {l₁ = xs} {l₂ = ys} e d) = onto (f a) (f b) (filter_map f xs) (filter_map f ys) (ap f e) (perm_filter_map d)
+    perm_filter_map (Permᴰ.swap {a} {b} {a'} {b'} {l} e g) =
         Permᴰ.trans (change (f a) (f b) (filter_map f l))
         (onto (f b) (f a') (maybe (f a) (filter_map f l)) (maybe (f b') (filter_map f l)) (ap f g) (onto (f a) (f b') (filter_map f l) (filter_map f l) (ap f e) (Permᴰ.refl (filter_map f l))))
-    perm-filterMap (Permᴰ.trans d e) = Permᴰ.trans (perm-filterMap d) (perm-filterMap e)
+    perm_filter_map (Permᴰ.trans d e) = Permᴰ.trans (perm_filter_map d) (perm_filter_map e)
 
 -- lines in another order are as long together
-pub perm-joined : {xs ys : List Str} → Permᴰ xs ys → length (joined (λ (s : Str). s) xs) ≡ length (joined (λ (s : Str). s) ys)
+pub perm_joined : {xs ys : List Str} → Permᴰ xs ys → length (joined (λ (s : Str). s) xs) ≡ length (joined (λ (s : Str). s) ys)
 unfolding joined
-perm-joined Permᴰ.nil = refl
-perm-joined (Permᴰ.cons {a} {b} {l₁ = xs} {l₂ = ys} e d) =
-    omega (arith, length-append a (joined (λ (s : Str). s) xs), length-append b (joined (λ (s : Str). s) ys), ap length e, perm-joined d)
-perm-joined (Permᴰ.swap {a} {b} {a'} {b'} {l} e f) =
+perm_joined Permᴰ.nil = refl
+perm_joined (Permᴰ.cons {a} {b} {l₁ = xs} {l₂ = ys} e d) =
+    omega (arith, length-append a (joined (λ (s : Str). s) xs), length-append b (joined (λ (s : Str). s) ys), ap length e, perm_joined d)
+perm_joined (Permᴰ.swap {a} {b} {a'} {b'} {l} e f) =
     omega (
       arith,
       length-append a (b ++ joined (λ (s : Str). s) l),
@@ -59,4 +59,4 @@ perm-joined (Permᴰ.swap {a} {b} {a'} {b'} {l} e f) =
       ap length e,
       ap length f,
     )
-perm-joined (Permᴰ.trans d e) = perm-joined d ∙ perm-joined e
+perm_joined (Permᴰ.trans d e) = perm_joined d ∙ perm_joined e

@@ -6,11 +6,11 @@ use Rattle.text.specs.Test.{◌and◌}
 use Rattle.text.specs.String.{Str}
 use Rattle.table_line.specs.Lines.{lines}
 use Rattle.table.specs.Frame.{Entry}
-use Rattle.table.specs.Refusal.{Line, notHex, unreadable, reads, line_of, kind_of}
+use Rattle.table.specs.Refusal.{Line, not_hex, unreadable, reads, line_of, kind_of}
 
 -- what a line holds
 unfoldable pub read : Line → Option Entry
-read notHex = none
+read not_hex = none
 read unreadable = none
 read (reads e) = some e
 

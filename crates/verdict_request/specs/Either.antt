@@ -12,13 +12,13 @@ unfoldable pub one_of : Bool → PathAnswer → TreeAnswer → Verdict
 one_of whole p t = if whole then Tree t else Path p
 
 -- a refusal
-unfoldable pub refusedAs : Bool → ℕ → ℕ → Verdict
-refusedAs whole number line = one_of whole (path.Refused number line) (trees.Refused number line)
+unfoldable pub refused_as : Bool → ℕ → ℕ → Verdict
+refused_as whole number line = one_of whole (path.Refused number line) (trees.Refused number line)
 
 -- each call takes its own case out of the answer
-unfoldable pub pathOf : Verdict → PathAnswer
-pathOf (Path p) = p
-pathOf (Tree t) = path.Default
+unfoldable pub path_of : Verdict → PathAnswer
+path_of (Path p) = p
+path_of (Tree t) = path.Default
 
 unfoldable pub tree_of : Verdict → TreeAnswer
 tree_of (Path p) = trees.None

@@ -2,8 +2,8 @@
 ghost use Rattle.std.specs.Prelude.{◌≡◌};
 ghost use Rattle.verdict.specs.Verdict.{answer};
 ghost use Rattle.verdict_judge.specs.Best.{held, Sound};
-ghost use Rattle.verdict_request.specs.Calls.{decidedBy, spread};
-ghost use Rattle.verdict_request.specs.Either.{refusedAs, pathOf, tree_of};
+ghost use Rattle.verdict_request.specs.Calls.{decided_by, spread};
+ghost use Rattle.verdict_request.specs.Either.{refused_as, path_of, tree_of};
 
 use crate::{PathAnswer, TreeAnswer, Verdict};
 use verdict_judge::best::Best;
@@ -11,7 +11,7 @@ use verdict_judge::best::Best;
 // The answer that the deciding rule gives.
 pub fn decided(f: &[u8], b: Best) -> PathAnswer
     requires { Sound f.now b }
-    ensures { result ≡ decidedBy (held f.now b) }
+    ensures { result ≡ decided_by (held f.now b) }
 {
     if b.weight == 0 {
         return PathAnswer::Default;
@@ -39,7 +39,7 @@ pub fn spread_of(f: &[u8], v: bool, b: Best) -> TreeAnswer
 
 // A refusal: of the tree call where `whole` holds, else of the path call.
 pub fn refused(number: u8, line: usize, whole: bool) -> Verdict
-    ensures { result ≡ refusedAs whole number line }
+    ensures { result ≡ refused_as whole number line }
 {
     if whole {
         let t = TreeAnswer::Refused {
@@ -57,7 +57,7 @@ pub fn refused(number: u8, line: usize, whole: bool) -> Verdict
 
 // The answer of the path call; `Default` stands for the other case, which it never gets.
 pub fn path_of(v: Verdict) -> PathAnswer
-    ensures { result ≡ pathOf v }
+    ensures { result ≡ path_of v }
 {
     let Verdict::Path(a) = v else {
         return PathAnswer::Default;

@@ -1,16 +1,16 @@
 // What refuses a request, apart from its path text.
 ghost use Rattle.std.specs.Prelude.{◌≡◌};
 ghost use Rattle.text.specs.Refusal.{clear};
-ghost use Rattle.verdict_request.specs.Calls.{badMode, badOrigin, refusalOr};
+ghost use Rattle.verdict_request.specs.Calls.{bad_mode, bad_origin, refusal_or};
 
 fn is_bad_mode(mode: u32) -> bool
-    ensures { result ≡ badMode mode }
+    ensures { result ≡ bad_mode mode }
 {
     !((mode == 1) | (mode == 2))
 }
 
 fn is_bad_origin(origin: &[u8]) -> bool
-    ensures { result ≡ badOrigin origin.now }
+    ensures { result ≡ bad_origin origin.now }
 {
     if limits::MAX_SHORT_STRING < origin.len() {
         return true;
@@ -20,7 +20,7 @@ fn is_bad_origin(origin: &[u8]) -> bool
 
 // 20 or 21, or `CLEAR` where neither holds.
 pub fn number(user: &[u8], mode: u32, origin: &[u8]) -> u8
-    ensures { result ≡ refusalOr clear user.now mode origin.now }
+    ensures { result ≡ refusal_or clear user.now mode origin.now }
 {
     if table::is_bad_user(user) {
         return 20;

@@ -7,12 +7,12 @@ use Prim.Native.Nat.{ℕ, ◌+◌, ◌/◌, ◌%◌, ◌≤◌, ◌<◌}
 use native.Mathlib.Decide.{dec_lt}
 use native.Mathlib.Omega.{arith}
 use lib.ListN.{get_or}
-use Rattle.limits.specs.Limits.{maxRules}
+use Rattle.limits.specs.Limits.{max_rules}
 use Rattle.text.proofs.Tests.{clash}
 use Rattle.path.specs.Path.{Path}
-use Rattle.verdict.specs.Pair.{coversBoth}
-use Rattle.table_place.specs.Place.{pathIn}
-use Rattle.verdict_tree.specs.Tree.{Packed, topWeight, Fits, Below, Heaviest}
+use Rattle.verdict.specs.Pair.{covers_both}
+use Rattle.table_place.specs.Place.{path_in}
+use Rattle.verdict_tree.specs.Tree.{Packed, top_weight, Fits, Below, Heaviest}
 
 -- ---- the greatest below a limit
 
@@ -20,9 +20,9 @@ module _ (weights : List ℕ) (limit : ℕ) where
   pub below_none : Below weights 0 limit 0
   below_none = record { top = λ j l. absurd (omega arith); there = λ z. absurd (omega arith); less = λ z. absurd (omega arith) }
 
-  pub below-turn : (i x r : ℕ) → Below weights i limit x → (get_or weights i 0 < limit → get_or weights i 0 ≤ r) → x ≤ r
+  pub below_turn : (i x r : ℕ) → Below weights i limit x → (get_or weights i 0 < limit → get_or weights i 0 ≤ r) → x ≤ r
       → (r ≡ x) ⊎ ((r ≡ get_or weights i 0) × (get_or weights i 0 < limit)) → Below weights (i + 1) limit r
-  below-turn i x r b h k o = record { top = top; there = there o; less = less o }
+  below_turn i x r b h k o = record { top = top; there = there o; less = less o }
     where
       top : (j : ℕ) → j < i + 1 → get_or weights j 0 < limit → get_or weights j 0 ≤ r
       top j l z = go (dec_lt j i)
@@ -51,26 +51,26 @@ module _ (weights : List ℕ) (limit : ℕ) where
 module _ (weights : List ℕ) (n : ℕ) (packed : (i : ℕ) → i < n → Packed (get_or weights i 0) i) where
   -- x is the weight of the rule whose number it has
   abbrev pub At : ℕ → Type 0
-  At x = 0 < x → (x % maxRules < n) × (get_or weights (x % maxRules) 0 ≡ x)
+  At x = 0 < x → (x % max_rules < n) × (get_or weights (x % max_rules) 0 ≡ x)
 
-  pub at-below : (limit x : ℕ) → Below weights n limit x → At x
-  at-below limit x b z =
+  pub at_below : (limit x : ℕ) → Below weights n limit x → At x
+  at_below limit x b z =
       let q = b.there z in
-      let e : x % maxRules ≡ q.0 = ap (λ (y : ℕ). y % maxRules) (sym q.2) ∙ (packed q.0 q.1).number in
+      let e : x % max_rules ≡ q.0 = ap (λ (y : ℕ). y % max_rules) (sym q.2) ∙ (packed q.0 q.1).number in
       (rw e q.1, rw e q.2)
 
   module _ (f paths : List ℕ) (p : Path) (i : ℕ) where
     abbrev covering : ℕ → Bool
-    covering j = coversBoth (pathIn f (get_or paths j 0)) (pathIn f (get_or paths i 0)) p
+    covering j = covers_both (path_in f (get_or paths j 0)) (path_in f (get_or paths i 0)) p
 
     -- none that is heavier than x covers
     abbrev pub Past : ℕ → Type 0
     Past x = (j : ℕ) → j < n → x < get_or weights j 0 → covering j ≡ false
 
-    pub past-start : (x : ℕ) → Below weights n topWeight x → Past x
-    past-start x b j l h = let q = b.top j l (packed j l).light in absurd (omega arith)
+    pub past_start : (x : ℕ) → Below weights n top_weight x → Past x
+    past_start x b j l h = let q = b.top j l (packed j l).light in absurd (omega arith)
 
-    pub past_next : (x y : ℕ) → At x → 0 < x → Past x → covering (x % maxRules) ≡ false → Below weights n (get_or weights (x % maxRules) 0) y → Past y
+    pub past_next : (x y : ℕ) → At x → 0 < x → Past x → covering (x % max_rules) ≡ false → Below weights n (get_or weights (x % max_rules) 0) y → Past y
     past_next x y a z h e b j l k = go (dec_lt (get_or weights j 0) x) (dec_lt x (get_or weights j 0))
       where
         go : Dec (get_or weights j 0 < x) → Dec (x < get_or weights j 0) → covering j ≡ false
@@ -78,13 +78,13 @@ module _ (weights : List ℕ) (n : ℕ) (packed : (i : ℕ) → i < n → Packed
         go (no m) (yes d) = h j l d
         go (no m) (no d) =
             let s : get_or weights j 0 ≡ x = omega arith in
-            let t : x % maxRules ≡ j = ap (λ (w : ℕ). w % maxRules) (sym s) ∙ (packed j l).number in
+            let t : x % max_rules ≡ j = ap (λ (w : ℕ). w % max_rules) (sym s) ∙ (packed j l).number in
             ap covering (sym t) ∙ e
 
     -- the first that covers, or the last that may
-    pub found : (d x : ℕ) → d < n → Fits (get_or weights d 0) → covering d ≡ true → x / maxRules ≤ get_or weights d 0 / maxRules → Past x → Heaviest f weights paths n p i d
-    found d x l h e k m = record { inside = l; fits = h; covering = e; unbeaten = λ j a c. go j a c (dec_lt (get_or weights d 0 / maxRules) (get_or weights j 0 / maxRules)) }
+    pub found : (d x : ℕ) → d < n → Fits (get_or weights d 0) → covering d ≡ true → x / max_rules ≤ get_or weights d 0 / max_rules → Past x → Heaviest f weights paths n p i d
+    found d x l h e k m = record { inside = l; fits = h; covering = e; unbeaten = λ j a c. go j a c (dec_lt (get_or weights d 0 / max_rules) (get_or weights j 0 / max_rules)) }
       where
-        go : (j : ℕ) → j < n → covering j ≡ true → Dec (get_or weights d 0 / maxRules < get_or weights j 0 / maxRules) → get_or weights j 0 / maxRules ≤ get_or weights d 0 / maxRules
+        go : (j : ℕ) → j < n → covering j ≡ true → Dec (get_or weights d 0 / max_rules < get_or weights j 0 / max_rules) → get_or weights j 0 / max_rules ≤ get_or weights d 0 / max_rules
         go j a c (yes q) = clash c (m j a (omega arith))
         go j a c (no q) = omega arith

@@ -1,10 +1,10 @@
 // The Bloom filters of the rules that fit.
 ghost use Rattle.std.specs.Prelude.{◌≡◌, false, ◌+◌, ◌*◌, ◌≤◌, ◌<◌, eqb, length, get_or};
 ghost use Rattle.std.specs.Int.Bits.{bit_or};
-ghost use Rattle.table_place.specs.Place.{elemsEnd, elemsIn, pathEnd, pathIn};
+ghost use Rattle.table_place.specs.Place.{elems_end, elems_in, path_end, path_in};
 ghost use Rattle.text_hash.specs.Mix.{Small};
 ghost use Rattle.verdict_filter.specs.Bloom.{unite, beyond};
-ghost use Rattle.verdict_tree.specs.Tree.{filterOf, Fits, Filters};
+ghost use Rattle.verdict_tree.specs.Tree.{filter_of, Fits, Filters};
 ghost use Rattle.verdict_tree.specs.Given.{Stored, ForFill};
 
 use table::RuleNumber;
@@ -13,8 +13,8 @@ use verdict_filter::Filter;
 
 // That of the path at a, asked only where x is the weight of a rule that fits.
 fn filter_at(s: Seed, x: usize, f: &[u8], a: usize, g: &[u8], p: usize, k: usize) -> Filter
-    requires { Small s × (pathEnd f.now a ≤ length f.now) × (elemsEnd k g.now p ≤ length g.now) }
-    ensures { Fits x → result ≡ beyond s 0 (pathIn f.now a) (elemsIn k g.now p) }
+    requires { Small s × (path_end f.now a ≤ length f.now) × (elems_end k g.now p ≤ length g.now) }
+    ensures { Fits x → result ≡ beyond s 0 (path_in f.now a) (elems_in k g.now p) }
 {
     if x < limits::MAX_RULES {
         return verdict_filter::empty();
@@ -48,7 +48,7 @@ pub fn fill(
 )
     requires { ForFill s f.now weights.now paths.now n g.now p k filters.old }
     ensures { (length filters.new ≡ length filters.old)
-        × Filters s f.now weights.now paths.now (elemsIn k g.now p) filters.new n }
+        × Filters s f.now weights.now paths.now (elems_in k g.now p) filters.new n }
 {
     let mut i = 0;
     while i < n {
@@ -75,7 +75,7 @@ fn has_within(filters: &[u64], q: usize, p: usize) -> bool
 pub fn is_within(filters: &[u64], j: RuleNumber, i: RuleNumber) -> bool
     requires { (4 * j.0 + 4 ≤ length filters.now) × (4 * i.0 + 4 ≤ length filters.now) }
     ensures { result ≡ false
-        → unite (filterOf filters.now j.0) (filterOf filters.now i.0) ≡ filterOf filters.now i.0 → ⊥ }
+        → unite (filter_of filters.now j.0) (filter_of filters.now i.0) ≡ filter_of filters.now i.0 → ⊥ }
 {
     let q = 4 * j.0 as usize;
     let p = 4 * i.0 as usize;

@@ -1,7 +1,7 @@
 // The rule that decides a joined path.
 ghost use Rattle.std.specs.Prelude.{◌≡◌, ◌<◌, get_or};
-ghost use Rattle.verdict.specs.Pair.{coversBoth};
-ghost use Rattle.table_place.specs.Place.{elemsIn, pathIn};
+ghost use Rattle.verdict.specs.Pair.{covers_both};
+ghost use Rattle.table_place.specs.Place.{elems_in, path_in};
 ghost use Rattle.verdict_tree.specs.Tree.{Fits, Prepared, Heaviest};
 ghost use Rattle.verdict_tree.specs.Given.{ForCovers};
 
@@ -20,7 +20,7 @@ fn covers_joined(
     k: usize,
 ) -> bool
     requires { ForCovers f.now a j.0 r i.0 filters.now g.now p k }
-    ensures { result ≡ coversBoth (pathIn f.now a) (pathIn f.now r) (elemsIn k g.now p) }
+    ensures { result ≡ covers_both (path_in f.now a) (path_in f.now r) (elems_in k g.now p) }
 {
     if !crate::filter::is_within(filters, j, i) {
         return false;
@@ -47,7 +47,7 @@ pub fn decide_joined(
 ) -> RuleNumber
     requires { (i.0 < n) × Fits (get_or weights.now i.0 0)
         × Prepared f.now weights.now paths.now next.now filters.now n first g.now p k }
-    ensures { Heaviest f.now weights.now paths.now n (elemsIn k g.now p) i.0 result.0 }
+    ensures { Heaviest f.now weights.now paths.now n (elems_in k g.now p) i.0 result.0 }
 {
     let own = i.0 as usize;
     let r = paths[own] as usize;

@@ -1,8 +1,8 @@
 // The opposing rule with the smallest id.
 ghost use Rattle.std.specs.Prelude.{◌≡◌, ◌≤◌, ◌<◌, length};
 ghost use Rattle.std.specs.Bool.{xor};
-ghost use Rattle.limits.specs.Limits.{maxRules};
-ghost use Rattle.table_place.specs.Place.{elemsEnd, elemsIn};
+ghost use Rattle.limits.specs.Limits.{max_rules};
+ghost use Rattle.table_place.specs.Place.{elems_end, elems_in};
 ghost use Rattle.verdict_judge.specs.Rules.{Placed};
 ghost use Rattle.verdict_judge.specs.Best.{Sound};
 ghost use Rattle.verdict_tree.specs.Given.{Weighed, ForSearch, Opposed, Witness};
@@ -41,7 +41,7 @@ fn oppose(
 ) -> Best
     requires { (i.0 < n) × Sound f.now b
         × ForSearch f.now starts.now weights.now paths.now next.now filters.now n first g.now p k }
-    ensures { Opposed f.now starts.now weights.now n (elemsIn k g.now p) v b i.0 result }
+    ensures { Opposed f.now starts.now weights.now n (elems_in k g.now p) v b i.0 result }
 {
     let own = i.0 as usize;
     if weights[own] < limits::MAX_RULES {
@@ -80,7 +80,7 @@ fn search(
     k: usize,
 ) -> Best
     requires { ForSearch f.now starts.now weights.now paths.now next.now filters.now n first g.now p k }
-    ensures { Witness f.now starts.now weights.now n (elemsIn k g.now p) v result }
+    ensures { Witness f.now starts.now weights.now n (elems_in k g.now p) v result }
 {
     let mut b = Best {
         weight: 0,
@@ -123,8 +123,8 @@ pub fn witness(
     k: usize,
 ) -> Best
     requires { Placed f.now starts.now n × Weighed f.now starts.now weights.now paths.now n
-        × (n ≤ maxRules) × (elemsEnd k g.now p ≤ length g.now) }
-    ensures { Witness f.now starts.now weights.now n (elemsIn k g.now p) v result }
+        × (n ≤ max_rules) × (elems_end k g.now p ≤ length g.now) }
+    ensures { Witness f.now starts.now weights.now n (elems_in k g.now p) v result }
 {
     let first = crate::order::below(weights, n, TOP_WEIGHT);
     let mut next = [0usize; limits::MAX_RULES];

@@ -2,20 +2,20 @@
 use borrow.Author.Rules.{rules}
 use native.Mathlib.Omega.{arith}
 use Rattle.text.specs.Test.{if◌then◌else◌}
-use Rattle.cli_explained.specs.Explained.{actionText}
+use Rattle.cli_explained.specs.Explained.{action_text}
 use Rattle.cli_explained.proofs.action.Statement.{statement}
 use Rattle.cli_explained.proofs.action.Tie as tie
 
 returns : tie.Need-returns
-unfolding actionText if◌then◌else◌
+unfolding action_text if◌then◌else◌
 returns c = let at-if1 = c.before.before.before.before.before in
     record { added = rw at-if1.if1.true c.before.before.string.ensures; short = omega (arith, c.before.before.string.ensures.wrote.ends) }
 
-returns-2 : tie.Need-returns-2
-unfolding actionText if◌then◌else◌
-returns-2 c = let at-if1 = c.before.before.before.before.before in
+returns_2 : tie.Need-returns-2
+unfolding action_text if◌then◌else◌
+returns_2 c = let at-if1 = c.before.before.before.before.before in
     record { added = rw at-if1.if1.false c.before.before.string2.ensures; short = omega (arith, c.before.before.string2.ensures.wrote.ends) }
 
 pub action_spec : {M : Type 1} → statement M
 action_spec = tie.close (tie.spec (λ c. search rules) (λ c κs. search rules) (λ c. search rules) returns
-    (λ c. search rules) (λ c κs. search rules) (λ c. search rules) returns-2)
+    (λ c. search rules) (λ c κs. search rules) (λ c. search rules) returns_2)

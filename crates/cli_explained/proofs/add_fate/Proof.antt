@@ -16,9 +16,9 @@ returns c = let at-if1 = c.before.before.before.before.before in
       short = omega (arith, c.before.before.string.ensures.wrote.ends);
     }
 
-returns-2 : tie.Need-returns-2
+returns_2 : tie.Need-returns-2
 unfolding fate if◌then◌else◌
-returns-2 c = let at-step-name = c.before.before.before.before.before.before.before in
+returns_2 c = let at-step-name = c.before.before.before.before.before.before.before in
     let at-string2 = at-step-name.before.before.before.before in let at-if1 = at-string2.before.before.before in
     record {
       added =
@@ -32,7 +32,7 @@ returns-2 c = let at-step-name = c.before.before.before.before.before.before.bef
       );
     }
 
-pub add-fate-spec : {M : Type 1} → statement M
-add-fate-spec = tie.close (tie.spec (λ c. search rules) (λ c κs. search rules) (λ c. search rules) returns
+pub add_fate_spec : {M : Type 1} → statement M
+add_fate_spec = tie.close (tie.spec (λ c. search rules) (λ c κs. search rules) (λ c. search rules) returns
     (λ c. search rules) (λ c κs. search rules) (λ c κs. search rules) (λ c. search rules) (λ c κs. search rules)
-    (λ c. search rules) returns-2)
+    (λ c. search rules) returns_2)

@@ -2,12 +2,12 @@
 use borrow.Author.Rules.{rules}
 use native.Mathlib.Omega.{arith}
 use Rattle.text_make.proofs.Adding.{◌then◌}
-use Rattle.cli_explained.specs.Explained.{rankedLine}
+use Rattle.cli_explained.specs.Explained.{ranked_line}
 use Rattle.cli_explained.proofs.line.Statement.{statement}
 use Rattle.cli_explained.proofs.line.Tie as tie
 
 returns : tie.Need-returns
-unfolding rankedLine
+unfolding ranked_line
 returns c = let at-id = c.before.before.before.before.before.before.before in
     let at-ranked = at-id.before.before.before.before in let at-standing-at2 = at-ranked.before.before.before in
     record {
@@ -17,7 +17,7 @@ returns c = let at-id = c.before.before.before.before.before.before.before in
       short = omega (arith, at-ranked.ranked.ensures.short, at-id.id.ensures.short, c.before.before.string.ensures.wrote.ends);
     }
 
-pub line-spec : {M : Type 1} → statement M
-line-spec = tie.close (tie.spec (λ c κs. search rules) (λ c κs. search rules) (λ c κs. search rules)
+pub line_spec : {M : Type 1} → statement M
+line_spec = tie.close (tie.spec (λ c κs. search rules) (λ c κs. search rules) (λ c κs. search rules)
     (λ c κs. search rules) (λ c κs. search rules) (λ c. search rules) (λ c κs. search rules) (λ c. search rules)
     returns)

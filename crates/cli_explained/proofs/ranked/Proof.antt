@@ -25,6 +25,6 @@ returns c = let at-decimal2 = c.before.before.before.before.before.before in
           );
     }
 
-pub ranked-spec : {M : Type 1} → statement M
-ranked-spec = tie.close (tie.spec (λ c κs. search rules) (λ c κs. search rules) (λ c. search rules)
+pub ranked_spec : {M : Type 1} → statement M
+ranked_spec = tie.close (tie.spec (λ c κs. search rules) (λ c κs. search rules) (λ c. search rules)
     (λ c κs. search rules) (λ c κs. search rules) (λ c. search rules) returns)

@@ -2,12 +2,12 @@
 use borrow.Author.Rules.{rules}
 use native.Mathlib.Omega.{arith}
 use Rattle.text_make.proofs.Adding.{◌then◌}
-use Rattle.cli_explained.specs.Explained.{standingText}
+use Rattle.cli_explained.specs.Explained.{standing_text}
 use Rattle.cli_explained.proofs.standing.Statement.{statement}
 use Rattle.cli_explained.proofs.standing.Tie as tie
 
 returns : tie.Need-returns
-unfolding standingText
+unfolding standing_text
 returns c = let at-decimal2 = c.before.before.before.before.before.before in
     let at-string = at-decimal2.before.before.before.before in
     let at-decimal = at-string.before.before.before.before.before in
@@ -27,6 +27,6 @@ returns c = let at-decimal2 = c.before.before.before.before.before.before in
           );
     }
 
-pub standing-spec : {M : Type 1} → statement M
-standing-spec = tie.close (tie.spec (λ c κs. search rules) (λ c κs. search rules) (λ c. search rules)
+pub standing_spec : {M : Type 1} → statement M
+standing_spec = tie.close (tie.spec (λ c κs. search rules) (λ c κs. search rules) (λ c. search rules)
     (λ c κs. search rules) (λ c κs. search rules) (λ c κs. search rules) (λ c. search rules) returns)

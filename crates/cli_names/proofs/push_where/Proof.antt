@@ -8,10 +8,10 @@ returns : tie.Need-returns
 unfolding if◌then◌else◌
 returns c = record { count = rw c.if1.true; same = rw c.if1.true }
 
-returns-2 : tie.Need-returns-2
+returns_2 : tie.Need-returns-2
 unfolding if◌then◌else◌
-returns-2 c = record { count = rw c.if1.false; same = rw c.if1.false }
+returns_2 c = record { count = rw c.if1.false; same = rw c.if1.false }
 
-pub push-where-spec : {M : Type 1} → statement M
-push-where-spec = tie.close (tie.spec (λ c. search rules) (λ c. search rules) (λ c. search rules) (λ c. search rules)
-    returns returns-2)
+pub push_where_spec : {M : Type 1} → statement M
+push_where_spec = tie.close (tie.spec (λ c. search rules) (λ c. search rules) (λ c. search rules) (λ c. search rules)
+    returns returns_2)

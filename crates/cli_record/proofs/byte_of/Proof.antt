@@ -9,5 +9,5 @@ returns : tie.Need-returns
 unfolding byte_of
 returns c = refl
 
-pub byte-of-spec : {M : Type 1} → statement M
-byte-of-spec = tie.close (tie.spec (λ c. search rules) (λ c. search rules) returns)
+pub byte_of_spec : {M : Type 1} → statement M
+byte_of_spec = tie.close (tie.spec (λ c. search rules) (λ c. search rules) returns)

@@ -1,11 +1,11 @@
 -- `to_bytes` is the definition.
 use borrow.Author.Rules.{rules}
-use Rattle.cli_record.specs.Bytes.{recordBytes, fourBytes}
+use Rattle.cli_record.specs.Bytes.{record_bytes, four_bytes}
 use Rattle.cli_record.proofs.to_bytes.Statement.{statement}
 use Rattle.cli_record.proofs.to_bytes.Tie as tie
 
 returns : tie.Need-returns
-unfolding recordBytes fourBytes
+unfolding record_bytes four_bytes
 returns c = let at-byte-of17 = c.before.before.before in let at-byte-of14 = at-byte-of17.before.before.before in
     let at-byte-of11 = at-byte-of14.before.before.before in let at-byte-of8 = at-byte-of11.before.before.before in
     let at-byte-of5 = at-byte-of8.before.before.before in let at-byte-of2 = at-byte-of5.before.before.before in
@@ -32,8 +32,8 @@ returns c = let at-byte-of17 = c.before.before.before in let at-byte-of14 = at-b
       c.byte-of20.ensures,
     )
 
-pub to-bytes-spec : {M : Type 1} → statement M
-to-bytes-spec = tie.close (tie.spec (λ c κs. search rules) (λ c κs. search rules) (λ c κs. search rules)
+pub to_bytes_spec : {M : Type 1} → statement M
+to_bytes_spec = tie.close (tie.spec (λ c κs. search rules) (λ c κs. search rules) (λ c κs. search rules)
     (λ c κs. search rules) (λ c κs. search rules) (λ c κs. search rules) (λ c κs. search rules) (λ c κs. search rules)
     (λ c κs. search rules) (λ c κs. search rules) (λ c κs. search rules) (λ c κs. search rules) (λ c κs. search rules)
     (λ c κs. search rules) (λ c κs. search rules) (λ c κs. search rules) (λ c κs. search rules) (λ c κs. search rules)

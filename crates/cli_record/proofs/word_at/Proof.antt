@@ -8,6 +8,6 @@ returns : tie.Need-returns
 unfolding number_at
 returns c = c.word.ensures
 
-pub word-at-spec : {M : Type 1} → statement M
-word-at-spec = tie.close (tie.spec (λ c. search rules) (λ c. search rules) (λ c. search rules) (λ c. search rules)
+pub word_at_spec : {M : Type 1} → statement M
+word_at_spec = tie.close (tie.spec (λ c. search rules) (λ c. search rules) (λ c. search rules) (λ c. search rules)
     (λ c. search rules) (λ c. search rules) (λ c. search rules) (λ c κs. search rules) returns)

@@ -11,6 +11,6 @@ unfolding meaning meanings key joined
 returns c =
     record { added = c.before.before.add-entry.ensures.added; short = omega (arith, c.before.before.add-entry.ensures.short) }
 
-pub add-meaning-spec : {M : Type 1} → statement M
-add-meaning-spec = tie.close (tie.spec (λ c. search rules) (λ c. search rules) (λ c. search rules) (λ c. search rules)
+pub add_meaning_spec : {M : Type 1} → statement M
+add_meaning_spec = tie.close (tie.spec (λ c. search rules) (λ c. search rules) (λ c. search rules) (λ c. search rules)
     (λ c κs. search rules) (λ c. search rules) returns)

@@ -15,7 +15,7 @@ returns c = let at-add-meaning = c.before.before.before.before.before.before.bef
     at-string.string.ensures then at-decimal.decimal.ensures.added then at-add-place.add-place.ensures.added
     then at-string2.string2.ensures then at-add-meaning.add-meaning.ensures.added then c.before.before.string3.ensures
 
-pub line-spec : {M : Type 1} → statement M
-line-spec = tie.close (tie.spec (λ c. search rules) (λ c κs. search rules) (λ c κs. search rules) (λ c κs. search rules)
+pub line_spec : {M : Type 1} → statement M
+line_spec = tie.close (tie.spec (λ c. search rules) (λ c κs. search rules) (λ c κs. search rules) (λ c κs. search rules)
     (λ c. search rules) (λ c κs. search rules) (λ c κs. search rules) (λ c. search rules) (λ c κs. search rules)
     (λ c. search rules) returns)

@@ -10,8 +10,8 @@ use Rattle.cli_report.proofs.count_file.Tie as tie
 returns : tie.Need-returns
 returns c = λ i. clash i refl
 
-make-ready-requires : tie.Need-make-ready-requires
-make-ready-requires c κs = let at-start-call = c.before.before.before.before in
+make_ready_requires : tie.Need-make-ready-requires
+make_ready_requires c κs = let at-start-call = c.before.before.before.before in
     let at-start = at-start-call.before.before.before.before.before.before.before.before.before in
     let few = at-start.requires.0.few in let rules = at-start.requires.0.rules.few in (
       (
@@ -24,18 +24,18 @@ make-ready-requires c κs = let at-start-call = c.before.before.before.before in
       (omega arith, refl, refl, omega arith, unlinked),
     )
 
-count-parts-requires : tie.Need-count-parts-requires
-count-parts-requires c κs =
+count_parts_requires : tie.Need-count-parts-requires
+count_parts_requires c κs =
     let at-make-ready = c.before.before.before.before.before.before.before.before.before.before.before.before.before.before in
     let at-hex-table = at-make-ready.before.before.before.before.before.before in
     let at-start = at-hex-table.before.before.before.before.before.before.before.before in
     (at-start.requires.0, at-make-ready.make-ready.ensures, omega arith, omega arith, at-start.requires.1, at-hex-table.hex-table.ensures)
 
-returns-2 : tie.Need-returns-2
-returns-2 c = let at-count-parts = c.before.before.before in at-count-parts.count-parts.ensures
+returns_2 : tie.Need-returns-2
+returns_2 c = let at-count-parts = c.before.before.before in at-count-parts.count-parts.ensures
 
-pub count-file-spec : {M : Type 1} → statement M
-count-file-spec = tie.close (tie.spec (λ c κs. search rules) returns (λ c κs. search rules) (λ c κs. search rules)
-    (λ c. search rules) (λ c. search rules) (λ c. search rules) (λ c. search rules) make-ready-requires
+pub count_file_spec : {M : Type 1} → statement M
+count_file_spec = tie.close (tie.spec (λ c κs. search rules) returns (λ c κs. search rules) (λ c κs. search rules)
+    (λ c. search rules) (λ c. search rules) (λ c. search rules) (λ c. search rules) make_ready_requires
     (λ c. search rules) (λ c. search rules) (λ c. search rules) (λ c. search rules) (λ c. search rules)
-    (λ c. search rules) (λ c. search rules) count-parts-requires returns-2)
+    (λ c. search rules) (λ c. search rules) count_parts_requires returns_2)

@@ -9,9 +9,9 @@ use Rattle.cli_saving.proofs.append.Tie as tie
 returns : tie.Need-returns
 returns c = (omega arith, sym (length-take-le _ _ (omega arith)))
 
-returns-2 : tie.Need-returns-2
-returns-2 c = (omega arith, sym (length-take-le _ _ (omega arith)))
+returns_2 : tie.Need-returns-2
+returns_2 c = (omega arith, sym (length-take-le _ _ (omega arith)))
 
-pub append-spec : {M : Type 1} → statement M
-append-spec = tie.close (tie.spec (λ c. search rules) (λ c κs. search rules) (λ c. search rules) (λ c. search rules)
-    returns returns-2)
+pub append_spec : {M : Type 1} → statement M
+append_spec = tie.close (tie.spec (λ c. search rules) (λ c κs. search rules) (λ c. search rules) (λ c. search rules)
+    returns returns_2)

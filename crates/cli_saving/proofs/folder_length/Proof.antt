@@ -9,15 +9,15 @@ use Rattle.cli_saving.proofs.folder_length.Statement.{statement}
 use Rattle.cli_saving.proofs.folder_length.Tie as tie
 
 -- i is within the path.
-abbrev invariant-loop : tie.invariant-loop
-invariant-loop path i₀ i = i ≤ length path
+abbrev invariant_loop : tie.invariant_loop
+invariant_loop path i₀ i = i ≤ length path
 
-abbrev decreases-loop : tie.decreases-loop
-decreases-loop path i₀ i = i
+abbrev decreases_loop : tie.decreases_loop
+decreases_loop path i₀ i = i
 
-returns : tie.Need-returns invariant-loop decreases-loop
+returns : tie.Need-returns invariant_loop decreases_loop
 returns c = (omega arith, sym (length-take-le _ _ (omega arith)))
 
-pub folder-length-spec : {M : Type 1} → statement M
-folder-length-spec = tie.close (tie.spec invariant-loop decreases-loop (λ c. search rules) (λ c. search rules) (λ c. search rules)
+pub folder_length_spec : {M : Type 1} → statement M
+folder_length_spec = tie.close (tie.spec invariant_loop decreases_loop (λ c. search rules) (λ c. search rules) (λ c. search rules)
     returns (λ c. search rules) (λ c. search rules) (λ c. search rules) (λ c. search rules))

@@ -6,13 +6,13 @@ use Rattle.cli_show.proofs.hex.Statement.{statement}
 use Rattle.cli_show.proofs.hex.Tie as tie
 
 -- i is within s
-abbrev invariant-loop : tie.invariant-loop
-invariant-loop s i₀ i = i ≤ length s
+abbrev invariant_loop : tie.invariant_loop
+invariant_loop s i₀ i = i ≤ length s
 
-abbrev decreases-loop : tie.decreases-loop
-decreases-loop s i₀ i = length s - i
+abbrev decreases_loop : tie.decreases_loop
+decreases_loop s i₀ i = length s - i
 
-pub hex-spec : {M : Type 1} → statement M
-hex-spec = tie.close (tie.spec invariant-loop decreases-loop (λ c. search rules) (λ c. search rules) (λ c κs. search rules)
+pub hex_spec : {M : Type 1} → statement M
+hex_spec = tie.close (tie.spec invariant_loop decreases_loop (λ c. search rules) (λ c. search rules) (λ c κs. search rules)
     (λ c κs. search rules) (λ c. search rules) (λ c. search rules) (λ c. search rules) (λ c. search rules)
     (λ c. search rules))

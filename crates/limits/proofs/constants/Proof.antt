@@ -5,5 +5,5 @@ use Rattle.limits.proofs.constants.Tie as tie
 returns : tie.Need-returns
 returns c = refl
 
-pub constants-spec : {M : Type 1} → statement M
-constants-spec = tie.close (tie.spec returns)
+pub constants_spec : {M : Type 1} → statement M
+constants_spec = tie.close (tie.spec returns)

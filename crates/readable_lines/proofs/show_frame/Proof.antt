@@ -1,20 +1,20 @@
 -- `show_frame` goes by the kind of text.
 use Rattle.text.specs.Test.{if◌then◌else◌}
-use Rattle.readable_lines.specs.Lines.{shownFor}
+use Rattle.readable_lines.specs.Lines.{shown_for}
 use borrow.Author.Rules.{rules}
 use Rattle.readable_lines.proofs.show_frame.Statement.{statement}
 use Rattle.readable_lines.proofs.show_frame.Tie as tie
 
 returns : tie.Need-returns
-unfolding shownFor if◌then◌else◌
+unfolding shown_for if◌then◌else◌
 returns c = let at-if1 = c.before.before.before.before in
     rw at-if1.if1.true c.before.before.show-request.ensures
 
-returns-2 : tie.Need-returns-2
-unfolding shownFor if◌then◌else◌
-returns-2 c = let at-if1 = c.before.before.before.before in
+returns_2 : tie.Need-returns-2
+unfolding shown_for if◌then◌else◌
+returns_2 c = let at-if1 = c.before.before.before.before in
     rw at-if1.if1.false c.before.before.show-frame.ensures
 
-pub show-frame-spec : {M : Type 1} → statement M
-show-frame-spec = tie.close (tie.spec (λ c κs. search rules) (λ c. search rules) returns (λ c κs. search rules)
-    (λ c. search rules) returns-2)
+pub show_frame_spec : {M : Type 1} → statement M
+show_frame_spec = tie.close (tie.spec (λ c κs. search rules) (λ c. search rules) returns (λ c κs. search rules)
+    (λ c. search rules) returns_2)

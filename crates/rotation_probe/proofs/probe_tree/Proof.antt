@@ -7,7 +7,7 @@ use Rattle.rotation_probe.proofs.probe_tree.Tie as tie
 
 returns : tie.Need-returns
 unfolding one_of tree_of if◌then◌else◌
-returns c = c.tree-of.ensures ∙ ap tree_of c.before.probe.ensures
+returns c = c.tree_of_lem.ensures ∙ ap tree_of c.before.probe.ensures
 
-pub probe-tree-spec : {M : Type 1} → statement M
-probe-tree-spec = tie.close (tie.spec (λ c κs. search rules) (λ c κs. search rules) returns)
+pub probe_tree_spec : {M : Type 1} → statement M
+probe_tree_spec = tie.close (tie.spec (λ c κs. search rules) (λ c κs. search rules) returns)

@@ -11,6 +11,6 @@ returns c = let at-at-rest = c.before.before.before in
     steps _ _ _ _ _ _ c.before.before.finalize-refusal.ensures c.before.checked.ensures
     (c.settle.ensures ∙ rw (at-at-rest.at_rest.ensures, at-at-rest.before.candidate-slot.ensures))
 
-pub finalize-spec : {M : Type 1} → statement M
-finalize-spec = tie.close (tie.spec (λ c κs. search rules) (λ c κs. search rules) (λ c κs. search rules)
+pub finalize_spec : {M : Type 1} → statement M
+finalize_spec = tie.close (tie.spec (λ c κs. search rules) (λ c κs. search rules) (λ c κs. search rules)
     (λ c κs. search rules) (λ c κs. search rules) returns)

@@ -10,10 +10,10 @@ unfolding stepped
 returns c =
     sym (ap (λ (k : Checked). stepped k c.before.before.args.r c.before.before.args.next) c.enum_told.given.1)
 
-returns-2 : tie.Need-returns-2
+returns_2 : tie.Need-returns-2
 unfolding stepped
-returns-2 c = let at-start = c.before.before.before in
+returns_2 c = let at-start = c.before.before.before in
     sym (ap (λ (k : Checked). stepped k at-start.args.r at-start.args.next) c.before.c.given.1)
 
-pub settle-spec : {M : Type 1} → statement M
-settle-spec = tie.close (tie.spec (λ c. search rules) (λ c. search rules) returns returns-2)
+pub settle_spec : {M : Type 1} → statement M
+settle_spec = tie.close (tie.spec (λ c. search rules) (λ c. search rules) returns returns_2)

@@ -1,13 +1,13 @@
 use borrow.Author.Rules.{rules}
-use Rattle.rotation_step.proofs.Steps.{start-off, start-on}
+use Rattle.rotation_step.proofs.Steps.{start_off, start_on}
 use Rattle.rotation_step.proofs.start_refusal.Statement.{statement}
 use Rattle.rotation_step.proofs.start_refusal.Tie as tie
 
 returns : tie.Need-returns
-returns c = start-off _ _ _ c.before.if1.true c.refusal.ensures
+returns c = start_off _ _ _ c.before.if1.true c.refusal.ensures
 
-returns-2 : tie.Need-returns-2
-returns-2 c = start-on _ _ _ c.before.if1.false c.refusal2.ensures
+returns_2 : tie.Need-returns-2
+returns_2 c = start_on _ _ _ c.before.if1.false c.refusal2.ensures
 
-pub start-refusal-spec : {M : Type 1} → statement M
-start-refusal-spec = tie.close (tie.spec (λ c κs. search rules) returns (λ c κs. search rules) returns-2)
+pub start_refusal_spec : {M : Type 1} → statement M
+start_refusal_spec = tie.close (tie.spec (λ c κs. search rules) returns (λ c κs. search rules) returns_2)

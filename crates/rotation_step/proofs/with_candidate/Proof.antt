@@ -7,5 +7,5 @@ returns : tie.Need-returns
 unfolding uploaded
 returns c = refl
 
-pub with-candidate-spec : {M : Type 1} → statement M
-with-candidate-spec = tie.close (tie.spec returns)
+pub with_candidate_spec : {M : Type 1} → statement M
+with_candidate_spec = tie.close (tie.spec returns)

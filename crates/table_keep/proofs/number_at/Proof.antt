@@ -6,21 +6,21 @@ use Rattle.table_keep.proofs.number_at.Statement.{statement}
 use Rattle.table_keep.proofs.number_at.Tie as tie
 
 -- `low` is at most `high`, which stays within the groups
-abbrev invariant-loop : tie.invariant-loop
-invariant-loop groups count start low₀ high₀ low high = (low ≤ high) × (high ≤ count)
+abbrev invariant_loop : tie.invariant_loop
+invariant_loop groups count start low₀ high₀ low high = (low ≤ high) × (high ≤ count)
 
-abbrev decreases-loop : tie.decreases-loop
-decreases-loop groups count start low₀ high₀ low high = high - low
+abbrev decreases_loop : tie.decreases_loop
+decreases_loop groups count start low₀ high₀ low high = high - low
 
-cast-if1 : tie.Need-overflow-cast-if1 invariant-loop decreases-loop
-cast-if1 c =
+cast_if1 : tie.Need-overflow-cast-if1 invariant_loop decreases_loop
+cast_if1 c =
     omega (arith, c.shared-slice-known.given (c.before.before.loop.low + (c.before.before.loop.high - c.before.before.loop.low) / 2))
 
-add-if1 : tie.Need-overflow-add-if1 invariant-loop decreases-loop
-add-if1 c =
+add_if1 : tie.Need-overflow-add-if1 invariant_loop decreases_loop
+add_if1 c =
     omega (arith, c.shared-slice-known.given (c.before.before.loop.low + (c.before.before.loop.high - c.before.before.loop.low) / 2))
 
-pub number-at-spec : {M : Type 1} → statement M
-number-at-spec = tie.close (tie.spec invariant-loop decreases-loop (λ c. search rules) (λ c. search rules) (λ c. search rules)
-    (λ c. search rules) (λ c. search rules) cast-if1 add-if1 (λ c. search rules) (λ c. search rules) (λ c. search rules)
+pub number_at_spec : {M : Type 1} → statement M
+number_at_spec = tie.close (tie.spec invariant_loop decreases_loop (λ c. search rules) (λ c. search rules) (λ c. search rules)
+    (λ c. search rules) (λ c. search rules) cast_if1 add_if1 (λ c. search rules) (λ c. search rules) (λ c. search rules)
     (λ c. search rules) (λ c. search rules) (λ c. search rules) (λ c. search rules))

@@ -8,9 +8,9 @@ returns : tie.Need-returns
 unfolding if◌then◌else◌
 returns c = rw c.before.if1.true c.number_of_lem.ensures
 
-returns-2 : tie.Need-returns-2
+returns_2 : tie.Need-returns-2
 unfolding if◌then◌else◌
-returns-2 c = rw c.if1.false
+returns_2 c = rw c.if1.false
 
-pub holder-of-spec : {M : Type 1} → statement M
-holder-of-spec = tie.close (tie.spec (λ c κs. search rules) returns returns-2)
+pub holder_of_spec : {M : Type 1} → statement M
+holder_of_spec = tie.close (tie.spec (λ c κs. search rules) returns returns_2)

@@ -10,5 +10,5 @@ use Rattle.table_membership.proofs.has.Tie as tie
 returns : tie.Need-returns
 returns c = ap (λ (y : ℕ). eqb y 1) (and_mask (c.args.set / 2 ^ c.args.g.0) 1)
 
-pub has-spec : {M : Type 1} → statement M
-has-spec = tie.close (tie.spec (λ c. search rules) (λ c. search rules) returns)
+pub has_spec : {M : Type 1} → statement M
+has_spec = tie.close (tie.spec (λ c. search rules) (λ c. search rules) returns)

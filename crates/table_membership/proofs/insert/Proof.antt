@@ -9,5 +9,5 @@ use Rattle.table_membership.proofs.insert.Tie as tie
 returns : tie.Need-returns
 returns c = ap (bit_or c.args.set) (shifted_one _ c.requires)
 
-pub insert-spec : {M : Type 1} → statement M
-insert-spec = tie.close (tie.spec (λ c. search rules) (λ c. search rules) returns)
+pub insert_spec : {M : Type 1} → statement M
+insert_spec = tie.close (tie.spec (λ c. search rules) (λ c. search rules) returns)

@@ -6,8 +6,8 @@ use Rattle.text_make.proofs.Adding.{◌then◌}
 use Rattle.text_make.proofs.fact.Statement.{statement}
 use Rattle.text_make.proofs.fact.Tie as tie
 
-string-requires-2 : tie.Need-string-requires-2
-string-requires-2 c κs = omega arith
+string_requires_2 : tie.Need-string-requires-2
+string_requires_2 c κs = omega arith
 
 returns : tie.Need-returns
 unfolding fact
@@ -19,6 +19,6 @@ returns c = let at-decimal = c.before.before.before.before.before.before.before 
       short = omega (arith, c.before.before.string2.ensures.wrote.ends, at-decimal.decimal.ensures.short);
     }
 
-pub fact-spec : {M : Type 1} → statement M
-fact-spec = tie.close (tie.spec (λ c κs. search rules) (λ c κs. search rules) (λ c. search rules) string-requires-2
+pub fact_spec : {M : Type 1} → statement M
+fact_spec = tie.close (tie.spec (λ c κs. search rules) (λ c κs. search rules) (λ c. search rules) string_requires_2
     (λ c. search rules) returns)

@@ -11,16 +11,16 @@ use Rattle.text_search.proofs.find.Statement.{statement}
 use Rattle.text_search.proofs.find.Tie as tie
 
 -- No byte from `at` up to i is b, so the search goes on from i as from `at`.
-abbrev invariant-loop : tie.invariant-loop
-invariant-loop text at b i₀ i = (at ≤ i) × (i ≤ length text) × (at + until (is b) (drop at text) ≡ i + until (is b) (drop i text))
+abbrev invariant_loop : tie.invariant_loop
+invariant_loop text at b i₀ i = (at ≤ i) × (i ≤ length text) × (at + until (is b) (drop at text) ≡ i + until (is b) (drop i text))
 
-abbrev decreases-loop : tie.decreases-loop
-decreases-loop text at b i₀ i = length text - i
+abbrev decreases_loop : tie.decreases_loop
+decreases_loop text at b i₀ i = length text - i
 
-loop-holds : tie.Need-loop-init invariant-loop decreases-loop
-loop-holds c = (search rules, c.requires, refl)
+loop_holds : tie.Need-loop-init invariant_loop decreases_loop
+loop_holds c = (search rules, c.requires, refl)
 
-returns : tie.Need-returns invariant-loop decreases-loop
+returns : tie.Need-returns invariant_loop decreases_loop
 returns c = let at-loop = c.before.before.before in
     omega (
       arith,
@@ -29,8 +29,8 @@ returns c = let at-loop = c.before.before.before in
       at-loop.loop.invariant.2,
     )
 
-loop-again : tie.Need-loop-preserved invariant-loop decreases-loop
-loop-again c = let at-loop = c.before.before.before in (
+loop_again : tie.Need-loop-preserved invariant_loop decreases_loop
+loop_again c = let at-loop = c.before.before.before in (
   omega arith,
   omega arith,
   omega (
@@ -41,8 +41,8 @@ loop-again c = let at-loop = c.before.before.before in (
   ),
 )
 
-returns-2 : tie.Need-returns-2 invariant-loop decreases-loop
-returns-2 c =
+returns_2 : tie.Need-returns-2 invariant_loop decreases_loop
+returns_2 c =
     omega (
       arith,
       ran_out (is c.before.before.args.b) c.before.before.args.text.now c.before.loop.i c.loop-test.false,
@@ -50,5 +50,5 @@ returns-2 c =
     )
 
 pub find_spec : {M : Type 1} → statement M
-find_spec = tie.close (tie.spec invariant-loop decreases-loop loop-holds (λ c. search rules) returns (λ c. search rules)
-    (λ c. search rules) loop-again returns-2)
+find_spec = tie.close (tie.spec invariant_loop decreases_loop loop_holds (λ c. search rules) returns (λ c. search rules)
+    (λ c. search rules) loop_again returns_2)

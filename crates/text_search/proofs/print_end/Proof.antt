@@ -6,31 +6,31 @@ use mathlib.Core.Path.{◌≡◌, refl, sym, ◌∙◌}
 use Prim.Native.Nat.{◌+◌, ◌-◌, ◌≤◌}
 use lib.ListN.{length, drop}
 use Rattle.text_search.specs.Search.{until, unprinted}
-use Rattle.text_search.proofs.Searching.{found, passed, ran_out, printed, unprinted-is}
+use Rattle.text_search.proofs.Searching.{found, passed, ran_out, printed, unprinted_is}
 use Rattle.text_search.proofs.print_end.Statement.{statement}
 use Rattle.text_search.proofs.print_end.Tie as tie
 
 -- No byte from `at` up to i fails to print, so the search goes on from i as from `at`.
-abbrev invariant-loop : tie.invariant-loop
-invariant-loop text at i₀ i = (at ≤ i) × (i ≤ length text) × (at + until unprinted (drop at text) ≡ i + until unprinted (drop i text))
+abbrev invariant_loop : tie.invariant_loop
+invariant_loop text at i₀ i = (at ≤ i) × (i ≤ length text) × (at + until unprinted (drop at text) ≡ i + until unprinted (drop i text))
 
-abbrev decreases-loop : tie.decreases-loop
-decreases-loop text at i₀ i = length text - i
+abbrev decreases_loop : tie.decreases_loop
+decreases_loop text at i₀ i = length text - i
 
-loop-holds : tie.Need-loop-init invariant-loop decreases-loop
-loop-holds c = (search rules, c.before.requires, refl)
+loop_holds : tie.Need-loop-init invariant_loop decreases_loop
+loop_holds c = (search rules, c.before.requires, refl)
 
-returns : tie.Need-returns invariant-loop decreases-loop
+returns : tie.Need-returns invariant_loop decreases_loop
 returns c = let at-loop-test = c.before.before.before in let at-start = at-loop-test.before.before.before in
     omega (
       arith,
       found unprinted at-start.args.text.now at-loop-test.before.loop.i at-loop-test.loop-test.true
-          (unprinted-is _ (sym c.before.is-print.ensures ∙ not-true _ c.if1.true)),
+          (unprinted_is _ (sym c.before.is-print.ensures ∙ not-true _ c.if1.true)),
       at-loop-test.before.loop.invariant.2,
     )
 
-loop-again : tie.Need-loop-preserved invariant-loop decreases-loop
-loop-again c = let at-loop-test = c.before.before.before in let at-start = at-loop-test.before.before.before in (
+loop_again : tie.Need-loop-preserved invariant_loop decreases_loop
+loop_again c = let at-loop-test = c.before.before.before in let at-start = at-loop-test.before.before.before in (
   omega arith,
   omega arith,
   omega (
@@ -41,10 +41,10 @@ loop-again c = let at-loop-test = c.before.before.before in let at-start = at-lo
   ),
 )
 
-returns-2 : tie.Need-returns-2 invariant-loop decreases-loop
-returns-2 c = let at-start = c.before.before.before in
+returns_2 : tie.Need-returns-2 invariant_loop decreases_loop
+returns_2 c = let at-start = c.before.before.before in
     omega (arith, ran_out unprinted at-start.args.text.now c.before.loop.i c.loop-test.false, c.before.loop.invariant.2)
 
-pub print-end-spec : {M : Type 1} → statement M
-print-end-spec = tie.close (tie.spec invariant-loop decreases-loop loop-holds (λ c. search rules) (λ c κs. search rules) returns
-    (λ c. search rules) (λ c. search rules) loop-again returns-2)
+pub print_end_spec : {M : Type 1} → statement M
+print_end_spec = tie.close (tie.spec invariant_loop decreases_loop loop_holds (λ c. search rules) (λ c κs. search rules) returns
+    (λ c. search rules) (λ c. search rules) loop_again returns_2)

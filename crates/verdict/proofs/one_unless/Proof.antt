@@ -6,9 +6,9 @@ returns : tie.Need-returns
 unfolding if◌then◌else◌
 returns c = rw c.if1.true
 
-returns-2 : tie.Need-returns-2
+returns_2 : tie.Need-returns-2
 unfolding if◌then◌else◌
-returns-2 c = rw c.if1.false
+returns_2 c = rw c.if1.false
 
-pub one-unless-spec : {M : Type 1} → statement M
-one-unless-spec = tie.close (tie.spec returns returns-2)
+pub one_unless_spec : {M : Type 1} → statement M
+one_unless_spec = tie.close (tie.spec returns returns_2)

@@ -6,6 +6,6 @@ use Rattle.verdict_filter.proofs.digits.Tie as tie
 returns : tie.Need-returns
 returns c = digits_are _
 
-pub digits-spec : {M : Type 1} → statement M
-digits-spec = tie.close (tie.spec (λ c. search rules) (λ c. search rules) (λ c. search rules) (λ c. search rules)
+pub digits_spec : {M : Type 1} → statement M
+digits_spec = tie.close (tie.spec (λ c. search rules) (λ c. search rules) (λ c. search rules) (λ c. search rules)
     returns)

@@ -7,5 +7,5 @@ returns : tie.Need-returns
 unfolding unite
 returns c = refl
 
-pub unite-spec : {M : Type 1} → statement M
-unite-spec = tie.close (tie.spec returns)
+pub unite_spec : {M : Type 1} → statement M
+unite_spec = tie.close (tie.spec returns)

@@ -1,7 +1,7 @@
 -- The word of what `probe_path` answers.
 use borrow.Author.Rules.{rules}
 use mathlib.Core.Path.{ap, ◌∙◌}
-use Rattle.burgee.specs.Word.{pathWord}
+use Rattle.burgee.specs.Word.{path_word}
 use Rattle.burgee.specs.Calls.{outcome}
 use Rattle.burgee.proofs.probes.burgee_probe_path.Statement.{statement}
 use Rattle.burgee.proofs.probes.burgee_probe_path.Tie as tie
@@ -9,9 +9,9 @@ use Rattle.burgee.proofs.probes.burgee_probe_path.Tie as tie
 returns : tie.Need-returns
 unfolding outcome
 returns c =
-    let told = rw c.before.before.record_of.ensures at c.before.probe-path.ensures in
-    c.of-path.ensures ∙ ap pathWord told
+    let told = rw c.before.before.record_of.ensures at c.before.probe_path_lem.ensures in
+    c.of_path.ensures ∙ ap path_word told
 
-pub burgee-probe-path-spec : {M : Type 1} → statement M
-burgee-probe-path-spec = tie.close (tie.spec (λ c κs. search rules) (λ c κs. search rules) (λ c κs. search rules)
+pub burgee_probe_path_spec : {M : Type 1} → statement M
+burgee_probe_path_spec = tie.close (tie.spec (λ c κs. search rules) (λ c κs. search rules) (λ c κs. search rules)
     returns)

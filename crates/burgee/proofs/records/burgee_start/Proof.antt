@@ -8,7 +8,7 @@ use Rattle.rotation.specs.declared.Record.{Record}
 use Rattle.burgee.specs.Record.{answered}
 use Rattle.burgee.specs.Calls.{outcome}
 use Rattle.burgee.proofs.Thin.{meets}
-use Rattle.burgee.proofs.Kept.{start-keeps}
+use Rattle.burgee.proofs.Kept.{start_keeps}
 use Rattle.burgee.specs.contracts.records.start_step as step
 use Rattle.burgee.proofs.records.start_step.Symbol as step-def
 use Rattle.burgee.proofs.records.start_step.Symbol.{name as #step}
@@ -18,11 +18,11 @@ use Rattle.burgee.specs.contracts.records.burgee_start as f
 use Rattle.burgee.proofs.records.burgee_start.Statement as stated
 use Rattle.burgee.proofs.records.burgee_start.Code as code
 
-pub burgee-start-spec : {M : Type 1} → stated.statement M
+pub burgee_start_spec : {M : Type 1} → stated.statement M
 unfolding code.routine tables_of outcome
-burgee-start-spec 𝓤 𝓛 𝓜 𝓡 =
+burgee_start_spec 𝓤 𝓛 𝓜 𝓡 =
     entered 𝓤 𝓛.H (triple_of 𝓛 f.signature (f.spec 𝓛 𝓜.mem 𝓡.run))
     (tables 𝓤 𝓛.H 𝓜 𝓡 code.env).C (tables 𝓤 𝓛.H 𝓜 𝓡 code.env).Λ #function code.function (code.unfolded 𝓤 𝓛.H 𝓜 𝓡)
-    (meets #step (λ (r : Record) (n : ℕ). answered (start r n)) start-keeps 𝓛 (tables_of 𝓤 𝓛.H 𝓜 (tables 𝓤 𝓛.H 𝓜 𝓡 code.env))
+    (meets #step (λ (r : Record) (n : ℕ). answered (start r n)) start_keeps 𝓛 (tables_of 𝓤 𝓛.H 𝓜 (tables 𝓤 𝓛.H 𝓜 𝓡 code.env))
     (cited 𝓤 𝓛.H (triple_of 𝓛 step.signature (step.spec 𝓛 𝓜.mem 𝓡.run)) 𝓜 𝓡 code.env #step
     step-def.routine code.calls-burgee::records::start-step (step_thm.met 𝓤 𝓛 𝓜 𝓡)))

@@ -44,14 +44,14 @@ use denote.Triple.Table.{entered, cited}
 use denote.Triple.Walked.{says, Stays, stay_ref, stay_none_slice, gave_slice, walk_of, AllGo, Goes-none_slice, Goes-ref, Goes-gave_slice, Walks, ends_at, walked, walk_Meets}
 use denote.Triple.Clauses.{ensured, lasts}
 use denote.Exit.{yes}
-use Rattle.rotation.specs.Calls.{upload, uploadStore}
-use Rattle.rotation_upload.specs.Offered.{offeredCheck}
+use Rattle.rotation.specs.Calls.{upload, upload_store}
+use Rattle.rotation_upload.specs.Offered.{offered_check}
 use Rattle.burgee.specs.Record.{answered}
 use Rattle.burgee.specs.Calls.{Upload, held, word, after, outcome}
 use Rattle.rotation.specs.declared.Record.{Record}
 use Rattle.burgee.specs.declared.records.Answered.{Answered}
-use Rattle.burgee.proofs.Kept.{upload-keeps}
-use Rattle.burgee.proofs.Thin.{not-both, not-not}
+use Rattle.burgee.proofs.Kept.{upload_keeps}
+use Rattle.burgee.proofs.Thin.{not_both, not_not}
 use Rattle.rotation.specs.contracts.Record as T
 use Rattle.rotation.proofs.Record.TheLaws as T'
 use Rattle.burgee.specs.contracts.records.Answered as S
@@ -120,7 +120,7 @@ module _ {M : Type 1} {𝓤 : Ura M} (𝓛 : Logic 𝓤) (at_mem : Memory → SP
 
   -- what the step ensures of its result and of the last list
   abbrev Said : Answered → List ℕ → Type 0
-  Said r zs = (r ≡ answered (upload offeredCheck h n t.now)) × (zs ≡ uploadStore offeredCheck h s.now t.now)
+  Said r zs = (r ≡ answered (upload offered_check h n t.now)) × (zs ≡ upload_store offered_check h s.now t.now)
 
   -- the call of the step: what it is passed, and what it asks
   abbrev to_step : AllOutlive 2 (step.signature).outlives (κ₁, (κ₂, tt)) → (Step 𝓛 at_mem run).Ghost
@@ -140,14 +140,14 @@ module _ {M : Type 1} {𝓤 : Ura M} (𝓛 : Logic 𝓤) (at_mem : Memory → SP
       ‵ (fobs γ ((T.the_row).coded.code h')) ∷ ‵ (fbor κ (Body (mem T.the_row) b o γ)) ∷ ‵ (flft κ q) ∷
       (‵ (flft κ₁ q₁) ⊛ ‵ (flft κ₂ q₂) ⊛ ‵ ftrue) ∷ ‵ (finally u8 s.name zs) ∷ ‵ Own ∷ []
 
-  told : {w : ℕ} {h' : Record} {zs : List ℕ} → w ≡ (answered (upload offeredCheck h n t.now)).word → h' ≡ (answered (upload offeredCheck h n t.now)).next
-      → zs ≡ uploadStore offeredCheck h s.now t.now
+  told : {w : ℕ} {h' : Record} {zs : List ℕ} → w ≡ (answered (upload offered_check h n t.now)).word → h' ≡ (answered (upload offered_check h n t.now)).next
+      → zs ≡ upload_store offered_check h s.now t.now
       → (w ≡ word (Upload h s.now t.now)) × (held h' zs ≡ after (Upload h s.now t.now))
   unfolding outcome
   told ew eh ez = (ew, rw (eh, ez))
 
-  exits : (w : ℕ) (h' : Record) (zs : List ℕ) → w ≡ (answered (upload offeredCheck h n t.now)).word → h' ≡ (answered
-      (upload offeredCheck h n t.now)).next → zs ≡ uploadStore offeredCheck h s.now t.now → length zs ≡ n → w <
+  exits : (w : ℕ) (h' : Record) (zs : List ℕ) → w ≡ (answered (upload offered_check h n t.now)).word → h' ≡ (answered
+      (upload offered_check h n t.now)).next → zs ≡ upload_store offered_check h s.now t.now → length zs ≡ n → w <
       2 ^ 64 → ent 𝓤 (⋆ 𝓛 (Left h' zs)) (Post (vint w64 w))
   exits w h' zs ew eh ez l fits =
       qed 𝓛 (Left h' zs) ∵
@@ -162,13 +162,13 @@ module _ {M : Type 1} {𝓤 : Ura M} (𝓛 : Logic 𝓤) (at_mem : Memory → SP
   word_fits r u is = (LL.owed S.the_type S'.the_laws r _ is).1.0.1
 
   -- what the test says
-  refused : (r : Answered) → r ≡ answered (upload offeredCheck h n t.now) → Truth (not (eqb r.word 0)) → h ≡
-      (answered (upload offeredCheck h n t.now)).next
-  refused r e bad = sym (upload-keeps h n t.now (λ z. not-both (eqb r.word 0) (eq-eqb _ _ (ap (λ (w : Answered). w.word) e ∙ z)) bad))
+  refused : (r : Answered) → r ≡ answered (upload offered_check h n t.now) → Truth (not (eqb r.word 0)) → h ≡
+      (answered (upload offered_check h n t.now)).next
+  refused r e bad = sym (upload_keeps h n t.now (λ z. not_both (eqb r.word 0) (eq-eqb _ _ (ap (λ (w : Answered). w.word) e ∙ z)) bad))
 
-  went : (r : Answered) → r ≡ answered (upload offeredCheck h n t.now) → Truth (not (not (eqb r.word 0))) → 0 ≡
-      (answered (upload offeredCheck h n t.now)).word
-  went r e good = sym (eqb→eq r.word 0 (not-not (eqb r.word 0) good)) ∙ ap (λ (w : Answered). w.word) e
+  went : (r : Answered) → r ≡ answered (upload offered_check h n t.now) → Truth (not (not (eqb r.word 0))) → 0 ≡
+      (answered (upload offered_check h n t.now)).word
+  went r e good = sym (eqb→eq r.word 0 (not_not (eqb r.word 0) good)) ∙ ap (λ (w : Answered). w.word) e
 
   -- a Answered's machine value
   abbrev smach : Answered → Val
@@ -314,9 +314,9 @@ meets {𝓤 = 𝓤} 𝓛 at_mem run 𝓣 known =
     walk_Meets 𝓛 f.ended stayed (goes 𝓛 at_mem run) (f.clauses 𝓛 at_mem run)
     (WpFn 𝓤 𝓛.H 𝓣.C 𝓣.Λ code.function) (WpFn-mono 𝓤 𝓛.H 𝓛.laws 𝓣 code.function) (walks 𝓛 at_mem run 𝓣.C 𝓣.Λ (fm_of 𝓤 𝓛.H 𝓛.laws 𝓣) known)
 
-pub burgee-upload-spec : {M : Type 1} → stated.statement M
+pub burgee_upload_spec : {M : Type 1} → stated.statement M
 unfolding code.routine tables_of
-burgee-upload-spec 𝓤 𝓛 𝓜 𝓡 =
+burgee_upload_spec 𝓤 𝓛 𝓜 𝓡 =
     entered 𝓤 𝓛.H (triple_of 𝓛 f.signature (f.spec 𝓛 𝓜.mem 𝓡.run))
     (tables 𝓤 𝓛.H 𝓜 𝓡 code.env).C (tables 𝓤 𝓛.H 𝓜 𝓡 code.env).Λ #function code.function (code.unfolded 𝓤 𝓛.H 𝓜 𝓡)
     (meets 𝓛 𝓜.mem 𝓡.run (tables_of 𝓤 𝓛.H 𝓜 (tables 𝓤 𝓛.H 𝓜 𝓡 code.env))

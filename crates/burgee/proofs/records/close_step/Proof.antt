@@ -8,5 +8,5 @@ use Rattle.burgee.proofs.records.close_step.Tie as tie
 returns : tie.Need-returns
 returns c = c.of-stepped.ensures ∙ ap (λ (s : Stepped). answered s) c.before.close.ensures
 
-pub close-step-spec : {M : Type 1} → statement M
-close-step-spec = tie.close (tie.spec (λ c κs. search rules) (λ c κs. search rules) returns)
+pub close_step_spec : {M : Type 1} → statement M
+close_step_spec = tie.close (tie.spec (λ c κs. search rules) (λ c κs. search rules) returns)

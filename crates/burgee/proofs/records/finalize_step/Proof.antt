@@ -8,5 +8,5 @@ use Rattle.burgee.proofs.records.finalize_step.Tie as tie
 returns : tie.Need-returns
 returns c = c.of-stepped.ensures ∙ ap (λ (s : Stepped). answered s) c.before.finalize.ensures
 
-pub finalize-step-spec : {M : Type 1} → statement M
-finalize-step-spec = tie.close (tie.spec (λ c κs. search rules) (λ c κs. search rules) returns)
+pub finalize_step_spec : {M : Type 1} → statement M
+finalize_step_spec = tie.close (tie.spec (λ c κs. search rules) (λ c κs. search rules) returns)

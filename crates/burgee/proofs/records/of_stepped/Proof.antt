@@ -5,5 +5,5 @@ use Rattle.burgee.proofs.records.of_stepped.Tie as tie
 returns : tie.Need-returns
 returns c = rw c.of-checked.ensures
 
-pub of-stepped-spec : {M : Type 1} → statement M
-of-stepped-spec = tie.close (tie.spec (λ c κs. search rules) returns)
+pub of_stepped_spec : {M : Type 1} → statement M
+of_stepped_spec = tie.close (tie.spec (λ c κs. search rules) returns)

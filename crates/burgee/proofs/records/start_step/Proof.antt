@@ -8,5 +8,5 @@ use Rattle.burgee.proofs.records.start_step.Tie as tie
 returns : tie.Need-returns
 returns c = c.of-stepped.ensures ∙ ap (λ (s : Stepped). answered s) c.before.start.ensures
 
-pub start-step-spec : {M : Type 1} → statement M
-start-step-spec = tie.close (tie.spec (λ c κs. search rules) (λ c κs. search rules) returns)
+pub start_step_spec : {M : Type 1} → statement M
+start_step_spec = tie.close (tie.spec (λ c κs. search rules) (λ c κs. search rules) returns)

@@ -9,5 +9,5 @@ returns : tie.Need-returns
 returns c = let at-upload = c.before.before.before in
     (c.of-stepped.ensures ∙ ap (λ (s : Stepped). answered s) at-upload.upload.ensures.0, at-upload.upload.ensures.1)
 
-pub upload-step-spec : {M : Type 1} → statement M
-upload-step-spec = tie.close (tie.spec (λ c κs. search rules) (λ c κs. search rules) (λ c. search rules) returns)
+pub upload_step_spec : {M : Type 1} → statement M
+upload_step_spec = tie.close (tie.spec (λ c κs. search rules) (λ c κs. search rules) (λ c. search rules) returns)

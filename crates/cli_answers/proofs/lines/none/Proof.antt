@@ -1,25 +1,25 @@
 -- `none` is the definition.
-use Rattle.cli_answers.specs.Lines.{noneLines}
+use Rattle.cli_answers.specs.Lines.{none_lines}
 use borrow.Author.Rules.{rules}
 use Rattle.cli_answers.proofs.lines.none.Statement.{statement}
 use Rattle.cli_answers.proofs.lines.none.Tie as tie
 
 returns : tie.Need-returns
-unfolding noneLines
+unfolding none_lines
 returns c = let at-enum-told = c.before.before.before.before.before in
     rw at-enum-told.enum_told.given.1 c.before.before.string.ensures
 
-returns-2 : tie.Need-returns-2
-unfolding noneLines
-returns-2 c = let at-enum-told2 = c.before.before.before.before.before in
+returns_2 : tie.Need-returns-2
+unfolding none_lines
+returns_2 c = let at-enum-told2 = c.before.before.before.before.before in
     rw at-enum-told2.enum-told2.given.1 c.before.before.string2.ensures
 
-returns-3 : tie.Need-returns-3
-unfolding noneLines
-returns-3 c = let at-enum-told3 = c.before.before.before.before.before in
+returns_3 : tie.Need-returns-3
+unfolding none_lines
+returns_3 c = let at-enum-told3 = c.before.before.before.before.before in
     rw at-enum-told3.enum-told3.given.1 c.before.before.string3.ensures
 
 pub none_spec : {M : Type 1} → statement M
 none_spec = tie.close (tie.spec (λ c. search rules) (λ c. search rules) (λ c κs. search rules) (λ c. search rules)
     (λ c. search rules) (λ c κs. search rules) (λ c. search rules) (λ c. search rules) (λ c κs. search rules)
-    (λ c. search rules) returns (λ c. search rules) returns-2 (λ c. search rules) returns-3)
+    (λ c. search rules) returns (λ c. search rules) returns_2 (λ c. search rules) returns_3)

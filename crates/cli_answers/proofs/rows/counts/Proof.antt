@@ -11,6 +11,6 @@ returns c = let at-fact2 = c.before.before.before.before.before.before.before in
     let at_fact = at-fact2.before.before.before.before.before in
     at_fact.fact.ensures.added then at-fact2.fact2.ensures.added then c.before.before.fact3.ensures.added
 
-pub counts-spec : {M : Type 1} → statement M
-counts-spec = tie.close (tie.spec (λ c. search rules) (λ c κs. search rules) (λ c. search rules) (λ c κs. search rules)
+pub counts_spec : {M : Type 1} → statement M
+counts_spec = tie.close (tie.spec (λ c. search rules) (λ c κs. search rules) (λ c. search rules) (λ c κs. search rules)
     (λ c. search rules) (λ c κs. search rules) (λ c. search rules) returns)

@@ -2,12 +2,12 @@
 use borrow.Author.Rules.{rules}
 use native.Mathlib.Omega.{arith}
 use Rattle.text_make.proofs.Adding.{◌then◌}
-use Rattle.cli_answers.specs.Rows.{groupLine}
+use Rattle.cli_answers.specs.Rows.{group_line}
 use Rattle.cli_answers.proofs.rows.group.Statement.{statement}
 use Rattle.cli_answers.proofs.rows.group.Tie as tie
 
 returns : tie.Need-returns
-unfolding groupLine
+unfolding group_line
 returns c = let at_name = c.before.before.before.before.before.before.before in
     let at-string2 = at_name.before.before.before.before in
     let at-decimal = at-string2.before.before.before.before.before in
@@ -25,7 +25,7 @@ returns c = let at_name = c.before.before.before.before.before.before.before in
       );
     }
 
-pub group-spec : {M : Type 1} → statement M
-group-spec = tie.close (tie.spec (λ c. search rules) (λ c κs. search rules) (λ c. search rules) (λ c κs. search rules)
+pub group_spec : {M : Type 1} → statement M
+group_spec = tie.close (tie.spec (λ c. search rules) (λ c κs. search rules) (λ c. search rules) (λ c κs. search rules)
     (λ c. search rules) (λ c κs. search rules) (λ c κs. search rules) (λ c. search rules) (λ c κs. search rules)
     (λ c. search rules) returns)

@@ -9,6 +9,6 @@ use Rattle.cli_console.proofs.input.word.Tie as tie
 returns : tie.Need-returns
 returns c = (omega arith, sym (length-take-le _ _ (omega arith)))
 
-pub word-spec : {M : Type 1} → statement M
-word-spec = tie.close (tie.spec (λ c κs. search rules) (λ c κs. search rules) (λ c. search rules) returns
+pub word_spec : {M : Type 1} → statement M
+word_spec = tie.close (tie.spec (λ c κs. search rules) (λ c κs. search rules) (λ c. search rules) returns
     (λ c. search rules) (λ c. search rules))

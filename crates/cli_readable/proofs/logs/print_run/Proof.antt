@@ -12,6 +12,6 @@ returns c = let at-convert = c.before.before.before in
       goes = λ e t m. at-convert.convert.ensures.goes e t m (omega arith);
     }
 
-pub print-run-spec : {M : Type 1} → statement M
-print-run-spec = tie.close (tie.spec (λ c. search rules) (λ c κs. search rules) (λ c. search rules)
+pub print_run_spec : {M : Type 1} → statement M
+print_run_spec = tie.close (tie.spec (λ c. search rules) (λ c κs. search rules) (λ c. search rules)
     (λ c κs. search rules) returns)

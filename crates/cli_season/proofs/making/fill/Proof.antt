@@ -7,57 +7,57 @@ use Rattle.cli_season.specs.Page.{sum_of, page_of}
 use Rattle.cli_season.proofs.making.fill.Statement.{statement}
 use Rattle.cli_season.proofs.making.fill.Tie as tie
 
-slice-aggregate-add-decided : tie.Need-slice-aggregate-add-decided
-slice-aggregate-add-decided c =
+slice_aggregate_add_decided : tie.Need-slice-aggregate-add-decided
+slice_aggregate_add_decided c =
     let at-start = c.before.before.before.before.before.before.before.before.before.before.before in
     sym at-start.requires.2
 
-add-add-decided : tie.Need-overflow-add-add-decided
-add-add-decided c =
+add_add_decided : tie.Need-overflow-add-add-decided
+add_add_decided c =
     let at-start = c.before.before.before.before.before.before.before.before.before.before.before in
     omega (arith, at-start.requires.3 0 0, at-start.requires.3 0 1)
 
-add-add-decided-2 : tie.Need-overflow-add-add-decided-2
-add-add-decided-2 c =
+add_add_decided_2 : tie.Need-overflow-add-add-decided-2
+add_add_decided_2 c =
     let at-start = c.before.before.before.before.before.before.before.before.before.before.before in
     omega (arith, at-start.requires.3 0 0, at-start.requires.3 0 1, at-start.requires.3 0 2)
 
-add-add-decided-3 : tie.Need-overflow-add-add-decided-3
-add-add-decided-3 c =
+add_add_decided_3 : tie.Need-overflow-add-add-decided-3
+add_add_decided_3 c =
     let at-start = c.before.before.before.before.before.before.before.before.before.before.before in
     omega (arith, at-start.requires.3 0 0, at-start.requires.3 0 1, at-start.requires.3 0 2, at-start.requires.3 1 0)
 
-add-add-decided-4 : tie.Need-overflow-add-add-decided-4
-add-add-decided-4 c =
+add_add_decided_4 : tie.Need-overflow-add-add-decided-4
+add_add_decided_4 c =
     let at-start = c.before.before.before.before.before.before.before.before.before.before.before in
     omega (arith, at-start.requires.3 0 0, at-start.requires.3 0 1, at-start.requires.3 0 2, at-start.requires.3 1 0, at-start.requires.3 1 1)
 
-add-add-decided-5 : tie.Need-overflow-add-add-decided-5
-add-add-decided-5 c =
+add_add_decided_5 : tie.Need-overflow-add-add-decided-5
+add_add_decided_5 c =
     let at-start = c.before.before.before.before.before.before.before.before.before.before.before in
     omega (arith, at-start.requires.3 0 0, at-start.requires.3 0 1, at-start.requires.3 0 2, at-start.requires.3 1 0, at-start.requires.3 1 1, at-start.requires.3 1 2)
 
-add-decided-requires : tie.Need-add-decided-requires
-add-decided-requires c κs =
+add_decided_requires : tie.Need-add-decided-requires
+add_decided_requires c κs =
     let at-start = c.before.before.before.before.before.before.before.before.before.before.before.before in
     (at-start.requires.0, at-start.requires.1, at-start.requires.4)
 
-add-never-requires : tie.Need-add-never-requires
-add-never-requires c κs = let at-add-decided = c.before.before.before.before.before in
+add_never_requires : tie.Need-add-never-requires
+add_never_requires c κs = let at-add-decided = c.before.before.before.before.before in
     let at-start = at-add-decided.before.before.before.before.before.before.before.before.before.before.before.before.before in
     (at-start.requires.0, at-start.requires.1, omega (arith, at-start.requires.4, at-add-decided.add-decided.ensures.short))
 
-lines-requires : tie.Need-lines-requires
-lines-requires c κs = let at-add-never = c.before.before.before in
+lines_requires : tie.Need-lines-requires
+lines_requires c κs = let at-add-never = c.before.before.before in
     let at-add-decided = at-add-never.before.before.before.before.before.before in
     let at-start = at-add-decided.before.before.before.before.before.before.before.before.before.before.before.before.before in (
       record {
         a_small = at-start.requires.3 0 0;
-        b-small = at-start.requires.3 0 1;
-        c-small = at-start.requires.3 0 2;
-        x-small = at-start.requires.3 1 0;
-        y-small = at-start.requires.3 1 1;
-        z-small = at-start.requires.3 1 2;
+        b_small = at-start.requires.3 0 1;
+        c_small = at-start.requires.3 0 2;
+        x_small = at-start.requires.3 1 0;
+        y_small = at-start.requires.3 1 1;
+        z_small = at-start.requires.3 1 2;
       },
       omega (arith, at-start.requires.4, at-add-decided.add-decided.ensures.short, at-add-never.add-never.ensures.short),
     )
@@ -71,6 +71,6 @@ returns c = let at-add-never = c.before.before.before.before.before.before in
 pub fill_spec : {M : Type 1} → statement M
 fill_spec = tie.close (tie.spec (λ c. search rules) (λ c. search rules) (λ c. search rules) (λ c. search rules)
     (λ c. search rules) (λ c. search rules) (λ c. search rules) (λ c. search rules) (λ c. search rules)
-    (λ c. search rules) (λ c. search rules) (λ c. search rules) slice-aggregate-add-decided add-add-decided
-    add-add-decided-2 add-add-decided-3 add-add-decided-4 add-add-decided-5 add-decided-requires add-never-requires
-    lines-requires (λ c. search rules) returns)
+    (λ c. search rules) (λ c. search rules) (λ c. search rules) slice_aggregate_add_decided add_add_decided
+    add_add_decided_2 add_add_decided_3 add_add_decided_4 add_add_decided_5 add_decided_requires add_never_requires
+    lines_requires (λ c. search rules) returns)

@@ -4,9 +4,9 @@ use native.Mathlib.Omega.{arith}
 use Rattle.path_read.proofs.reader.read_short.Statement.{statement}
 use Rattle.path_read.proofs.reader.read_short.Tie as tie
 
-read-apart-requires : tie.Need-read-apart-requires
-read-apart-requires c κs = let at-start = c.before.before.before.before in
+read_apart_requires : tie.Need-read-apart-requires
+read_apart_requires c κs = let at-start = c.before.before.before.before in
     (record { starts = omega arith; fits = λ n f g. omega (arith, at-start.requires.0) }, at-start.requires.1)
 
-pub read-short-spec : {M : Type 1} → statement M
-read-short-spec = tie.close (tie.spec (λ c. search rules) read-apart-requires (λ c. search rules) (λ c. search rules))
+pub read_short_spec : {M : Type 1} → statement M
+read_short_spec = tie.close (tie.spec (λ c. search rules) read_apart_requires (λ c. search rules) (λ c. search rules))

@@ -6,10 +6,10 @@ returns : tie.Need-returns
 returns c = let at-if1 = c.before.before.before.before in
     rw at-if1.if1.true c.before.before.read-text.ensures
 
-returns-2 : tie.Need-returns-2
-returns-2 c = let at-if1 = c.before.before.before.before in
+returns_2 : tie.Need-returns-2
+returns_2 c = let at-if1 = c.before.before.before.before in
     rw at-if1.if1.false c.before.before.write-text.ensures
 
-pub convert-spec : {M : Type 1} → statement M
-convert-spec = tie.close (tie.spec (λ c κs. search rules) (λ c. search rules) returns (λ c κs. search rules)
-    (λ c. search rules) returns-2)
+pub convert_spec : {M : Type 1} → statement M
+convert_spec = tie.close (tie.spec (λ c κs. search rules) (λ c. search rules) returns (λ c κs. search rules)
+    (λ c. search rules) returns_2)

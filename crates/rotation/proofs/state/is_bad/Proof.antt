@@ -8,6 +8,6 @@ returns c = let at-is-bad-length = c.before.before.before in
     record_is _ _ _ _ _ at-is-bad-length.before.before.is-given.ensures at-is-bad-length.is-bad-length.ensures
     c.before.before.is-bad-length2.ensures c.is-given2.ensures
 
-pub is-bad-spec : {M : Type 1} → statement M
-is-bad-spec = tie.close (tie.spec (λ c κs. search rules) (λ c κs. search rules) (λ c κs. search rules)
+pub is_bad_spec : {M : Type 1} → statement M
+is_bad_spec = tie.close (tie.spec (λ c κs. search rules) (λ c κs. search rules) (λ c κs. search rules)
     (λ c κs. search rules) returns)

@@ -7,5 +7,5 @@ returns : tie.Need-returns
 unfolding given
 returns c = refl
 
-pub is-given-spec : {M : Type 1} → statement M
-is-given-spec = tie.close (tie.spec returns)
+pub is_given_spec : {M : Type 1} → statement M
+is_given_spec = tie.close (tie.spec returns)

@@ -4,53 +4,53 @@ use native.Mathlib.Omega.{arith}
 use mathlib.Core.Path.{refl, sym, ◌∙◌}
 use borrow.Author.Tests.{not-true, not-false}
 use lib.ListN.{length-set}
-use Rattle.rpc_request.proofs.Lines.{line-there, tail-long}
-use Rattle.rpc_request.proofs.Values.{line-passed, line_kept, line-added}
+use Rattle.rpc_request.proofs.Lines.{line_there, tail_long}
+use Rattle.rpc_request.proofs.Values.{line_passed, line_kept, line_added}
 use Rattle.rpc_request.proofs.index.join_line.Statement.{statement}
 use Rattle.rpc_request.proofs.index.join_line.Tie as tie
 
 returns : tie.Need-returns
 returns c = let at-byte-from = c.before.before.before in
     let at-start = at-byte-from.before.before.before.before in
-    line-passed _ _ at-byte-from.byte-from.ensures at-start.requires.0 _ _ _ (sym c.before.is_same.ensures ∙ not-true _ c.if1.true)
+    line_passed _ _ at-byte-from.byte-from.ensures at-start.requires.0 _ _ _ (sym c.before.is_same.ensures ∙ not-true _ c.if1.true)
 
-sub-start : tie.Need-overflow-sub-start
-sub-start c = let at-byte-from = c.before.before.before in
+sub_start : tie.Need-overflow-sub-start
+sub_start c = let at-byte-from = c.before.before.before in
     let at-start = at-byte-from.before.before.before.before in
-    omega (arith, line-there _ _ at-byte-from.byte-from.ensures at-start.requires.0)
+    omega (arith, line_there _ _ at-byte-from.byte-from.ensures at-start.requires.0)
 
-sub-copy : tie.Need-overflow-sub-copy
-sub-copy c = let at-byte-from = c.before.before.before in
+sub_copy : tie.Need-overflow-sub-copy
+sub_copy c = let at-byte-from = c.before.before.before in
     let at-start = at-byte-from.before.before.before.before in
-    omega (arith, line-there _ _ at-byte-from.byte-from.ensures at-start.requires.0)
+    omega (arith, line_there _ _ at-byte-from.byte-from.ensures at-start.requires.0)
 
-part-copy-start : tie.Need-slice-bounds-copy-start
-part-copy-start c = let at-byte-from = c.before.before.before in
+part_copy_start : tie.Need-slice-bounds-copy-start
+part_copy_start c = let at-byte-from = c.before.before.before in
     let at-start = at-byte-from.before.before.before.before in
-    omega (arith, line-there _ _ at-byte-from.byte-from.ensures at-start.requires.0)
+    omega (arith, line_there _ _ at-byte-from.byte-from.ensures at-start.requires.0)
 
-copy-requires : tie.Need-copy-requires
-copy-requires c κs = let at-byte-from = c.before.before.before.before.before in
+copy_requires : tie.Need-copy-requires
+copy_requires c κs = let at-byte-from = c.before.before.before.before.before in
     let at-start = at-byte-from.before.before.before.before in
     omega (
       arith,
-      line-there _ _ at-byte-from.byte-from.ensures at-start.requires.0,
-      tail-long _ _ at-byte-from.byte-from.ensures at-start.requires.0,
+      line_there _ _ at-byte-from.byte-from.ensures at-start.requires.0,
+      tail_long _ _ at-byte-from.byte-from.ensures at-start.requires.0,
       at-start.requires.1,
       at-start.requires.2,
     )
 
-sub-comma : tie.Need-overflow-sub-comma
-sub-comma c = let at-byte-from = c.before.before.before.before.before.before.before.before in
+sub_comma : tie.Need-overflow-sub-comma
+sub_comma c = let at-byte-from = c.before.before.before.before.before.before.before.before in
     let at-start = at-byte-from.before.before.before.before in
-    omega (arith, line-there _ _ at-byte-from.byte-from.ensures at-start.requires.0, at-start.requires.1)
+    omega (arith, line_there _ _ at-byte-from.byte-from.ensures at-start.requires.0, at-start.requires.1)
 
-slice-write-out : tie.Need-slice-write-out
-slice-write-out c = let at-byte-from = c.before.before.before.before.before.before.before.before in
+slice_write_out : tie.Need-slice-write-out
+slice_write_out c = let at-byte-from = c.before.before.before.before.before.before.before.before in
     let at-start = at-byte-from.before.before.before.before in
     omega (
       arith,
-      line-there _ _ at-byte-from.byte-from.ensures at-start.requires.0,
+      line_there _ _ at-byte-from.byte-from.ensures at-start.requires.0,
       line_kept _ _ at-byte-from.byte-from.ensures at-start.requires.0 at-start.args.key.now
           at-start.args.out.now at-start.args.at _ _ _ refl refl refl at-start.requires.1 at-start.requires.2 _
           c.before.before.copy.ensures,
@@ -64,13 +64,13 @@ same_length c = let at-byte-from = c.before.before.before.before.before.before.b
     simp length-set (line_kept _ _ at-byte-from.byte-from.ensures at-start.requires.0 at-start.args.key.now
     at-start.args.out.now at-start.args.at _ _ _ refl refl refl at-start.requires.1 at-start.requires.2 _ c.before.before.copy.ensures)
 
-returns-2 : tie.Need-returns-2
-returns-2 c = let at-if1 = c.before.before.before.before.before in
+returns_2 : tie.Need-returns-2
+returns_2 c = let at-if1 = c.before.before.before.before.before in
     let at-byte-from = at-if1.before.before.before in let at-start = at-byte-from.before.before.before.before in
-    line-added _ _ at-byte-from.byte-from.ensures at-start.requires.0 _ _ _ _ _ _ refl refl refl at-start.requires.1
+    line_added _ _ at-byte-from.byte-from.ensures at-start.requires.0 _ _ _ _ _ _ refl refl refl at-start.requires.1
     at-start.requires.2 _ c.before.before.copy.ensures (sym at-if1.before.is_same.ensures ∙ not-false _ at-if1.if1.false)
 
-pub join-line-spec : {M : Type 1} → statement M
-join-line-spec = tie.close (tie.spec (λ c κs. search rules) (λ c. search rules) (λ c. search rules) (λ c. search rules)
-    (λ c κs. search rules) returns (λ c. search rules) sub-start (λ c. search rules) sub-copy part-copy-start
-    (λ c. search rules) copy-requires sub-comma slice-write-out same_length returns-2)
+pub join_line_spec : {M : Type 1} → statement M
+join_line_spec = tie.close (tie.spec (λ c κs. search rules) (λ c. search rules) (λ c. search rules) (λ c. search rules)
+    (λ c κs. search rules) returns (λ c. search rules) sub_start (λ c. search rules) sub_copy part_copy_start
+    (λ c. search rules) copy_requires sub_comma slice_write_out same_length returns_2)

@@ -1,18 +1,18 @@
 -- `index` sorts the keys, which stay keys of the rules.
 use native.Mathlib.Omega.{arith}
-use Rattle.rule_index.proofs.Sorting.{keys-bounded, indexed}
+use Rattle.rule_index.proofs.Sorting.{keys_bounded, indexed}
 use borrow.Author.Rules.{rules}
 use Rattle.rule_index.proofs.keys.index.Statement.{statement}
 use Rattle.rule_index.proofs.keys.index.Tie as tie
 
-mark-first-requires : tie.Need-mark-first-requires
-mark-first-requires c κs = let at-sort = c.before.before.before.before.before.before in
+mark_first_requires : tie.Need-mark-first-requires
+mark_first_requires c κs = let at-sort = c.before.before.before.before.before.before in
     let at-make = at-sort.before.before.before.before.before in
     let at-start = at-make.before.before.before.before.before.before.before.before.before.before.before in (
       at-start.requires.1,
       omega (arith, at-start.requires.2, at-make.make.ensures.0, at-sort.sort.ensures.0.size),
       at-start.requires.4,
-      keys-bounded _ (at-start.args.f.now) (at-start.args.starts.now) _ _ _
+      keys_bounded _ (at-start.args.f.now) (at-start.args.starts.now) _ _ _
           (omega (arith, at-start.requires.2, at-make.make.ensures.0)) (at-make.make.ensures.1) (at-sort.sort.ensures.0),
     )
 
@@ -22,8 +22,8 @@ returns c = let at-sort = c.before.before.before.before.before.before.before.bef
     let at-start = at-make.before.before.before.before.before.before.before.before.before.before.before in
     indexed _ (at-start.args.f.now) (at-start.args.starts.now) _ _ _
     (omega (arith, at-start.requires.2, at-make.make.ensures.0)) (at-make.make.ensures.1)
-    (at-sort.sort.ensures.0) _ (c.before.before.mark-first.ensures.0) (c.before.before.mark-first.ensures.1)
+    (at-sort.sort.ensures.0) _ (c.before.before.mark_first.ensures.0) (c.before.before.mark_first.ensures.1)
 
-pub index-spec : {M : Type 1} → statement M
-index-spec = tie.close (tie.spec (λ c. search rules) (λ c κs. search rules) (λ c. search rules) (λ c κs. search rules)
-    (λ c κs. search rules) mark-first-requires (λ c. search rules) (λ c. search rules) (λ c. search rules) returns)
+pub index_spec : {M : Type 1} → statement M
+index_spec = tie.close (tie.spec (λ c. search rules) (λ c κs. search rules) (λ c. search rules) (λ c κs. search rules)
+    (λ c κs. search rules) mark_first_requires (λ c. search rules) (λ c. search rules) (λ c. search rules) returns)

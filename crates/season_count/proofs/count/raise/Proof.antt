@@ -7,6 +7,6 @@ use Rattle.season_count.proofs.count.raise.Tie as tie
 returns : tie.Need-returns
 returns c = refl
 
-pub raise-spec : {M : Type 1} → statement M
-raise-spec = tie.close (tie.spec (λ c. search rules) (λ c. search rules) (λ c. search rules) (λ c. search rules)
+pub raise_spec : {M : Type 1} → statement M
+raise_spec = tie.close (tie.spec (λ c. search rules) (λ c. search rules) (λ c. search rules) (λ c. search rules)
     (λ c. search rules) returns)

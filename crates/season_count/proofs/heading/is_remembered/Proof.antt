@@ -12,10 +12,10 @@ unfolding ◌and◌
 returns c = let at-start = c.before.before.before in
     rw (le-ltb 0 (length at-start.args.key.now) (omega (arith, c.if1.true)))
 
-returns-2 : tie.Need-returns-2
+returns_2 : tie.Need-returns-2
 unfolding ◌and◌
-returns-2 c = let at-start = c.before.before.before.before in
+returns_2 c = let at-start = c.before.before.before.before in
     rw (lt-ltb 0 (length at-start.args.key.now) (omega (arith, c.before.if1.false))) c.starts_with.ensures
 
-pub is-remembered-spec : {M : Type 1} → statement M
-is-remembered-spec = tie.close (tie.spec returns (λ c κs. search rules) returns-2)
+pub is_remembered_spec : {M : Type 1} → statement M
+is_remembered_spec = tie.close (tie.spec returns (λ c κs. search rules) returns_2)

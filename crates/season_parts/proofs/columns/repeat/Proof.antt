@@ -2,35 +2,35 @@
 use borrow.Author.Rules.{rules}
 use native.Mathlib.Omega.{arith}
 use Prim.Native.Nat.{◌-◌}
-use Rattle.season_parts.proofs.Repeated.{Repeating, repeating-start, repeating-room, repeating-more, repeating-done}
+use Rattle.season_parts.proofs.Repeated.{Repeating, repeating_start, repeating_room, repeating_more, repeating_done}
 use Rattle.season_parts.proofs.columns.repeat.Statement.{statement}
 use Rattle.season_parts.proofs.columns.repeat.Tie as tie
 
-abbrev invariant-loop : tie.invariant-loop
-invariant-loop b n out₀ at i₀ out i = Repeating out₀ at n b i out
+abbrev invariant_loop : tie.invariant_loop
+invariant_loop b n out₀ at i₀ out i = Repeating out₀ at n b i out
 
-abbrev decreases-loop : tie.decreases-loop
-decreases-loop b n out₀ at i₀ out i = n - i
+abbrev decreases_loop : tie.decreases_loop
+decreases_loop b n out₀ at i₀ out i = n - i
 
-loop-holds : tie.Need-loop-init invariant-loop decreases-loop
-loop-holds c = repeating-start _ _ _ _ c.requires
+loop_holds : tie.Need-loop-init invariant_loop decreases_loop
+loop_holds c = repeating_start _ _ _ _ c.requires
 
-add-out : tie.Need-overflow-add-out invariant-loop decreases-loop
-add-out c =
-    omega (arith, repeating-room _ _ _ _ _ _ c.before.loop.invariant c.loop-test.true, c.before.loop.invariant.long)
+add_out : tie.Need-overflow-add-out invariant_loop decreases_loop
+add_out c =
+    omega (arith, repeating_room _ _ _ _ _ _ c.before.loop.invariant c.loop-test.true, c.before.loop.invariant.long)
 
-slice-write-out : tie.Need-slice-write-out invariant-loop decreases-loop
-slice-write-out c = repeating-room _ _ _ _ _ _ c.before.loop.invariant c.loop-test.true
+slice_write_out : tie.Need-slice-write-out invariant_loop decreases_loop
+slice_write_out c = repeating_room _ _ _ _ _ _ c.before.loop.invariant c.loop-test.true
 
-loop-again : tie.Need-loop-preserved invariant-loop decreases-loop
-loop-again c = repeating-more _ _ _ _ _ _ c.before.loop.invariant c.loop-test.true
+loop_again : tie.Need-loop-preserved invariant_loop decreases_loop
+loop_again c = repeating_more _ _ _ _ _ _ c.before.loop.invariant c.loop-test.true
 
-same_length : tie.Need-same-length invariant-loop decreases-loop
+same_length : tie.Need-same-length invariant_loop decreases_loop
 same_length c = c.before.loop.invariant.long
 
-returns : tie.Need-returns invariant-loop decreases-loop
-returns c = repeating-done _ _ _ _ _ _ c.before.loop.invariant c.loop-test.false
+returns : tie.Need-returns invariant_loop decreases_loop
+returns c = repeating_done _ _ _ _ _ _ c.before.loop.invariant c.loop-test.false
 
-pub repeat-spec : {M : Type 1} → statement M
-repeat-spec = tie.close (tie.spec invariant-loop decreases-loop loop-holds add-out slice-write-out (λ c. search rules)
-    (λ c. search rules) loop-again (λ c. search rules) same_length returns)
+pub repeat_spec : {M : Type 1} → statement M
+repeat_spec = tie.close (tie.spec invariant_loop decreases_loop loop_holds add_out slice_write_out (λ c. search rules)
+    (λ c. search rules) loop_again (λ c. search rules) same_length returns)

@@ -8,13 +8,13 @@ returns : tie.Need-returns
 unfolding between if◌then◌else◌
 returns c = rw (lt-ltb _ _ c.if1.true)
 
-returns-2 : tie.Need-returns-2
+returns_2 : tie.Need-returns-2
 unfolding between if◌then◌else◌
-returns-2 c = rw (le-ltb _ _ c.before.if1.false, lt-ltb _ _ c.if2.true)
+returns_2 c = rw (le-ltb _ _ c.before.if1.false, lt-ltb _ _ c.if2.true)
 
-returns-3 : tie.Need-returns-3
+returns_3 : tie.Need-returns-3
 unfolding between if◌then◌else◌
-returns-3 c = rw (le-ltb _ _ c.before.if1.false, le-ltb _ _ c.if2.false)
+returns_3 c = rw (le-ltb _ _ c.before.if1.false, le-ltb _ _ c.if2.false)
 
-pub between-spec : {M : Type 1} → statement M
-between-spec = tie.close (tie.spec returns returns-2 returns-3)
+pub between_spec : {M : Type 1} → statement M
+between_spec = tie.close (tie.spec returns returns_2 returns_3)

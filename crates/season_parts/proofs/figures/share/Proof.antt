@@ -23,7 +23,7 @@ returns c = let at-decimal = c.before.before.before.before.before.before.before 
       );
     }
 
-pub share-spec : {M : Type 1} → statement M
-share-spec = tie.close (tie.spec (λ c κs. search rules) (λ c κs. search rules) (λ c. search rules)
+pub share_spec : {M : Type 1} → statement M
+share_spec = tie.close (tie.spec (λ c κs. search rules) (λ c κs. search rules) (λ c. search rules)
     (λ c κs. search rules) (λ c κs. search rules) (λ c. search rules) (λ c κs. search rules) (λ c. search rules)
     returns)

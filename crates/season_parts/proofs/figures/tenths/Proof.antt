@@ -9,9 +9,9 @@ returns : tie.Need-returns
 unfolding tenths if◌then◌else◌
 returns c = rw (eq-eqb _ _ c.if1.true)
 
-returns-2 : tie.Need-returns-2
+returns_2 : tie.Need-returns-2
 unfolding tenths if◌then◌else◌
-returns-2 c = rw (ne_eqb _ _ c.if1.false)
+returns_2 c = rw (ne_eqb _ _ c.if1.false)
 
-pub tenths-spec : {M : Type 1} → statement M
-tenths-spec = tie.close (tie.spec (λ c. search rules) (λ c. search rules) returns returns-2)
+pub tenths_spec : {M : Type 1} → statement M
+tenths_spec = tie.close (tie.spec (λ c. search rules) (λ c. search rules) returns returns_2)

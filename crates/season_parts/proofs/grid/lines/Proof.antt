@@ -1,12 +1,12 @@
 use native.Mathlib.Omega.{arith}
 use Rattle.text_make.proofs.Adding.{◌then◌}
-use Rattle.season_parts.specs.Grid.{gridLines}
+use Rattle.season_parts.specs.Grid.{grid_lines}
 use borrow.Author.Rules.{rules}
 use Rattle.season_parts.proofs.grid.lines.Statement.{statement}
 use Rattle.season_parts.proofs.grid.lines.Tie as tie
 
 returns : tie.Need-returns
-unfolding gridLines
+unfolding grid_lines
 returns c = let at-row2 = c.before.before.before.before.before.before.before in
     let at_row = at-row2.before.before.before.before.before in
     let at-string = at_row.before.before.before.before.before in
@@ -22,7 +22,7 @@ returns c = let at-row2 = c.before.before.before.before.before.before.before in
       );
     }
 
-pub lines-spec : {M : Type 1} → statement M
-lines-spec = tie.close (tie.spec (λ c. search rules) (λ c κs. search rules) (λ c. search rules) (λ c κs. search rules)
+pub lines_spec : {M : Type 1} → statement M
+lines_spec = tie.close (tie.spec (λ c. search rules) (λ c κs. search rules) (λ c. search rules) (λ c κs. search rules)
     (λ c. search rules) (λ c κs. search rules) (λ c. search rules) (λ c. search rules) (λ c. search rules)
     (λ c. search rules) (λ c κs. search rules) (λ c. search rules) returns)

@@ -1,12 +1,12 @@
 use native.Mathlib.Omega.{arith}
 use Rattle.text_make.proofs.Adding.{◌then◌}
-use Rattle.season_parts.specs.Grid.{gridRow}
+use Rattle.season_parts.specs.Grid.{grid_row}
 use borrow.Author.Rules.{rules}
 use Rattle.season_parts.proofs.grid.row.Statement.{statement}
 use Rattle.season_parts.proofs.grid.row.Tie as tie
 
 returns : tie.Need-returns
-unfolding gridRow
+unfolding grid_row
 returns c = let at-column4 = c.before.before.before.before.before.before.before in
     let at-column3 = at-column4.before.before.before.before in
     let at-column2 = at-column3.before.before.before.before in
@@ -29,7 +29,7 @@ returns c = let at-column4 = c.before.before.before.before.before.before.before 
       );
     }
 
-pub row-spec : {M : Type 1} → statement M
-row-spec = tie.close (tie.spec (λ c κs. search rules) (λ c κs. search rules) (λ c κs. search rules)
+pub row_spec : {M : Type 1} → statement M
+row_spec = tie.close (tie.spec (λ c κs. search rules) (λ c κs. search rules) (λ c κs. search rules)
     (λ c κs. search rules) (λ c. search rules) (λ c. search rules) (λ c κs. search rules) (λ c. search rules)
     (λ c κs. search rules) (λ c. search rules) returns)

@@ -4,35 +4,35 @@ use borrow.Author.Tests.{not-true, not-false, ltb-true}
 use native.Mathlib.Omega.{arith}
 use mathlib.Core.Path.{sym, ◌∙◌}
 use Prim.Native.Nat.{◌-◌}
-use Rattle.limits.specs.Sizes.{reportLines}
-use Rattle.season_sum.proofs.Sums.{Adding, adding-start, adding-done, adding-stops, adding-more}
+use Rattle.limits.specs.Sizes.{report_lines}
+use Rattle.season_sum.proofs.Sums.{Adding, adding_start, adding_done, adding_stops, adding_more}
 use Rattle.season_sum.proofs.adding.add.Statement.{statement}
 use Rattle.season_sum.proofs.adding.add.Tie as tie
 
-abbrev invariant-loop : tie.invariant-loop
-invariant-loop figures sums₀ i₀ sums i = Adding sums₀ figures i sums
+abbrev invariant_loop : tie.invariant_loop
+invariant_loop figures sums₀ i₀ sums i = Adding sums₀ figures i sums
 
-abbrev decreases-loop : tie.decreases-loop
-decreases-loop figures sums₀ i₀ sums i = reportLines - i
+abbrev decreases_loop : tie.decreases_loop
+decreases_loop figures sums₀ i₀ sums i = report_lines - i
 
-loop-holds : tie.Need-loop-init invariant-loop decreases-loop
-loop-holds c = adding-start _ _
+loop_holds : tie.Need-loop-init invariant_loop decreases_loop
+loop_holds c = adding_start _ _
 
-returns : tie.Need-returns invariant-loop decreases-loop
+returns : tie.Need-returns invariant_loop decreases_loop
 returns c = let at-loop = c.before.before.before.before.before in
-    adding-stops _ _ _ _ at-loop.loop.invariant (omega arith) (omega arith) (sym c.before.is_sum.ensures ∙ not-true _ c.if1.true)
+    adding_stops _ _ _ _ at-loop.loop.invariant (omega arith) (omega arith) (sym c.before.is_sum.ensures ∙ not-true _ c.if1.true)
 
-add-sums : tie.Need-overflow-add-sums invariant-loop decreases-loop
-add-sums c = record { fits = ltb-true _ _ (sym c.before.is_sum.ensures ∙ not-false _ c.if1.false) }
+add_sums : tie.Need-overflow-add-sums invariant_loop decreases_loop
+add_sums c = record { fits = ltb-true _ _ (sym c.before.is_sum.ensures ∙ not-false _ c.if1.false) }
 
-loop-again : tie.Need-loop-preserved invariant-loop decreases-loop
-loop-again c = let at-loop = c.before.before.before.before.before in
-    adding-more _ _ _ _ at-loop.loop.invariant (omega arith) (omega arith) (sym c.before.is_sum.ensures ∙ not-false _ c.if1.false)
+loop_again : tie.Need-loop-preserved invariant_loop decreases_loop
+loop_again c = let at-loop = c.before.before.before.before.before in
+    adding_more _ _ _ _ at-loop.loop.invariant (omega arith) (omega arith) (sym c.before.is_sum.ensures ∙ not-false _ c.if1.false)
 
-returns-2 : tie.Need-returns-2 invariant-loop decreases-loop
-returns-2 c = adding-done _ _ _ _ c.before.loop.invariant (omega arith)
+returns_2 : tie.Need-returns-2 invariant_loop decreases_loop
+returns_2 c = adding_done _ _ _ _ c.before.loop.invariant (omega arith)
 
 pub add_spec : {M : Type 1} → statement M
-add_spec = tie.close (tie.spec invariant-loop decreases-loop loop-holds (λ c. search rules) (λ c. search rules) (λ c. search rules)
-    (λ c. search rules) (λ c κs. search rules) (λ c. search rules) returns add-sums (λ c. search rules)
-    (λ c. search rules) (λ c. search rules) (λ c. search rules) loop-again returns-2)
+add_spec = tie.close (tie.spec invariant_loop decreases_loop loop_holds (λ c. search rules) (λ c. search rules) (λ c. search rules)
+    (λ c. search rules) (λ c κs. search rules) (λ c. search rules) returns add_sums (λ c. search rules)
+    (λ c. search rules) (λ c. search rules) (λ c. search rules) loop_again returns_2)

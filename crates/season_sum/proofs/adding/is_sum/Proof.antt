@@ -6,5 +6,5 @@ use Rattle.season_sum.proofs.adding.is_sum.Tie as tie
 returns : tie.Need-returns
 returns c = sum_fits c.args.a _ (search rules)
 
-pub is-sum-spec : {M : Type 1} → statement M
-is-sum-spec = tie.close (tie.spec (λ c. search rules) returns)
+pub is_sum_spec : {M : Type 1} → statement M
+is_sum_spec = tie.close (tie.spec (λ c. search rules) returns)

@@ -1,42 +1,42 @@
 -- `hex_table` has the value of each byte: of those that are no digit from the start, of the digits and letters by the loops.
 use Rattle.std.proofs.Common.{◌-◌, ◌≤◌, arith, rules}
-use Rattle.text.proofs.HexTables.{Filled, table-start, table-digit, table-digits, table-letter, table-end}
+use Rattle.text.proofs.HexTables.{Filled, table_start, table_digit, table_digits, table_letter, table_end}
 use Rattle.text.proofs.byte.hex_table.Statement.{statement}
 use Rattle.text.proofs.byte.hex_table.Tie as tie
 
 -- the digits below b have their values
-abbrev invariant-loop : tie.invariant-loop
-invariant-loop table₀ b₀ table b = (b ≤ 58) × Filled table b 97
+abbrev invariant_loop : tie.invariant_loop
+invariant_loop table₀ b₀ table b = (b ≤ 58) × Filled table b 97
 
-abbrev decreases-loop : tie.decreases-loop
-decreases-loop table₀ b₀ table b = 58 - b
+abbrev decreases_loop : tie.decreases_loop
+decreases_loop table₀ b₀ table b = 58 - b
 
 -- all digits have, and the letters below b
-abbrev invariant-loop2 : tie.invariant-loop2
-invariant-loop2 table₀ b₀ table b = (b ≤ 103) × Filled table 58 b
+abbrev invariant_loop2 : tie.invariant_loop2
+invariant_loop2 table₀ b₀ table b = (b ≤ 103) × Filled table 58 b
 
-abbrev decreases-loop2 : tie.decreases-loop2
-decreases-loop2 table₀ b₀ table b = 103 - b
+abbrev decreases_loop2 : tie.decreases_loop2
+decreases_loop2 table₀ b₀ table b = 103 - b
 
-loop-holds : tie.Need-loop-init invariant-loop decreases-loop invariant-loop2 decreases-loop2
-loop-holds c = (omega arith, table-start)
+loop_holds : tie.Need-loop-init invariant_loop decreases_loop invariant_loop2 decreases_loop2
+loop_holds c = (omega arith, table_start)
 
-loop-again : tie.Need-loop-preserved invariant-loop decreases-loop invariant-loop2 decreases-loop2
-loop-again c =
-    (omega arith, table-digit _ _ _ _ c.before.before.loop.invariant.1 (omega arith) c.hex-value.ensures)
+loop_again : tie.Need-loop-preserved invariant_loop decreases_loop invariant_loop2 decreases_loop2
+loop_again c =
+    (omega arith, table_digit _ _ _ _ c.before.before.loop.invariant.1 (omega arith) c.hex-value.ensures)
 
-loop2-holds : tie.Need-loop2-init invariant-loop decreases-loop invariant-loop2 decreases-loop2
-loop2-holds c = (omega arith, table-digits _ _ _ (omega arith) c.before.loop.invariant.1)
+loop2_holds : tie.Need-loop2-init invariant_loop decreases_loop invariant_loop2 decreases_loop2
+loop2_holds c = (omega arith, table_digits _ _ _ (omega arith) c.before.loop.invariant.1)
 
-loop2-again : tie.Need-loop2-preserved invariant-loop decreases-loop invariant-loop2 decreases-loop2
-loop2-again c =
-    (omega arith, table-letter _ _ _ _ c.before.before.loop2.invariant.1 (omega arith) c.hex-value2.ensures)
+loop2_again : tie.Need-loop2-preserved invariant_loop decreases_loop invariant_loop2 decreases_loop2
+loop2_again c =
+    (omega arith, table_letter _ _ _ _ c.before.before.loop2.invariant.1 (omega arith) c.hex-value2.ensures)
 
-returns : tie.Need-returns invariant-loop decreases-loop invariant-loop2 decreases-loop2
-returns c = table-end _ _ (omega arith) c.before.loop2.invariant.1
+returns : tie.Need-returns invariant_loop decreases_loop invariant_loop2 decreases_loop2
+returns c = table_end _ _ (omega arith) c.before.loop2.invariant.1
 
-pub hex-table-spec : {M : Type 1} → statement M
-hex-table-spec = tie.close (tie.spec invariant-loop decreases-loop invariant-loop2 decreases-loop2 loop-holds (λ c κs. search rules)
-    (λ c. search rules) (λ c. search rules) (λ c. search rules) (λ c. search rules) loop-again loop2-holds
-    (λ c κs. search rules) (λ c. search rules) (λ c. search rules) (λ c. search rules) (λ c. search rules) loop2-again
+pub hex_table_spec : {M : Type 1} → statement M
+hex_table_spec = tie.close (tie.spec invariant_loop decreases_loop invariant_loop2 decreases_loop2 loop_holds (λ c κs. search rules)
+    (λ c. search rules) (λ c. search rules) (λ c. search rules) (λ c. search rules) loop_again loop2_holds
+    (λ c κs. search rules) (λ c. search rules) (λ c. search rules) (λ c. search rules) (λ c. search rules) loop2_again
     returns)

@@ -5,29 +5,29 @@ use Prim.Native.Nat.{◌+◌}
 use Rattle.text_hash.proofs.word.whole.Statement.{statement}
 use Rattle.text_hash.proofs.word.whole.Tie as tie
 
-cast-result : tie.Need-overflow-cast-result
-cast-result c = omega (arith, c.shared-slice-known.given c.before.args.i)
+cast_result : tie.Need-overflow-cast-result
+cast_result c = omega (arith, c.shared-slice-known.given c.before.args.i)
 
-cast-result-2 : tie.Need-overflow-cast-result-2
-cast-result-2 c = omega (arith, c.before.shared-slice-known.given (c.before.before.args.i + 1))
+cast_result_2 : tie.Need-overflow-cast-result-2
+cast_result_2 c = omega (arith, c.before.shared-slice-known.given (c.before.before.args.i + 1))
 
-mul-result : tie.Need-overflow-mul-result
-mul-result c = omega (arith, c.before.shared-slice-known.given (c.before.before.args.i + 1))
+mul_result : tie.Need-overflow-mul-result
+mul_result c = omega (arith, c.before.shared-slice-known.given (c.before.before.args.i + 1))
 
-add-result-2 : tie.Need-overflow-add-result-2
-add-result-2 c =
+add_result_2 : tie.Need-overflow-add-result-2
+add_result_2 c =
     omega (arith, c.before.shared-slice-known.given c.before.before.args.i, c.before.shared-slice-known.given (c.before.before.args.i + 1))
 
-cast-result-3 : tie.Need-overflow-cast-result-3
-cast-result-3 c = let at-start = c.before.before.before in
+cast_result_3 : tie.Need-overflow-cast-result-3
+cast_result_3 c = let at-start = c.before.before.before in
     omega (arith, c.before.before.shared-slice-known.given (at-start.args.i + 2))
 
-mul-result-2 : tie.Need-overflow-mul-result-2
-mul-result-2 c = let at-start = c.before.before.before in
+mul_result_2 : tie.Need-overflow-mul-result-2
+mul_result_2 c = let at-start = c.before.before.before in
     omega (arith, c.before.before.shared-slice-known.given (at-start.args.i + 2))
 
-add-result-4 : tie.Need-overflow-add-result-4
-add-result-4 c = let at-start = c.before.before.before in
+add_result_4 : tie.Need-overflow-add-result-4
+add_result_4 c = let at-start = c.before.before.before in
     omega (
       arith,
       c.before.before.shared-slice-known.given at-start.args.i,
@@ -35,16 +35,16 @@ add-result-4 c = let at-start = c.before.before.before in
       c.before.before.shared-slice-known.given (at-start.args.i + 2),
     )
 
-cast-result-4 : tie.Need-overflow-cast-result-4
-cast-result-4 c = let at-shared-slice-known = c.before.before.before in
+cast_result_4 : tie.Need-overflow-cast-result-4
+cast_result_4 c = let at-shared-slice-known = c.before.before.before in
     omega (arith, at-shared-slice-known.shared-slice-known.given (at-shared-slice-known.before.args.i + 3))
 
-mul-result-3 : tie.Need-overflow-mul-result-3
-mul-result-3 c = let at-shared-slice-known = c.before.before.before in
+mul_result_3 : tie.Need-overflow-mul-result-3
+mul_result_3 c = let at-shared-slice-known = c.before.before.before in
     omega (arith, at-shared-slice-known.shared-slice-known.given (at-shared-slice-known.before.args.i + 3))
 
-add-result-6 : tie.Need-overflow-add-result-6
-add-result-6 c = let at-shared-slice-known = c.before.before.before in
+add_result_6 : tie.Need-overflow-add-result-6
+add_result_6 c = let at-shared-slice-known = c.before.before.before in
     let at-start = at-shared-slice-known.before in
     omega (
       arith,
@@ -66,7 +66,7 @@ returns c = let at-shared-slice-known = c.before.before.before in let at-start =
   ),
 )
 
-pub whole-spec : {M : Type 1} → statement M
-whole-spec = tie.close (tie.spec (λ c. search rules) cast-result (λ c. search rules) (λ c. search rules) cast-result-2
-    mul-result add-result-2 (λ c. search rules) (λ c. search rules) cast-result-3 mul-result-2 add-result-4
-    (λ c. search rules) (λ c. search rules) cast-result-4 mul-result-3 add-result-6 returns)
+pub whole_spec : {M : Type 1} → statement M
+whole_spec = tie.close (tie.spec (λ c. search rules) cast_result (λ c. search rules) (λ c. search rules) cast_result_2
+    mul_result add_result_2 (λ c. search rules) (λ c. search rules) cast_result_3 mul_result_2 add_result_4
+    (λ c. search rules) (λ c. search rules) cast_result_4 mul_result_3 add_result_6 returns)

@@ -3,9 +3,9 @@ use borrow.Author.Rules.{rules}
 use Rattle.vectors.proofs.paths.write_hex.Statement.{statement}
 use Rattle.vectors.proofs.paths.write_hex.Tie as tie
 
-read-line-requires : tie.Need-read-line-requires
-read-line-requires c κs = (c.before.before.hex-table.ensures, (search rules, search rules))
+read_line_requires : tie.Need-read-line-requires
+read_line_requires c κs = (c.before.before.hex-table.ensures, (search rules, search rules))
 
-pub write-hex-spec : {M : Type 1} → statement M
-write-hex-spec = tie.close (tie.spec (λ c κs. search rules) (λ c. search rules) read-line-requires (λ c. search rules)
+pub write_hex_spec : {M : Type 1} → statement M
+write_hex_spec = tie.close (tie.spec (λ c κs. search rules) (λ c. search rules) read_line_requires (λ c. search rules)
     (λ c. search rules) (λ c. search rules) (λ c κs. search rules) (λ c. search rules) (λ c. search rules))

@@ -7,18 +7,18 @@ use Rattle.vectors.proofs.split.lines.Statement.{statement}
 use Rattle.vectors.proofs.split.lines.Tie as tie
 
 -- the buffer keeps its length
-abbrev invariant-loop : tie.invariant-loop
-invariant-loop s sign out₀ i₀ out i = length out ≡ length out₀
+abbrev invariant_loop : tie.invariant_loop
+invariant_loop s sign out₀ i₀ out i = length out ≡ length out₀
 
-abbrev decreases-loop : tie.decreases-loop
-decreases-loop s sign out₀ i₀ out i = length s - i
+abbrev decreases_loop : tie.decreases_loop
+decreases_loop s sign out₀ i₀ out i = length s - i
 
-loop-again : tie.Need-loop-preserved invariant-loop decreases-loop
-loop-again c = let at-loop = c.before.before.before in simp length-set at-loop.loop.invariant
+loop_again : tie.Need-loop-preserved invariant_loop decreases_loop
+loop_again c = let at-loop = c.before.before.before in simp length-set at-loop.loop.invariant
 
-same_length : tie.Need-same-length invariant-loop decreases-loop
+same_length : tie.Need-same-length invariant_loop decreases_loop
 same_length c = c.before.loop.invariant
 
-pub lines-spec : {M : Type 1} → statement M
-lines-spec = tie.close (tie.spec invariant-loop decreases-loop (λ c. search rules) (λ c. search rules) (λ c κs. search rules)
-    (λ c. search rules) (λ c. search rules) (λ c. search rules) loop-again same_length (λ c. search rules))
+pub lines_spec : {M : Type 1} → statement M
+lines_spec = tie.close (tie.spec invariant_loop decreases_loop (λ c. search rules) (λ c. search rules) (λ c κs. search rules)
+    (λ c. search rules) (λ c. search rules) (λ c. search rules) loop_again same_length (λ c. search rules))

@@ -7,5 +7,5 @@ returns : tie.Need-returns
 unfolding holds
 returns c = c.any-answers.ensures
 
-pub gives-spec : {M : Type 1} → statement M
-gives-spec = tie.close (tie.spec (λ c κs. search rules) returns)
+pub gives_spec : {M : Type 1} → statement M
+gives_spec = tie.close (tie.spec (λ c κs. search rules) returns)

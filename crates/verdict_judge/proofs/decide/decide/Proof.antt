@@ -9,13 +9,13 @@ use Rattle.text.proofs.Tests.{clash}
 use Rattle.path.specs.Path.{Path}
 use Rattle.table.specs.Table.{Rule}
 use Rattle.verdict.specs.Order.{better, choose, prefer}
-use Rattle.verdict.proofs.Order.{better-order}
-use Rattle.table_place.specs.Place.{elemsIn}
-use Rattle.table_rows.specs.Rules.{rulesIn}
+use Rattle.verdict.proofs.Order.{better_order}
+use Rattle.table_place.specs.Place.{elems_in}
+use Rattle.table_rows.specs.Rules.{rules_in}
 use Rattle.verdict_judge.specs.Rules.{Marked}
 use Rattle.verdict_judge.specs.Best.{held, Ranked, NumberBelow, matching}
 use Rattle.verdict_judge.specs.declared.best.Best.{Best}
-use Rattle.verdict_judge.proofs.Steps.{best_none, best-turn, best-end}
+use Rattle.verdict_judge.proofs.Steps.{best_none, best_turn, best_end}
 use Rattle.verdict_judge.proofs.decide.decide.Statement.{statement}
 use Rattle.verdict_judge.proofs.decide.decide.Tie as tie
 
@@ -25,57 +25,57 @@ record Best-so-far (f starts on : List ℕ) (n : ℕ) (p : Path) (b : Best) (i :
   ranked : Ranked f b
   numbered : NumberBelow n b
   best : (app : Rule → Bool) → Marked app f starts on n
-      → choose better (matching app p) 0 (rulesIn f starts n 0) ≡ prefer better (held f b) (choose better (matching app p) i (rulesIn f starts (n - i) i))
+      → choose better (matching app p) 0 (rules_in f starts n 0) ≡ prefer better (held f b) (choose better (matching app p) i (rules_in f starts (n - i) i))
 
 -- b is the best of the rules before i
-abbrev invariant-loop : tie.invariant-loop
-invariant-loop f starts on n g p k b₀ i₀ b i = Best-so-far f starts on n (elemsIn k g p) b i
+abbrev invariant_loop : tie.invariant_loop
+invariant_loop f starts on n g p k b₀ i₀ b i = Best-so-far f starts on n (elems_in k g p) b i
 
-abbrev decreases-loop : tie.decreases-loop
-decreases-loop f starts on n g p k b₀ i₀ b i = n - i
+abbrev decreases_loop : tie.decreases_loop
+decreases_loop f starts on n g p k b₀ i₀ b i = n - i
 
-loop-holds : tie.Need-loop-init invariant-loop decreases-loop
-loop-holds c = let at-start = c.before.before.before.before in
-    let p = elemsIn at-start.args.k at-start.args.g.now at-start.args.p in
+loop_holds : tie.Need-loop-init invariant_loop decreases_loop
+loop_holds c = let at-start = c.before.before.before.before in
+    let p = elems_in at-start.args.k at-start.args.g.now at-start.args.p in
     record {
       inside = zero-le;
       ranked = λ z. clash (eq-eqb 0 0 refl) z;
       numbered = λ z. clash (eq-eqb 0 0 refl) z;
-      best = λ app h. best_none better better-order (matching app p) at-start.args.f.now at-start.args.starts.now at-start.args.n;
+      best = λ app h. best_none better better_order (matching app p) at-start.args.f.now at-start.args.starts.now at-start.args.n;
     }
 
-cast-s : tie.Need-overflow-cast-s invariant-loop decreases-loop
-cast-s c = omega (arith, c.shared-slice-known5.given c.before.before.loop.i)
+cast_s : tie.Need-overflow-cast-s invariant_loop decreases_loop
+cast_s c = omega (arith, c.shared-slice-known5.given c.before.before.loop.i)
 
-take-match-requires : tie.Need-take-match-requires invariant-loop decreases-loop
-take-match-requires c κs = let at-loop = c.before.before.before in
+take_match_requires : tie.Need-take-match-requires invariant_loop decreases_loop
+take_match_requires c κs = let at-loop = c.before.before.before in
     let at-start = at-loop.before.before.before.before.before in
     (at-start.requires.rules.laid _ c.before.before.loop-test.true, at-loop.loop.invariant.ranked, at-start.requires.path, at-start.requires.rules.short)
 
-loop-again : tie.Need-loop-preserved invariant-loop decreases-loop
-loop-again c = let at-loop-test = c.before.before.before in let at-loop = at-loop-test.before in
+loop_again : tie.Need-loop-preserved invariant_loop decreases_loop
+loop_again c = let at-loop-test = c.before.before.before in let at-loop = at-loop-test.before in
     let at-start = at-loop.before.before.before.before.before in
-    let p = elemsIn at-start.args.k at-start.args.g.now at-start.args.p in
+    let p = elems_in at-start.args.k at-start.args.g.now at-start.args.p in
     record {
       inside = omega arith;
       ranked = c.take-match.ensures.ranked;
       numbered = c.take-match.ensures.numbered _ at-loop-test.loop-test.true at-loop.loop.invariant.numbered;
-      best = λ app h. best-turn better better-order (matching app p) at-start.args.f.now
+      best = λ app h. best_turn better better_order (matching app p) at-start.args.f.now
           at-start.args.starts.now at-start.args.n _ at-loop.loop.b _ at-loop.loop.i
           at-loop-test.loop-test.true (c.take-match.ensures.best app (h _ at-loop-test.loop-test.true)) (at-loop.loop.invariant.best app h);
     }
 
-returns : tie.Need-returns invariant-loop decreases-loop
+returns : tie.Need-returns invariant_loop decreases_loop
 returns c = let at-start = c.before.before.before.before.before.before in
-    let p = elemsIn at-start.args.k at-start.args.g.now at-start.args.p in
+    let p = elems_in at-start.args.k at-start.args.g.now at-start.args.p in
     record {
       ranked = c.before.loop.invariant.ranked;
       numbered = c.before.loop.invariant.numbered;
-      best = λ app h. best-end better better-order (matching app p) at-start.args.f.now
+      best = λ app h. best_end better better_order (matching app p) at-start.args.f.now
           at-start.args.starts.now at-start.args.n _ c.before.loop.b c.before.loop.i c.loop-test.false (c.before.loop.invariant.best app h);
     }
 
-pub decide-spec : {M : Type 1} → statement M
-decide-spec = tie.close (tie.spec invariant-loop decreases-loop loop-holds (λ c. search rules) (λ c. search rules) cast-s
-    (λ c. search rules) (λ c. search rules) take-match-requires (λ c. search rules) (λ c. search rules) loop-again
+pub decide_spec : {M : Type 1} → statement M
+decide_spec = tie.close (tie.spec invariant_loop decreases_loop loop_holds (λ c. search rules) (λ c. search rules) cast_s
+    (λ c. search rules) (λ c. search rules) take_match_requires (λ c. search rules) (λ c. search rules) loop_again
     returns)

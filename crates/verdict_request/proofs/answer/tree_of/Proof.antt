@@ -7,9 +7,9 @@ returns : tie.Need-returns
 unfolding tree_of
 returns c = rw c.enum_told.given.1
 
-returns-2 : tie.Need-returns-2
+returns_2 : tie.Need-returns-2
 unfolding tree_of
-returns-2 c = rw c.before.v.given.1
+returns_2 c = rw c.before.v.given.1
 
-pub tree-of-spec : {M : Type 1} → statement M
-tree-of-spec = tie.close (tie.spec (λ c. search rules) (λ c. search rules) returns returns-2)
+pub tree_of_spec : {M : Type 1} → statement M
+tree_of_spec = tie.close (tie.spec (λ c. search rules) (λ c. search rules) returns returns_2)

@@ -1,12 +1,12 @@
-use Rattle.verdict_tree.proofs.Weights.{xor-true, xor-false}
+use Rattle.verdict_tree.proofs.Weights.{xor_true, xor_false}
 use Rattle.verdict_tree.proofs.witness.unlike.Statement.{statement}
 use Rattle.verdict_tree.proofs.witness.unlike.Tie as tie
 
 returns : tie.Need-returns
-returns c = rw c.if1.true (xor-true _)
+returns c = rw c.if1.true (xor_true _)
 
-returns-2 : tie.Need-returns-2
-returns-2 c = rw c.if1.false (xor-false _)
+returns_2 : tie.Need-returns-2
+returns_2 c = rw c.if1.false (xor_false _)
 
-pub unlike-spec : {M : Type 1} → statement M
-unlike-spec = tie.close (tie.spec returns returns-2)
+pub unlike_spec : {M : Type 1} → statement M
+unlike_spec = tie.close (tie.spec returns returns_2)
