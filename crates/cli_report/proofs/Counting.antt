@@ -12,7 +12,7 @@ use Rattle.table.specs.declared.Checked.TheVariants.{Accepted}
 use Rattle.table_load.specs.declared.row.Counts.{Counts}
 use Rattle.table_load.specs.Loaded.{Kept}
 use Rattle.verdict.specs.Verdict.{Request}
-use Rattle.log.specs.Log.{judge_log, check_log, requests_of, log_of}
+use Rattle.request_log.specs.Log.{judge_log, check_log, requests_of, log_of}
 use Rattle.season.proofs.Asked.{log_few}
 use Rattle.season.proofs.Figures.{all_rules, rules_few, grid_few}
 use Rattle.season.proofs.Parts.{both_lines, both_logs, both_checked}

@@ -4,7 +4,7 @@ use Rattle.text.specs.String.{Str}
 use Rattle.table.specs.Table.{Table}
 use Rattle.table.specs.Text.{check, table_of}
 use Rattle.table.specs.declared.Checked.TheVariants.{Accepted}
-use Rattle.log.specs.Log.{check_log, log_of}
+use Rattle.request_log.specs.Log.{check_log, log_of}
 use Rattle.season_count.specs.Counts.{UpTo}
 use Rattle.season_count.specs.Counting.{CountsOf}
 use Rattle.season_call.specs.Counted.{CountedLog}

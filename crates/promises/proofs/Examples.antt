@@ -26,8 +26,8 @@ use Rattle.verdict_request.specs.Calls.{bad_mode, bad_origin, request_refusal, r
 use Rattle.text_affix.specs.Affix.{empty, begins, ends}
 use Rattle.rpc.specs.Pattern as pattern
 use Rattle.text_make.specs.Decimal.{digits, decimal}
-use Rattle.log.specs.Request.{request_body, framed_request, framed_refusal, unrefused, good_request, request_of}
-use Rattle.log.specs.Log.{judge_log, check_log, before as put_before, requests_of, log_of}
+use Rattle.request_log.specs.Request.{request_body, framed_request, framed_refusal, unrefused, good_request, request_of}
+use Rattle.request_log.specs.Log.{judge_log, check_log, before as put_before, requests_of, log_of}
 use Rattle.season.specs.Report.{answer_to, decides, permitted, denied_by_rule, denied_by_default}
 use Rattle.season.specs.Report.{count, for_each, rule_count, rule_counts, cell, row, figures, figure_line, report}
 use Rattle.season.specs.Calls.{first_fault, fault, report_of}

@@ -39,8 +39,8 @@ use Rattle.verdict_request.specs.declared.PathAnswer.{PathAnswer}
 use Rattle.verdict_request.specs.declared.PathAnswer.TheVariants as path
 use Rattle.verdict_request.specs.declared.TreeAnswer.{TreeAnswer}
 use Rattle.verdict_request.specs.declared.TreeAnswer.TheVariants as trees
-use Rattle.log.specs.Request.{request_of}
-use Rattle.log.specs.Log.{judge_log, check_log, log_of}
+use Rattle.request_log.specs.Request.{request_of}
+use Rattle.request_log.specs.Log.{judge_log, check_log, log_of}
 use Rattle.season.specs.Calls.{first_fault, fault, report_of, answered, season_answer}
 use Rattle.season.proofs.Figures.{report_short}
 use Rattle.season.proofs.Asked.{log_few}

@@ -15,7 +15,7 @@ use Rattle.table.specs.Frame.{whole}
 use Rattle.table.specs.Refusal.{stray}
 use Rattle.table.specs.Group.{bad_user}
 use Rattle.verdict_request.specs.Calls.{bad_mode, bad_origin}
-use Rattle.log.specs.Request.{request_body, framed_request, framed_refusal, unrefused, good_request}
+use Rattle.request_log.specs.Request.{request_body, framed_request, framed_refusal, unrefused, good_request}
 use Rattle.readable_parts.specs.Parts.{part_of, rest, of_rest, quoted, hex_pair, hex_text, shown_string, shown_time, shown_path, shown_code, shown_plain, shown}
 use Rattle.readable_lines.specs.Form.{parts, form_by, printed, shown_by, shown_frame}
 use Rattle.readable_lines.specs.Lines.{lined, shown_line_by, shown_line, shown_log_line, packed_log_line}

@@ -29,8 +29,8 @@ use Rattle.table.specs.Refusal.{stray}
 use Rattle.table.specs.Group.{bad_user}
 use Rattle.verdict.specs.Verdict.{Request}
 use Rattle.verdict_request.specs.Calls.{bad_mode, bad_origin}
-use Rattle.log.specs.Request.{request_body, framed_request, framed_refusal, unrefused, good_request, request_of}
-use Rattle.log.proofs.Lengths.{good_short}
+use Rattle.request_log.specs.Request.{request_body, framed_request, framed_refusal, unrefused, good_request, request_of}
+use Rattle.request_log.proofs.Lengths.{good_short}
 use Rattle.readable_parts.specs.Parts.{part_of, hex_text, shown, packed}
 use Rattle.readable_parts.proofs.Digits.{hex_length}
 use Rattle.readable_lines.specs.Form.{parts, request_form, printed, shown_by, packed_by}

@@ -16,11 +16,11 @@ use Rattle.text.specs.Frame.{Parsed, got, unread}
 use Rattle.text.proofs.Tests.{by}
 use Rattle.path.specs.Bytes.{path}
 use Rattle.path.specs.Walk.{is_path_in}
-use Rattle.log.specs.Request.{good_request}
-use Rattle.log.specs.Heading.{Head, heading, head_refusal, headed}
-use Rattle.log.specs.declared.Heading.{Heading}
-use Rattle.log.specs.declared.Heading.TheVariants as headings
-use Rattle.log.proofs.Headings.{no_heading_lem, bad_heading, bad_path, good_path_lem}
+use Rattle.request_log.specs.Request.{good_request}
+use Rattle.request_log.specs.Heading.{Head, heading, head_refusal, headed}
+use Rattle.request_log.specs.declared.Heading.{Heading}
+use Rattle.request_log.specs.declared.Heading.TheVariants as headings
+use Rattle.request_log.proofs.Headings.{no_heading_lem, bad_heading, bad_path, good_path_lem}
 use Rattle.path_read.specs.declared.reader.Stored.{Stored}
 use Rattle.path_read.specs.declared.reader.Stored.TheVariants.{To}
 use Rattle.readable_parts.specs.Parts.{shown, packed}

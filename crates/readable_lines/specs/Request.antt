@@ -2,7 +2,7 @@
 use Rattle.std.proofs.Math.Option.{Option, none, some, bind}
 use Rattle.text.specs.Test.{if◌then◌else◌, absent}
 use Rattle.text.specs.String.{Str}
-use Rattle.log.specs.Request.{good_request}
+use Rattle.request_log.specs.Request.{good_request}
 use Rattle.readable_parts.specs.Parts.{shown, packed}
 use Rattle.readable_lines.specs.Form.{parts, request_form, shown_by, packed_by}
 

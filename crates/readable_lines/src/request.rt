@@ -1,19 +1,19 @@
 // Requests of a log: frames and readable lines, part by part.
 ghost use Rattle.std.specs.Prelude.{◌≡◌, not, ◌≤◌, length};
 ghost use Rattle.text.specs.Test.{absent};
-ghost use Rattle.log.specs.Request.{good_request};
+ghost use Rattle.request_log.specs.Request.{good_request};
 ghost use Rattle.readable_lines.specs.Request.{shown_request, packed_request};
 ghost use Rattle.readable_lines.specs.Steps.{max_made_frame, Fills};
 
 use crate::form;
-use log::Heading;
+use request_log::Heading;
 use path_read::reader::Stored;
 
 // Whether the frame holds a good request.
 fn is_good(f: &[u8]) -> bool
     ensures { result ≡ not (absent (good_request f.now)) }
 {
-    let h = log::read_heading(f);
+    let h = request_log::read_heading(f);
     let Heading::At {
         number,
         origin: _,

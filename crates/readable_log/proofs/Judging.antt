@@ -13,8 +13,8 @@ use Rattle.text.specs.String.{Str}
 use Rattle.table_line.specs.Lines.{lines}
 use Rattle.table.specs.declared.Checked.TheVariants.{Accepted, Refused}
 use Rattle.verdict.specs.Verdict.{Request}
-use Rattle.log.specs.Request.{request_of}
-use Rattle.log.specs.Log.{judge_log, check_log}
+use Rattle.request_log.specs.Request.{request_of}
+use Rattle.request_log.specs.Log.{judge_log, check_log}
 use Rattle.readable_lines.specs.Lines.{shown_log_line}
 use Rattle.readable_laws.proofs.LogLines.{good_line_returns, shown_line_good}
 use Rattle.readable_log.specs.Run.{before, converted}

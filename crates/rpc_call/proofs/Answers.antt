@@ -11,7 +11,7 @@ use Rattle.text.specs.String.{Str, bytes}
 use Rattle.text.specs.Refusal.{clear}
 use Rattle.text.proofs.Tests.{by}
 use Rattle.json_grammar.specs.Json.{Json}
-use Rattle.json.specs.Scan.{white_at}
+use Rattle.json_text.specs.Scan.{white_at}
 use Rattle.json_tree.specs.Tree.{tree_at}
 use Rattle.policy.specs.Policy.{Policy, member, items, rule_in, policy_in, policy_refusal, policy_of}
 use Rattle.policy.specs.Depth.{rules_depth}

@@ -89,6 +89,6 @@ pub fn rpc_verdict(policy: &[u8], identity: &[u8], path: &[u8], headers: &[u8]) 
     if number != limits::CLEAR {
         return Verdict::Refused(number);
     }
-    let i = json::scan::skip_white(policy, 0);
+    let i = json_text::scan::skip_white(policy, 0);
     verdict_at(policy, i, identity, path, headers)
 }

@@ -21,11 +21,11 @@ use Rattle.table_line.specs.Lines.{lines, frame}
 use Rattle.table.specs.declared.Checked.TheVariants.{Accepted}
 use Rattle.verdict.specs.Verdict.{Request}
 use Rattle.verdict_request.specs.Calls.{request_refusal, request}
-use Rattle.log.specs.Request.{framed_request, framed_refusal, unrefused, good_request, request_of}
-use Rattle.log.specs.Log.{judge_log, check_log, before, requests_of, log_of}
-use Rattle.log.proofs.Headings.{good_parts}
-use Rattle.log.proofs.Lengths.{good_mode}
-use Rattle.log.proofs.Spelled.{same_request, same_number}
+use Rattle.request_log.specs.Request.{framed_request, framed_refusal, unrefused, good_request, request_of}
+use Rattle.request_log.specs.Log.{judge_log, check_log, before, requests_of, log_of}
+use Rattle.request_log.proofs.Headings.{good_parts}
+use Rattle.request_log.proofs.Lengths.{good_mode}
+use Rattle.request_log.proofs.Spelled.{same_request, same_number}
 use Rattle.season.proofs.Totals.{ReadsOrWrites}
 
 -- ---- a request of a line

@@ -19,8 +19,8 @@ use Rattle.table.specs.Table.{Table}
 use Rattle.table.specs.declared.Checked.{Checked}
 use Rattle.table.specs.declared.Checked.TheVariants.{Accepted, Refused}
 use Rattle.verdict.specs.Verdict.{Request}
-use Rattle.log.specs.Request.{good_request, request_of}
-use Rattle.log.specs.Log.{judge_log, check_log, before, requests_of, log_of}
+use Rattle.request_log.specs.Request.{good_request, request_of}
+use Rattle.request_log.specs.Log.{judge_log, check_log, before, requests_of, log_of}
 use Rattle.season.specs.Report.{figures}
 use Rattle.season.specs.Calls.{first_fault}
 use Rattle.season.specs.Total.{total}

@@ -6,7 +6,7 @@ use Rattle.text.specs.Fill.{put}
 use Rattle.table.specs.Text.{check, table_of}
 use Rattle.table.specs.declared.Checked.{Checked}
 use Rattle.table.specs.declared.Checked.TheVariants as checked
-use Rattle.log.specs.Log.{check_log, log_of}
+use Rattle.request_log.specs.Log.{check_log, log_of}
 use Rattle.season.specs.Report.{report}
 use Rattle.season.specs.declared.Reported.{Reported}
 use Rattle.season.specs.declared.Reported.TheVariants.{Length, Refused}

@@ -5,7 +5,7 @@ use Rattle.table_line.specs.Lines.{lines}
 use Rattle.table.specs.declared.Checked.{Checked}
 use Rattle.table.specs.declared.Checked.TheVariants.{Accepted}
 use Rattle.verdict.specs.Verdict.{Request}
-use Rattle.log.specs.Log.{judge_log, log_of}
+use Rattle.request_log.specs.Log.{judge_log, log_of}
 use Rattle.season.specs.Calls.{first_fault}
 
 -- the parts, one after another, are the log; each but the last ends with LF

@@ -18,7 +18,7 @@ use Rattle.table_check.proofs.Calls.{count_requires, grouped}
 use Rattle.verdict.specs.Verdict.{Request}
 use Rattle.table.specs.Table.{Table}
 use Rattle.verdict_call.proofs.Holding.{safe, holding}
-use Rattle.log.specs.Log.{check_log, log_of}
+use Rattle.request_log.specs.Log.{check_log, log_of}
 use Rattle.season.specs.Report.{count, for_each, rule_count, rule_counts, cell, row, grid, figures, figure_line, report}
 use Rattle.season.specs.Figures.{report_text}
 use Rattle.season.specs.Calls.{first_fault, fault, report_of, answered, stored, season_answer, season_lent}

@@ -24,10 +24,10 @@ use Rattle.verdict_judge.specs.declared.best.Best.{Best}
 use Rattle.verdict_request.specs.Calls.{decided_by}
 use Rattle.verdict_request.specs.declared.PathAnswer.{PathAnswer}
 use Rattle.rule_index.specs.Found.{Found}
-use Rattle.log.specs.Request.{good_request}
-use Rattle.log.specs.Heading.{Head, heading, head_refusal}
-use Rattle.log.proofs.Headings.{no_path_there, head_mode, bad_path, good_path_lem, with_path, head_in, HeadAt, heading_at}
-use Rattle.log.proofs.Lengths.{good_mode}
+use Rattle.request_log.specs.Request.{good_request}
+use Rattle.request_log.specs.Heading.{Head, heading, head_refusal}
+use Rattle.request_log.proofs.Headings.{no_path_there, head_mode, bad_path, good_path_lem, with_path, head_in, HeadAt, heading_at}
+use Rattle.request_log.proofs.Lengths.{good_mode}
 use Rattle.season.specs.Report.{answer_to}
 use Rattle.season_count.specs.Counts.{Placed}
 use Rattle.season_count.specs.Loaded.{Headed, Answers}

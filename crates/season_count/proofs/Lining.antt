@@ -16,7 +16,7 @@ use Rattle.table_line.specs.Decoding.{digits}
 use Rattle.table_line.proofs.Digits.{digits_half}
 use Rattle.table_line.proofs.FirstLine.{Read}
 use Rattle.verdict_request.specs.declared.PathAnswer.{PathAnswer}
-use Rattle.log.specs.Request.{good_request, request_of}
+use Rattle.request_log.specs.Request.{good_request, request_of}
 use Rattle.season_count.specs.Counts.{raised_by, cell_raised_by}
 use Rattle.season_count.specs.Loaded.{Answers, Judges}
 use Rattle.season_count.specs.Counting.{Reaches, BadLine, CountedLine}

@@ -17,8 +17,8 @@ use Rattle.table_line.proofs.FirstLine.{lines_cons}
 use Rattle.table.specs.Table.{Table}
 use Rattle.table.specs.declared.Checked.TheVariants.{Accepted, Refused}
 use Rattle.verdict.specs.Verdict.{Request}
-use Rattle.log.specs.Request.{request_of}
-use Rattle.log.specs.Log.{judge_log, before, requests_of}
+use Rattle.request_log.specs.Request.{request_of}
+use Rattle.request_log.specs.Log.{judge_log, before, requests_of}
 use Rattle.season_count.specs.Counts.{UpTo}
 use Rattle.season_count.specs.Loaded.{Is, Remembered}
 use Rattle.season_count.specs.Counting.{CountsOf, BadLine, CountedLine, CountedLines, Counts-line}

@@ -22,10 +22,10 @@ use Rattle.table_membership.specs.Set.{set_in}
 use Rattle.text_hash.specs.Mix.{place_of}
 use Rattle.text_hash.specs.declared.Seed.{Seed}
 use Rattle.member_index.specs.Index.{places}
-use Rattle.log.specs.Request.{good_request}
-use Rattle.log.specs.Heading.{head_bytes, head_refusal}
-use Rattle.log.proofs.Headings.{head_in, HeadAt}
-use Rattle.log.proofs.Lengths.{heading_there, heading_length, heading_front, short_heading}
+use Rattle.request_log.specs.Request.{good_request}
+use Rattle.request_log.specs.Heading.{head_bytes, head_refusal}
+use Rattle.request_log.proofs.Headings.{head_in, HeadAt}
+use Rattle.request_log.proofs.Lengths.{heading_there, heading_length, heading_front, short_heading}
 use Rattle.season_count.specs.Loaded.{no_heading, Knows, Remembered, Headed}
 use Rattle.season_count.specs.declared.heading.Asked.{Asked}
 

@@ -17,8 +17,8 @@ use Rattle.text.proofs.Tests.{by, clash}
 use Rattle.table_line.specs.Lines.{onto, lines, pair, pairs, nonempty, frame}
 use Rattle.table_line.proofs.FirstLine.{head, lines_cons, Read, Unhex}
 use Rattle.verdict.specs.Verdict.{Request}
-use Rattle.log.specs.Request.{good_request, request_of}
-use Rattle.log.proofs.Lengths.{good_short}
+use Rattle.request_log.specs.Request.{good_request, request_of}
+use Rattle.request_log.proofs.Lengths.{good_short}
 use Rattle.season_count.specs.Counting.{Reaches, BadLine}
 
 -- ---- a hex line ends with LF, and has two digits for each byte

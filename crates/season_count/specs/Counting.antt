@@ -9,8 +9,8 @@ use Rattle.table_line.specs.Lines.{lines}
 use Rattle.table.specs.Table.{Table}
 use Rattle.table.specs.declared.Checked.TheVariants as checked
 use Rattle.verdict.specs.Verdict.{Request}
-use Rattle.log.specs.Request.{request_of}
-use Rattle.log.specs.Log.{judge_log, requests_of}
+use Rattle.request_log.specs.Request.{request_of}
+use Rattle.request_log.specs.Log.{judge_log, requests_of}
 use Rattle.season.specs.Report.{rule_counts, grid}
 use Rattle.season_count.specs.Counts.{UpTo}
 use Rattle.season_count.specs.Loaded.{Is, Remembered}

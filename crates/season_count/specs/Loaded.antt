@@ -16,8 +16,8 @@ use Rattle.member_index.specs.Index.{places, Linked}
 use Rattle.rule_index.specs.Index.{Index}
 use Rattle.verdict_request.specs.declared.PathAnswer.{PathAnswer}
 use Rattle.verdict_call.specs.Holding.{Holding}
-use Rattle.log.specs.Request.{good_request}
-use Rattle.log.specs.Heading.{Head, heading, head_bytes, head_refusal}
+use Rattle.request_log.specs.Request.{good_request}
+use Rattle.request_log.specs.Heading.{Head, heading, head_bytes, head_refusal}
 use Rattle.season.specs.Report.{answer_to}
 use Rattle.season_count.specs.Counts.{Placed}
 use Rattle.season_count.specs.declared.heading.Asked.{Asked}

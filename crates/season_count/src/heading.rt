@@ -6,7 +6,7 @@ ghost use Rattle.text.specs.Test.{◌and◌};
 ghost use Rattle.text_affix.specs.Affix.{begins};
 ghost use Rattle.season_count.specs.Loaded.{no_heading, Sound, Ready, Remembered, Headed, Judges};
 
-use log::Heading;
+use request_log::Heading;
 use rule_index::scan::Asker;
 use text_hash::Seed;
 use verdict_request::PathAnswer;
@@ -79,7 +79,7 @@ fn turn_to(
     if is_remembered(frame, &key[..len]) {
         return last;
     }
-    let h = log::read_heading(frame);
+    let h = request_log::read_heading(frame);
     let Heading::At {
         number,
         origin,

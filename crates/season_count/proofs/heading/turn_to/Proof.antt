@@ -2,7 +2,7 @@
 use native.Mathlib.Omega.{arith}
 use mathlib.Core.Path.{refl, sym, ◌∙◌}
 use lib.Seq.{length-take-le}
-use Rattle.log.proofs.Headings.{head_told, head_missed, no_heading_lem, bad_heading}
+use Rattle.request_log.proofs.Headings.{head_told, head_missed, no_heading_lem, bad_heading}
 use Rattle.season_count.proofs.Runs.{forgotten, again, key_room, key_long, turned}
 use borrow.Author.Rules.{rules}
 use Rattle.season_count.proofs.heading.turn_to.Statement.{statement}
