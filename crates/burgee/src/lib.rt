@@ -1,3 +1,5 @@
+#![tactic(auto)]
+
 // The C boundary: every exported function. Each takes numbers and byte slices and answers one word.
 pub mod policies;
 mod probes;

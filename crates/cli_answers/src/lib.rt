@@ -1,3 +1,5 @@
+#![tactic(auto)]
+
 // Verdicts on a table, printed; lines on its rows, and of paths.
 pub mod lines;
 pub mod paths;

@@ -1,3 +1,5 @@
+#![tactic(auto)]
+
 // A user whom a table does not name is told on standard error, with the names that differ only in case.
 ghost use Rattle.std.specs.Prelude.{◌≡◌, true, not, ◌+◌, ◌≤◌, ◌<◌, length};
 ghost use Rattle.limits.specs.Limits.{max_string};

@@ -1,3 +1,5 @@
+#![tactic(auto)]
+
 // The record in its file: five numbers of four bytes, the low byte first, as C lays them out here.
 pub mod lines;
 

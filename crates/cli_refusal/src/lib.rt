@@ -1,3 +1,5 @@
+#![tactic(auto)]
+
 // The line of a refusal, in words, made in a buffer.
 pub mod entry;
 

@@ -1,3 +1,5 @@
+#![tactic(auto)]
+
 // Season reports: their sum, and the page on a season for a person.
 // burgee season TABLE LOG
 mod making;

@@ -1,3 +1,5 @@
+#![tactic(auto)]
+
 // The commands on rule tables and paths.
 pub mod explanation;
 pub mod paths;

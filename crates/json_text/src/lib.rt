@@ -1,3 +1,5 @@
+#![tactic(auto)]
+
 pub mod literal;
 pub mod number;
 pub mod scan;

@@ -1,2 +1,4 @@
+#![tactic(auto)]
+
 pub mod member;
 pub mod names;

@@ -1,3 +1,5 @@
+#![tactic(auto)]
+
 // Every limit of the rules, once for the programs, and the sizes that follow from them. `specs/Limits` has the sentences, `specs/Sizes` the sizes;
 // `constants` is proved to agree with both.
 ghost use Rattle.std.specs.Prelude.{◌≡◌};

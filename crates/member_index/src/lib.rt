@@ -1,3 +1,5 @@
+#![tactic(auto)]
+
 // The members of a table by the place of a hash, so that a user's groups are found without a look at all members.
 ghost use Rattle.std.specs.Prelude.{◌≡◌, ◌≤◌, length};
 ghost use Rattle.text_hash.specs.Mix.{Small, place_of};

@@ -1,2 +1,4 @@
+#![tactic(auto)]
+
 // Paths in their bytes.
 pub mod refusal;

@@ -1,3 +1,5 @@
+#![tactic(auto)]
+
 // A path inside a frame: where it ends, and the smallest refusal number that it gets. Limits are judged, not assumed: any count byte reads.
 ghost use Rattle.std.specs.Prelude.{◌≡◌, false};
 ghost use Rattle.text.specs.Frame.{times};

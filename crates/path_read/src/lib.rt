@@ -1,3 +1,5 @@
+#![tactic(auto)]
+
 // Path text: reading it to path bytes.
 pub mod reader;
 

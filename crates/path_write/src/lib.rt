@@ -1,3 +1,5 @@
+#![tactic(auto)]
+
 // Path bytes to path text. The functions below the call are for bytes that were checked: they read, and there is room for their text.
 ghost use Rattle.std.specs.Prelude.{◌≡◌, true, ◌+◌, ◌≤◌, length};
 ghost use Rattle.text.specs.String.{joined};

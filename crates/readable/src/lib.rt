@@ -1,3 +1,5 @@
+#![tactic(auto)]
+
 // The readable form of a rule table: `show` makes it, `pack` makes the table's text of it.
 ghost use Rattle.std.specs.Prelude.{◌≡◌, false, ◌≤◌, ◌<◌, length};
 ghost use Rattle.limits.specs.Limits.{max_table_text};

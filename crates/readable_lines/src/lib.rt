@@ -1,3 +1,5 @@
+#![tactic(auto)]
+
 // A line of a table or of a log to its readable line, and back. `log` says which.
 ghost use Rattle.std.specs.Prelude.{◌≡◌, false, ◌≤◌, ◌<◌, length};
 ghost use Rattle.limits.specs.Limits.{max_table_text};

@@ -1,3 +1,5 @@
+#![tactic(auto)]
+
 // Lines of a log to readable lines, and back, as many at once as there is room for.
 ghost use Rattle.std.specs.Prelude.{true, ◌≤◌, ◌<◌, length};
 ghost use Rattle.readable_lines.specs.Lines.{line_by};

@@ -1,3 +1,5 @@
+#![tactic(auto)]
+
 // The parts of a readable line, as the bytes of a frame: each function stores the bytes of the part at `at` of s into out from `to` on.
 ghost use Rattle.std.specs.Prelude.{◌≡◌, ◌+◌, ◌≤◌, length};
 ghost use Rattle.limits.specs.Sizes.{max_quoted};

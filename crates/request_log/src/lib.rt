@@ -1,3 +1,5 @@
+#![tactic(auto)]
+
 // The request of a log line, in the bytes of its frame: its heading (mode, user, origin); `path_frame` reads the path after it.
 ghost use Rattle.std.specs.Prelude.{◌≡◌};
 ghost use Rattle.request_log.specs.Heading.{heading, headed};

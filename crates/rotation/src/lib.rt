@@ -1,3 +1,5 @@
+#![tactic(auto)]
+
 // The rotation record.
 pub mod state;
 

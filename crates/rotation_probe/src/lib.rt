@@ -1,3 +1,5 @@
+#![tactic(auto)]
+
 // Probes: a request judged on what is in force.
 pub mod force;
 pub mod rpcs;

@@ -1,3 +1,5 @@
+#![tactic(auto)]
+
 // Start, finalize and close as steps by value, on a record and a store of n bytes; and what an upload makes of a record.
 ghost use Rattle.std.specs.Prelude.{◌≡◌};
 ghost use Rattle.table.specs.Text.{unless};

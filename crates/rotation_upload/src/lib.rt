@@ -1,3 +1,5 @@
+#![tactic(auto)]
+
 // An upload, as a step by value: the whole text is checked before a byte of it is stored.
 ghost use Rattle.std.specs.Prelude.{◌≡◌, ◌+◌, ◌≤◌, length};
 ghost use Rattle.limits.specs.Limits.{slot_length};

@@ -1,2 +1,4 @@
+#![tactic(auto)]
+
 pub mod pattern;
 pub mod verdict;

@@ -1,3 +1,5 @@
+#![tactic(auto)]
+
 pub mod headers;
 pub mod index;
 pub mod request;

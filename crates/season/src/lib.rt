@@ -1,3 +1,5 @@
+#![tactic(auto)]
+
 // The season report: how often each rule of a table decided over a log, and a grid of modes against outcomes.
 
 pub mod writing;

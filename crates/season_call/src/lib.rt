@@ -1,3 +1,5 @@
+#![tactic(auto)]
+
 // The season report on a table text and a log, with every refusal.
 ghost use Rattle.std.specs.Prelude.{◌≡◌};
 ghost use Rattle.season.specs.Calls.{season_answer, season_lent};

@@ -1,3 +1,5 @@
+#![tactic(auto)]
+
 // The sum of season reports: a report's text read, and its figures added to others.
 pub mod adding;
 pub mod reading;

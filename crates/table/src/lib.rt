@@ -1,3 +1,5 @@
+#![tactic(auto)]
+
 // Rule tables: the answers of the calls on a table text, and its frames.
 ghost use Rattle.std.specs.Prelude.{◌≡◌};
 ghost use Rattle.table.specs.Group.{bad_user};

@@ -1,3 +1,5 @@
+#![tactic(auto)]
+
 // What is told of a table text as a whole: its check, the counts of its rows, a user's groups and their count.
 ghost use Rattle.table_check.specs.Look.{Looked};
 

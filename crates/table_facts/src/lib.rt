@@ -1,3 +1,5 @@
+#![tactic(auto)]
+
 // What a group or a rule of a table text is called.
 ghost use Rattle.std.specs.Prelude.{[], ◌≤◌, length, get_or};
 ghost use Rattle.text.specs.Steps.{Wrote};

@@ -1,3 +1,5 @@
+#![tactic(auto)]
+
 // A group or a member of the table, judged against the rows before it, and kept: its place is stored where it is not refused. `old` are the
 // decoded frames before it, f is its own frame, which follows them, `last` the kind of the frame before, and n the rows of its kind before it.
 ghost use Rattle.std.specs.Prelude.{◌≡◌, ◌≤◌, ltb, length, get_or};

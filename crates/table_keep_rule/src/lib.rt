@@ -1,3 +1,5 @@
+#![tactic(auto)]
+
 // A rule of the table, judged against the rows before it, and kept: its places are stored where it is not refused. `old` are the decoded frames
 // before it, f is its own frame, which follows them, `last` the kind of the frame before, and n the rules before it.
 ghost use Rattle.std.specs.Prelude.{◌≡◌, ◌≤◌, ◌<◌, length, set};

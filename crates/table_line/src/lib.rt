@@ -1,3 +1,5 @@
+#![tactic(auto)]
+
 // Hex lines: checked and decoded in one pass.
 ghost use Rattle.std.specs.Prelude.{◌≡◌, ◌+◌, ◌-◌, ◌/◌, ◌≤◌, length, drop};
 ghost use Rattle.text.specs.Fill.{put};

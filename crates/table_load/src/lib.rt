@@ -1,3 +1,5 @@
+#![tactic(auto)]
+
 // A table text, decoded once and checked: its bytes, and where groups, members and rules stand in them.
 ghost use Rattle.std.specs.Prelude.{◌≡◌, ◌≤◌, length};
 ghost use Rattle.limits.specs.Limits.{max_groups, max_members, max_rules};

@@ -1,3 +1,5 @@
+#![tactic(auto)]
+
 // The groups of a user: a set with one bit for each group.
 ghost use Rattle.std.specs.Prelude.{◌≡◌, ◌≤◌, ◌<◌, length};
 ghost use Rattle.limits.specs.Limits.{max_groups};

@@ -1,3 +1,5 @@
+#![tactic(auto)]
+
 // Where the parts of checked path bytes end.
 ghost use Rattle.std.specs.Prelude.{◌≡◌, ◌≤◌, length};
 ghost use Rattle.table_place.specs.Place.{str_end, key_end, keys_end, elem_end};

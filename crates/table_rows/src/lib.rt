@@ -1,3 +1,5 @@
+#![tactic(auto)]
+
 // Strings of decoded rows, found by an array of positions: lookups, and a hash that says where to look first.
 ghost use Rattle.std.specs.Prelude.{◌≡◌, ◌≤◌, length};
 ghost use Rattle.text.specs.String.{same};

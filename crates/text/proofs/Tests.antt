@@ -174,7 +174,7 @@ module _ {A : Type 0} where
       go ih (inl p) = (x, Memᴰ.head refl, p)
       go ih (inr p) = let r = ih p in (r.0, Memᴰ.tail r.1, r.2)
 
-  pub →any : (f : A → Bool) {xs : List A} {x : A} → x ∈ xs → f x ≡ true → any f xs ≡ true
+  pub →any : (f : A → Bool) {x : A} {xs : List A} → x ∈ xs → f x ≡ true → any f xs ≡ true
   unfolding any
   →any f (Memᴰ.head p) e = or_l _ _ (ap f (sym p) ∙ e)
   →any f (Memᴰ.tail m) e = or_r _ _ (→any f m e)
@@ -192,7 +192,7 @@ module _ {A : Type 0} where
       kept e ih (Memᴰ.head p) = (Memᴰ.head p, ap f p ∙ e)
       kept e ih (Memᴰ.tail m) = let r = ih m in (Memᴰ.tail r.0, r.1)
 
-  pub →only : (f : A → Bool) {xs : List A} {x : A} → x ∈ xs → f x ≡ true → x ∈ only f xs
+  pub →only : (f : A → Bool) {x : A} {xs : List A} → x ∈ xs → f x ≡ true → x ∈ only f xs
   unfolding only if◌then◌else◌
   →only f (Memᴰ.head p) e = rw (ap f (sym p) ∙ e) (Memᴰ.head p)
   →only f (Memᴰ.tail {x = y} m) e = by (f y) (λ h. rw h (Memᴰ.tail (→only f m e))) (λ h. rw h (→only f m e))

@@ -1,3 +1,5 @@
+#![tactic(auto)]
+
 pub mod byte;
 pub mod fill;
 pub mod frame;

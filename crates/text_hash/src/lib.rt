@@ -1,3 +1,5 @@
+#![tactic(auto)]
+
 // A hash of strings, with factors that its caller chooses.
 pub mod factors;
 pub mod word;

@@ -1,3 +1,5 @@
+#![tactic(auto)]
+
 // Text made in a buffer, piece after piece: each function stores its piece from `at` on, and answers where the next one begins.
 ghost use Rattle.std.specs.Prelude.{◌≡◌, ◌+◌, ◌%◌, ◌≤◌, length};
 ghost use Rattle.text_make.specs.Added.{Added, AddedUpTo};

@@ -1,3 +1,5 @@
+#![tactic(auto)]
+
 // Where a byte stands in a text, and where bytes that print end.
 ghost use Rattle.std.specs.Prelude.{◌≡◌, ◌+◌, ◌≤◌, length, drop};
 ghost use Rattle.text_search.specs.Search.{until, is, unprinted};

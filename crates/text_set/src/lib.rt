@@ -1,3 +1,5 @@
+#![tactic(auto)]
+
 // A set of strings, each kept as a span of one text, in an array that the caller lends. A string has a place in it, which the caller takes
 // from a hash: the first string with a place stands there, and those that find it taken are sorted. So most strings cost one look, and none
 // more than a binary search, whatever the strings are.

@@ -1,3 +1,5 @@
+#![tactic(auto)]
+
 // The ranking of rules, as a number.
 ghost use Rattle.std.specs.Prelude.{◌≡◌, ◌<◌};
 ghost use Rattle.verdict.specs.Order.{one_unless};

@@ -1,3 +1,5 @@
+#![tactic(auto)]
+
 // The single-path verdict and the tree verdict on a table text and a request, with every refusal.
 ghost use Rattle.std.specs.Prelude.{◌≡◌};
 ghost use Rattle.verdict_request.specs.Calls.{path_verdict, tree_verdict};

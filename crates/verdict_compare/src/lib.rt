@@ -1,3 +1,5 @@
+#![tactic(auto)]
+
 // Comparing paths where their checked bytes stand: a slice, a position in it, and a count.
 pub mod element;
 pub mod key;

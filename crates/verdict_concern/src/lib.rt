@@ -1,3 +1,5 @@
+#![tactic(auto)]
+
 // Which rules of a checked table concern a request.
 ghost use Rattle.std.specs.Prelude.{◌≡◌, true, ◌≤◌, ◌<◌, eqb, length};
 ghost use Rattle.limits.specs.Limits.{max_groups};

@@ -1,3 +1,5 @@
+#![tactic(auto)]
+
 // Bloom filters of paths, from checked path bytes.
 
 ghost use Rattle.std.specs.Prelude.{◌≡◌, ◌+◌, ◌*◌, ◌≤◌, ◌<◌, length};

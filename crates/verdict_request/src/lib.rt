@@ -1,3 +1,5 @@
+#![tactic(auto)]
+
 // Requests and answers of the single-path verdict and the tree verdict.
 pub mod answer;
 pub mod request;

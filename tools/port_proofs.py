@@ -1,0 +1,325 @@
+#!/usr/bin/env python3
+"""Turns the older Proof.antt files of a crate to Invariants.antt and Answers.antt, by the names that the check lists.
+
+    python3 tools/port_proofs.py CRATE [FUNCTION..]      at the top of the repository
+
+Runs `rt check --generated DIR --old-names` in the crate, reads names.json, and for each proofs/F/Proof.antt whose function has an entry writes the two
+files and removes the old one. What it cannot turn is printed with 'hand:' and stands in the answer as it was. Run it once for a crate; then rt check.
+"""
+import glob
+import json
+import os
+import re
+import subprocess
+import sys
+import tempfile
+
+NAME = r"[^\s(){}\[\],;.:\"]+"
+OPEN, CLOSE = "([{", ")]}"
+
+
+def norm(word):
+    return re.sub(r"_lem\b", "", word.replace("-", "_").replace("′", "'"))
+
+
+def generated(crate):
+    folder = tempfile.mkdtemp(prefix=f"names-{crate}-")
+    run = subprocess.run(["rt", "check", "--generated", folder, "--old-names"], cwd=f"crates/{crate}", capture_output=True, text=True)
+    path = os.path.join(folder, "names.json")
+    if not os.path.exists(path):
+        sys.exit("no names: " + (run.stdout + run.stderr)[-1500:])
+    return json.load(open(path, encoding="utf-8"))
+
+
+def items(text):
+    """The top-level items: (comment lines, lines)."""
+    out, comment, now = [], [], None
+    for line in text.split("\n"):
+        if line.startswith("--"):
+            now = None
+            comment.append(line)
+        elif not line.strip():
+            if now is not None:
+                now[1].append(line)
+        elif line[0].isspace() or line[0] in CLOSE:
+            if now is None:
+                now = (comment, [])
+                out.append(now)
+                comment = []
+            now[1].append(line)
+        else:
+            first = re.match(r"(?:(?:pub|abbrev|unfoldable)\s+)*(" + NAME + ")", line)
+            same = now is not None and (line.startswith("unfolding") or (first and item_name(now) == first.group(1)))
+            if line.startswith("use "):
+                same = False
+            if not same:
+                now = (comment, [])
+                out.append(now)
+                comment = []
+            now[1].append(line)
+    if comment:
+        out.append((comment, []))
+    return [(c, "\n".join(l).rstrip()) for c, l in out]
+
+
+def item_name(item):
+    first = re.match(r"(?:(?:pub|abbrev|unfoldable)\s+)*(" + NAME + ")", item[1][0]) if item[1] else None
+    return first.group(1) if first else None
+
+
+def split_args(text):
+    """The arguments of an application, by spaces outside brackets."""
+    args, depth, now = [], 0, ""
+    for ch in text:
+        if ch in OPEN:
+            depth += 1
+        if ch in CLOSE:
+            depth -= 1
+        if ch.isspace() and depth == 0:
+            if now.strip():
+                args.append(now.strip())
+            now = ""
+        else:
+            now += ch
+    if now.strip():
+        args.append(now.strip())
+    return args
+
+
+class Function:
+    def __init__(self, crate, path, entry):
+        self.crate, self.path, self.entry = crate, path, entry
+        self.steps, self.fields = {}, {}
+        for place in entry["places"]:
+            if place[2] and place[2][0]:
+                self.steps.setdefault(norm(place[2][0]), place[2][1])
+                if place[4]:
+                    for old, new in place[4]:
+                        self.fields.setdefault(place[2][1], {})[old] = new
+        self.known = {}
+        for typed in entry["typed"]:
+            for var, step in typed or []:
+                self.known[norm(step)] = var
+        self.needs = {norm(a): b for a, b in entry["needs"]}
+        self.order = [b for a, b in entry["needs"]]
+        self.clauses = {}
+        for place, clause, arm in zip(entry["places"], entry["clauses"], entry["arms"]):
+            if clause and place[2][1]:
+                self.clauses.setdefault(place[2][1], clause)
+        self.arms = {}
+        for place, arm in zip(entry["places"], entry["arms"]):
+            if arm and place[2][1]:
+                self.arms.setdefault(norm(place[2][0]), []).append((place[0], place[2][1], arm))
+        self.hands = []
+
+    def need(self, old):
+        for a, b in (("", ""), ("overflow_", ""), ("nonzero_", ""), ("slice_bounds_", "part_"), ("bounds_", "index_"), ("offset_bounds_", "offset_"), ("shape_of_", "keeps_"), ("invariant_of_", "ghost_"), ("invariant_of_", "invariant_")):
+            if old.startswith(a) and b + old[len(a) :] in self.needs:
+                return self.needs[b + old[len(a) :]]
+        return None
+
+    def hand(self, what):
+        self.hands.append(what)
+
+    def chain(self, m):
+        """A path from c."""
+        segments = [s for s in m.group(2).split(".")[1:] if s != "before"]
+        if not segments:
+            return m.group(1)
+        first, rest = segments[0], segments[1:]
+        key = norm(first)
+        if key in self.known and rest and rest[0] == "given":
+            return ".".join([m.group(1), "type_inv", self.known[key]] + rest[1:])
+        if key in self.steps:
+            new = self.steps[key]
+            out = [m.group(1), new]
+            names = self.fields.get(new, {})
+            if rest:
+                rest = [names.get(rest[0], rest[0])] + rest[1:]
+            clause = self.clauses.get(new)
+            if clause and rest and rest[0] == "ensures" and clause.get("fields"):
+                fields = clause["fields"]
+                if len(rest) > 1 and rest[1].isdigit() and int(rest[1]) < len(fields) and len(fields) > 1:
+                    rest = ["ensures", fields[int(rest[1])]] + rest[2:]
+                elif len(fields) == 1 and (len(rest) == 1 or rest[1] not in fields):
+                    rest = ["ensures", fields[0]] + rest[1:]
+            return ".".join(out + rest)
+        if first not in ("args", "requires", "ranges", "type_inv"):
+            self.hand(f"step {first}")
+        return ".".join([m.group(1)] + segments)
+
+    def expression(self, text):
+        aliases = {"c"}
+        while True:
+            m = re.search(r"let (" + NAME + r") = (" + NAME + r")((?:\.before)*) in\s?", text)
+            found = None
+            for m in re.finditer(r"let (" + NAME + r") = (" + NAME + r")((?:\.before)*) in\s*", text):
+                if m.group(2) in aliases:
+                    found = m
+                    break
+            if not found:
+                break
+            aliases.add(found.group(1))
+            gap = "\n    " if "\n" in found.group(0) else ""
+            text = text[: found.start()] + gap + text[found.end() :]
+        for a in sorted(aliases - {"c"}, key=len, reverse=True):
+            text = re.sub(r"(?<![^\s(\[{,;])" + re.escape(a) + r"(?=\.)", "c", text)
+            if re.search(r"(?<![^\s(\[{,;])" + re.escape(a) + r"(?![^\s)\]},;])", text):
+                self.hand(f"bare place {a}")
+        text = re.sub(r"(?<![^\s(\[{,;])(c)((?:\.[^\s(){}\[\],;.]+)+)", self.chain, text)
+        text = re.sub(r"[ \t]+\n", "\n", text)
+        return re.sub(r"=\s*\n\s*\n", "=\n", text)
+
+    def loop_args(self, loop, patterns):
+        names, vars_, changed = loop
+        slots = ["l.initial." + v if ch else "l." + v for v, ch in zip(vars_, changed)] + ["l." + v for v, ch in zip(vars_, changed) if ch]
+        if len(slots) != len(patterns):
+            self.hand(f"loop {names[0]}: {len(patterns)} arguments {' '.join(patterns)} for {' '.join(slots)}")
+            return None
+        return dict(zip(patterns, slots))
+
+
+def turn(crate, folder, entry):
+    path = os.path.relpath(folder, f"crates/{crate}/proofs").replace("/", ".")
+    f = Function(crate, path, entry)
+    text = open(os.path.join(folder, "Proof.antt"), encoding="utf-8").read()
+    loops = {norm(names[0]): (names, vars_, changed) for (names, vars_), changed in zip(entry["loops"], entry["changed"])}
+    uses, header, invariants, answers, others, spec = [], [], [], [], [], None
+    answered = set()
+    parts = items(text)
+    for comment, body in parts:
+        if body.startswith("use "):
+            if comment:
+                header += comment
+            uses.append(body)
+            continue
+        sig = re.match(r"(?:(?:pub|abbrev|unfoldable)\s+)*(" + NAME + r")\s*:\s*(.*)", body, re.S)
+        if not sig:
+            others.append((comment, body))
+            continue
+        name, rest = sig.group(1), sig.group(2)
+        kind = re.match(r"tie\.(invariant|decreases)[-_](\S+)\s*\n", rest)
+        if kind:
+            loop = loops.get(norm(kind.group(2)))
+            eq = re.search(r"^" + re.escape(name) + r"((?:\s+[^\s=]+)*)\s*=\s?(.*)", rest[kind.end() :], re.S | re.M)
+            unfolding = rest[kind.end() :][: eq.start()] if eq else ""
+            if not loop or not eq:
+                f.hand(f"{name} : no loop")
+                others.append((comment, body))
+                continue
+            table = f.loop_args(loop, eq.group(1).split())
+            new = f"{kind.group(1)}-{loop[0][1]}"
+            value = eq.group(2)
+            if table:
+                value = re.sub(r"(?<![^\s(){}\[\],;])" + NAME, lambda m: table.get(m.group(0), m.group(0)) if m.group(0) != "_" else "_", value)
+                head = f"{new} l"
+            else:
+                head = f"{new} l {eq.group(1).strip()}"
+            invariants.append((comment, f"abbrev pub {new} : goal.{new}\n{unfolding}{head} = {value}"))
+            continue
+        need = re.match(r"tie\.Need-(\S+)([^\n]*)\n", rest)
+        if need:
+            new = f.need(norm(need.group(1)))
+            tail = rest[need.end() :]
+            if not new:
+                f.hand(f"goal {need.group(1)}")
+                new = "UNKNOWN-" + need.group(1)
+            answered.add(name)
+            tail = re.sub(r"^" + re.escape(name) + r"((?:[ ]+[^\s=]+)*)\s*=", lambda m: new + "".join(" " + a for a in m.group(1).split() if a != "κs") + " =", tail, flags=re.M)
+            answers.append((comment, new, f"pub {new} : goal.{new}\n" + f.expression(tail)))
+            continue
+        if "statement M" in rest or re.match(r"\{M", rest):
+            spec = rest
+            if comment:
+                header += comment
+            continue
+        others.append((comment, body))
+    if spec:
+        m = re.search(r"tie\.spec\s*(.*)", spec, re.S)
+        body = m.group(1) if m else ""
+        depth, end = 0, len(body)
+        for i, ch in enumerate(body):
+            depth += ch in OPEN
+            depth -= ch in CLOSE
+            if depth < 0:
+                end = i
+                break
+        args = split_args(body[:end])
+        skip = 2 * len(loops)
+        if len(args) - skip == len(f.order):
+            for arg, new in zip(args[skip:], f.order):
+                inner = re.match(r"\(λ\s*([^.]*)\.\s*(.*)\)$", arg, re.S)
+                if inner and not re.match(r"search rules$", inner.group(2).strip()):
+                    ps = [p for p in inner.group(1).split() if p != "κs"]
+                    answers.append(([], new, f"pub {new} : goal.{new}\n{new} {' '.join(ps)} = " + f.expression(inner.group(2))))
+        else:
+            inline = [a for a in args if a.startswith("(λ") and "search rules" not in a]
+            if inline:
+                f.hand(f"{len(args) - skip} needs then, {len(f.order)} now; inline: {inline}")
+    keep = [u for u in uses if not re.search(r"\.(Tie|Statement)(\.\{| as )", u) and not re.search(r"borrow\.Author\.Rules|proofs\.[^ ]*\.Lts", u)]
+    lts = [u for u in uses if re.search(r"\.Lts\b", u)]
+    helper = "\n\n".join("\n".join(c + [b]) if b else "\n".join(c) for c, b in others if b)
+    if "lts." in helper or "tie." in helper:
+        f.hand("helpers typed by a place")
+    if "rules" in " ".join(b for _, _, b in answers) + helper and not any(re.search(r"Common\.\{[^}]*\brules\b", u) for u in keep):
+        keep.append("use Rattle.std.proofs.Common.{rules}")
+    top = "\n".join(header)
+    if invariants:
+        body = "\n\n".join("\n".join(c + [b]) for c, b in invariants)
+        write(folder, "Invariants.antt", top, keep, f"use Rattle.{crate}.proofs.{path}.Given as goal", body)
+    if answers or helper:
+        body = (helper + "\n\n" if helper else "") + "\n\n".join("\n".join(c + [b]) for c, _, b in answers)
+        write(folder, "Answers.antt", "" if invariants else top, keep + lts, f"use Rattle.{crate}.proofs.{path}.Goals as goal", body)
+    os.remove(os.path.join(folder, "Proof.antt"))
+    for h in f.hands:
+        print(f"hand: {folder}: {h}")
+
+
+def names_in(use):
+    return re.search(r"\{(.*)\}", use, re.S)
+
+
+def write(folder, name, top, uses, goal, body):
+    lines = []
+    for u in uses:
+        m = re.match(r"use (\S+)\.\{(.*)\}$", u, re.S)
+        if m:
+            kept = []
+            for w in re.split(r",\s*", m.group(2).strip().rstrip(",")):
+                short = w.split(" as ")[-1].strip()
+                if short in ("refl", "sym") or used(short, body):
+                    if used(short, body):
+                        kept.append(w)
+            if kept:
+                lines.append(f"use {m.group(1)}.{{{', '.join(kept)}}}")
+        else:
+            short = u.split(" as ")[-1].strip()
+            if " as " in u and short + "." in body:
+                lines.append(u)
+    text = (top + "\n" if top else "") + "\n".join(lines + [goal]) + "\n\n" + body.strip() + "\n"
+    open(os.path.join(folder, name), "w", encoding="utf-8").write(text)
+
+
+def used(word, body):
+    if "◌" in word:
+        return all(p in body for p in word.split("◌") if p)
+    return re.search(r"(?<![\w'-])" + re.escape(word) + r"(?![\w'-])", body) is not None
+
+
+def main():
+    crate, only = sys.argv[1], sys.argv[2:]
+    names = generated(crate)
+    for p in sorted(glob.glob(f"crates/{crate}/proofs/**/Proof.antt", recursive=True)):
+        folder = os.path.dirname(p)
+        path = os.path.relpath(folder, f"crates/{crate}/proofs").replace("/", ".")
+        if only and path not in only:
+            continue
+        entry = names.get(f"Rattle-{crate}-proofs.{path}.Lts")
+        if entry is None:
+            print(f"hand: {folder}: no entry")
+            continue
+        turn(crate, folder, entry)
+
+
+if __name__ == "__main__":
+    main()
