@@ -31,6 +31,85 @@ def generated(crate):
     return json.load(open(path, encoding="utf-8"))
 
 
+def balanced(text, at):
+    """Where the brace that opens at `at` closes."""
+    depth = 0
+    for i in range(at, len(text)):
+        depth += text[i] == "{"
+        depth -= text[i] == "}"
+        if depth == 0:
+            return i + 1
+    return len(text)
+
+
+def contracts():
+    """For each function, by crate, module and name: the names of its clauses."""
+    found = {}
+    for p in glob.glob("crates/*/src/**/*.rt", recursive=True):
+        crate, inner = p.split("/")[1], "/".join(p.split("/")[3:])[:-3]
+        module = "" if inner in ("lib", "main") else inner.replace("/", "::") + "::"
+        text = re.sub(r"(?m)//.*$", "", open(p, encoding="utf-8").read())
+        for m in re.finditer(r"\bfn (\w+)", text):
+            at, names = m.end(), {"requires": [], "ensures": []}
+            depth = 0
+            while at < len(text) and not (depth == 0 and text[at] in "{;"):
+                depth += text[at] in "(<["
+                depth -= text[at] in ")]" or (text[at] == ">" and text[at - 1] != "-")
+                word = re.match(r"\b(requires|ensures)\b\s*(\w+)?\s*(?=\{)", text[at:]) if depth == 0 else None
+                if word and not (text[at - 1].isalnum() or text[at - 1] == "_"):
+                    names[word.group(1)].append(word.group(2))
+                    at = balanced(text, at + word.end())
+                    continue
+                at += 1
+            found[f"{crate}::{module}{m.group(1)}"] = names
+    return found
+
+
+CONTRACTS = {}
+
+
+def as_record(tail, name, fields):
+    """An answer whose goal has several named clauses: the tuple becomes a record."""
+    eq = re.search(r"^" + re.escape(name) + r"(?:[ ]+[^\s=]+)*\s*=\s*", tail, re.M)
+    body = tail[eq.end() :]
+    at = 0
+    while True:
+        m = re.match(r"\s*let\b", body[at:])
+        if not m:
+            break
+        depth, i = 1, at + m.end()
+        while i < len(body) and depth:
+            w = re.match(r"(?<![\w'-])(let|in)(?![\w'-])", body[i:]) if (body[i - 1].isspace() or body[i - 1] in OPEN) else None
+            if w:
+                depth += 1 if w.group(1) == "let" else -1
+                i += len(w.group(0))
+            else:
+                i += 1
+        at = i
+    lead, last = body[:at], body[at:].strip()
+    parts = None
+    if last.startswith("("):
+        depth, cuts = 0, [1]
+        for i, ch in enumerate(last):
+            depth += ch in OPEN
+            depth -= ch in CLOSE
+            if depth == 1 and ch == ",":
+                cuts.append(i + 1)
+            if depth == 0:
+                if i == len(last) - 1:
+                    cuts.append(i + 1)
+                    parts = [last[a:b].strip().rstrip(",)" if b == len(last) and False else ",").strip() for a, b in zip(cuts, cuts[1:])]
+                    parts[-1] = last[cuts[-2] : -1].strip().rstrip(",").strip()
+                break
+        if parts and not parts[-1]:
+            parts.pop()
+    if parts and len(parts) == len(fields):
+        inner = "; ".join(f"{f} = {p}" for f, p in zip(fields, parts))
+        return tail[: eq.end()].rstrip() + "\n    " + lead + (" " if lead else "") + "record { " + inner + " }"
+    inner = "; ".join(f"{f} = both.{i}" for i, f in enumerate(fields))
+    return tail[: eq.end()].rstrip() + "\n    " + lead + (" " if lead else "") + "let both = " + last + " in record { " + inner + " }"
+
+
 def items(text):
     """The top-level items: (comment lines, lines)."""
     out, comment, now = [], [], None
@@ -111,6 +190,18 @@ class Function:
             if arm and place[2][1]:
                 self.arms.setdefault(norm(place[2][0]), []).append((place[0], place[2][1], arm))
         self.hands = []
+        self.own = CONTRACTS.get(f"{crate}::" + path.replace(".", "::"), {"requires": [], "ensures": []})
+        self.callee = {norm(place[2][0]): place[3] for place in entry["places"] if place[3] and place[2] and place[2][0]}
+
+    def clauses_of(self, old):
+        """The names of the clauses that a goal joins, if they are several."""
+        if old.startswith("returns"):
+            names = self.own["ensures"]
+        else:
+            m = re.match(r"(.*)_requires(?:_(\d+))?$", old)
+            path = self.callee.get(m.group(1) + (m.group(2) or ""), self.callee.get(m.group(1))) if m else None
+            names = CONTRACTS.get(path, {}).get("requires", []) if path else []
+        return names if len(names) > 1 else []
 
     def need(self, old):
         for a, b in (("", ""), ("overflow_", ""), ("nonzero_", ""), ("slice_bounds_", "part_"), ("bounds_", "index_"), ("offset_bounds_", "offset_"), ("shape_of_", "keeps_"), ("invariant_of_", "ghost_"), ("invariant_of_", "invariant_")):
@@ -144,6 +235,8 @@ class Function:
                 elif len(fields) == 1 and (len(rest) == 1 or rest[1] not in fields):
                     rest = ["ensures", fields[0]] + rest[1:]
             return ".".join(out + rest)
+        if first == "requires" and rest and rest[0].isdigit() and len(self.own["requires"]) > 1:
+            return ".".join([m.group(1), "requires", self.own["requires"][int(rest[0])]] + rest[1:])
         if first not in ("args", "requires", "ranges", "type_inv"):
             self.hand(f"step {first}")
         return ".".join([m.group(1)] + segments)
@@ -226,7 +319,11 @@ def turn(crate, folder, entry):
                 new = "UNKNOWN-" + need.group(1)
             answered.add(name)
             tail = re.sub(r"^" + re.escape(name) + r"((?:[ ]+[^\s=]+)*)\s*=", lambda m: new + "".join(" " + a for a in m.group(1).split() if a != "κs") + " =", tail, flags=re.M)
-            answers.append((comment, new, f"pub {new} : goal.{new}\n" + f.expression(tail)))
+            tail = f.expression(tail)
+            several = f.clauses_of(norm(need.group(1)))
+            if several:
+                tail = as_record(tail, new, several)
+            answers.append((comment, new, f"pub {new} : goal.{new}\n" + tail))
             continue
         if "statement M" in rest or re.match(r"\{M", rest):
             spec = rest
@@ -234,6 +331,22 @@ def turn(crate, folder, entry):
                 header += comment
             continue
         others.append((comment, body))
+    places = {}
+    for comment, body in list(others):
+        m = re.match(r"(?:(?:pub|abbrev|unfoldable)\s+)*(" + NAME + r")\s*:\s*(?:\(c : )?tie\.[^\n]*\n(?:unfolding[^\n]*\n)*\1 c((?:\s+[^\s=]+)*)\s*=\s*(.*)", body, re.S)
+        if m:
+            ps = m.group(2).split()
+            value = f.expression(m.group(3)).strip()
+            places[m.group(1)] = "(" + (f"λ {' '.join(ps)}. " if ps else "") + value + ")"
+            others.remove((comment, body))
+    for _ in range(3):
+        for name, value in places.items():
+            pattern = r"(?<![\w.'-])" + re.escape(name) + r" c(?![\w.'-])"
+            for other in places:
+                places[other] = re.sub(pattern, lambda m: value, places[other])
+            answers = [(a, b, re.sub(pattern, lambda m: value, t)) for a, b, t in answers]
+    if places:
+        answers = [(a, b, re.sub(r"\((c(?:\.[^\s()]+)*)\)(?=[\s.)])", r"\1", t)) for a, b, t in answers]
     if spec:
         m = re.search(r"tie\.spec\s*(.*)", spec, re.S)
         body = m.group(1) if m else ""
@@ -308,6 +421,7 @@ def used(word, body):
 
 def main():
     crate, only = sys.argv[1], sys.argv[2:]
+    CONTRACTS.update(contracts())
     names = generated(crate)
     for p in sorted(glob.glob(f"crates/{crate}/proofs/**/Proof.antt", recursive=True)):
         folder = os.path.dirname(p)

@@ -16,6 +16,7 @@ module _ (s : Seed) (t : List ℕ) where
   pub mix_turn : (n k x y w x' y' m : ℕ) → 0 < n → w ≡ word_at t (4 * k) → x' ≡ middle ((x + w) * s.first) → y' ≡ middle ((y + x') * s.second)
       → m ≡ mix_from s t n k x y → m ≡ mix_from s t (n - 1) (k + 1) x' y'
   unfolding mix_from
+  mix_turn zero k x y w x' y' m l e f g h = elim l [ ]
   mix_turn (suc n) k x y w x' y' m l e f g h = let i : suc n - 1 ≡ n = omega arith in h ∙ rw (i, g, f, e)
 
   pub mix_end : (n k x y m : ℕ) → (0 < n → ⊥) → m ≡ mix_from s t n k x y → y ≡ m

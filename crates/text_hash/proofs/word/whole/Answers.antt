@@ -1,0 +1,64 @@
+use native.Mathlib.Omega.{arith}
+use mathlib.Core.Path.{refl}
+use Prim.Native.Nat.{◌+◌}
+use Rattle.text_hash.proofs.word.whole.Goals as goal
+
+pub overflow_cast-result : goal.overflow_cast-result
+overflow_cast-result c = omega (arith, c.type_inv.t c.args.i)
+
+pub overflow_cast-result-2 : goal.overflow_cast-result-2
+overflow_cast-result-2 c = omega (arith, c.type_inv.t (c.args.i + 1))
+
+pub overflow_mul-result : goal.overflow_mul-result
+overflow_mul-result c = omega (arith, c.type_inv.t (c.args.i + 1))
+
+pub overflow_add-result-2 : goal.overflow_add-result-2
+overflow_add-result-2 c =
+    omega (arith, c.type_inv.t c.args.i, c.type_inv.t (c.args.i + 1))
+
+pub overflow_cast-result-3 : goal.overflow_cast-result-3
+overflow_cast-result-3 c =
+    omega (arith, c.type_inv.t (c.args.i + 2))
+
+pub overflow_mul-result-2 : goal.overflow_mul-result-2
+overflow_mul-result-2 c =
+    omega (arith, c.type_inv.t (c.args.i + 2))
+
+pub overflow_add-result-4 : goal.overflow_add-result-4
+overflow_add-result-4 c =
+    omega (
+      arith,
+      c.type_inv.t c.args.i,
+      c.type_inv.t (c.args.i + 1),
+      c.type_inv.t (c.args.i + 2),
+    )
+
+pub overflow_cast-result-4 : goal.overflow_cast-result-4
+overflow_cast-result-4 c =
+    omega (arith, c.type_inv.t (c.args.i + 3))
+
+pub overflow_mul-result-3 : goal.overflow_mul-result-3
+overflow_mul-result-3 c =
+    omega (arith, c.type_inv.t (c.args.i + 3))
+
+pub overflow_add-result-6 : goal.overflow_add-result-6
+overflow_add-result-6 c =
+    omega (
+      arith,
+      c.type_inv.t c.args.i,
+      c.type_inv.t (c.args.i + 1),
+      c.type_inv.t (c.args.i + 2),
+      c.type_inv.t (c.args.i + 3),
+    )
+
+pub returns : goal.returns
+returns c = (
+  refl,
+  omega (
+    arith,
+    c.type_inv.t c.args.i,
+    c.type_inv.t (c.args.i + 1),
+    c.type_inv.t (c.args.i + 2),
+    c.type_inv.t (c.args.i + 3),
+  ),
+)
