@@ -23,6 +23,7 @@ def norm(word):
 
 
 def generated(crate):
+    """What the check lists of the crate's functions: names, old and new."""
     folder = tempfile.mkdtemp(prefix=f"names-{crate}-")
     run = subprocess.run(["rt", "check", "--generated", folder, "--old-names"], cwd=f"crates/{crate}", capture_output=True, text=True)
     path = os.path.join(folder, "names.json")
@@ -189,6 +190,11 @@ class Function:
         for place, arm in zip(entry["places"], entry["arms"]):
             if arm and place[2][1]:
                 self.arms.setdefault(norm(place[2][0]), []).append((place[0], place[2][1], arm))
+        self.matched = {}
+        for arm in entry["arms"]:
+            for field, step, old in (arm[2] if arm else []):
+                if old:
+                    self.matched.setdefault(norm(step), {})[tuple(old)] = (arm[0], field)
         self.hands = []
         self.own = CONTRACTS.get(f"{crate}::" + path.replace(".", "::"), {"requires": [], "ensures": []})
         self.callee = {norm(place[2][0]): place[3] for place in entry["places"] if place[3] and place[2] and place[2][0]}
@@ -221,8 +227,13 @@ class Function:
         key = norm(first)
         if key in self.known and rest and rest[0] == "given":
             return ".".join([m.group(1), "type_inv", self.known[key]] + rest[1:])
+        for old in sorted(self.matched.get(key, {}), key=len, reverse=True):
+            if tuple(rest[: len(old)]) == old:
+                return ".".join([m.group(1), *self.matched[key][old]] + rest[len(old) :])
         if key in self.steps:
             new = self.steps[key]
+            if "given" in rest[:1]:
+                self.hand(f"given of {first}")
             out = [m.group(1), new]
             names = self.fields.get(new, {})
             if rest:

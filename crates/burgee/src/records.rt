@@ -8,7 +8,7 @@ ghost use Rattle.burgee.specs.Calls.{Start, Upload, Finalize, Close, held, word,
 use rotation::{Record, Stepped};
 
 // A step with its answer as a word.
-#[derive(Drop)]
+#[derive(Clone, Copy)]
 pub struct Answered {
     pub next: Record,
     pub word: u64,

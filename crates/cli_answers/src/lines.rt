@@ -9,7 +9,7 @@ use table_facts::Row;
 use verdict_request::{PathAnswer, TreeAnswer};
 
 // Why no rule decides: none of the table matches, which an explanation says too, or there is no table.
-#[derive(Drop)]
+#[derive(Clone, Copy)]
 pub enum Fallback {
     Default,
     Explained,

@@ -33,7 +33,7 @@ pub fn least_refusal(five: bool, six: bool, seven: bool, eight: bool) -> u8
 }
 
 // What a string holds.
-#[derive(Drop)]
+#[derive(Clone, Copy)]
 struct Seen {
     // A byte outside its set.
     pub stray: bool,

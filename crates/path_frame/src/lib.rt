@@ -9,7 +9,7 @@ ghost use Rattle.path_frame.specs.Walked.{walked};
 
 use text::frame::End;
 
-#[derive(Drop)]
+#[derive(Clone, Copy)]
 pub enum Walk {
     // The smallest of 5 to 8, or `limits::CLEAR`, and where reading goes on.
     To { refusal: u8, next: usize },

@@ -4,7 +4,7 @@
 pub mod reader;
 
 // The answer of the reader and of the writer.
-#[derive(Drop)]
+#[derive(Clone, Copy)]
 pub enum Filled {
     // The start of the lent buffer is the result, which has this length.
     Length(usize),

@@ -27,7 +27,7 @@ const SHORT_BYTES: usize = 256;
 const SHORT_TEXT: usize = SHORT_BYTES - MAX_GROWTH;
 
 // Where reading goes on in the text, and storing in the buffer.
-#[derive(Drop)]
+#[derive(Clone, Copy)]
 pub enum Stored {
     To { next: usize, end: usize },
     // The text is not of the format, or the path not good.
@@ -35,7 +35,7 @@ pub enum Stored {
 }
 
 // The next byte of a value, or its ].
-#[derive(Drop)]
+#[derive(Clone, Copy)]
 pub enum Item {
     Byte { byte: u8, next: usize },
     End,

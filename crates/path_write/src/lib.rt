@@ -16,7 +16,7 @@ use path_read::Filled;
 use text::frame::End;
 
 // Where reading goes on in the bytes, and storing in the text.
-#[derive(Drop)]
+#[derive(Clone, Copy)]
 pub struct Place {
     pub from: usize,
     pub to: usize,

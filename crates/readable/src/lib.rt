@@ -10,7 +10,7 @@ use path_read::reader::Stored;
 use table::Checked;
 
 // The answer of `show` and of `pack`.
-#[derive(Drop)]
+#[derive(Clone, Copy)]
 pub enum Converted {
     // The start of the lent buffer is the result, which has this length.
     Length(usize),
@@ -22,7 +22,7 @@ pub enum Converted {
 }
 
 // How the lines of a text ended, converted and stored one after another.
-#[derive(Drop)]
+#[derive(Clone, Copy)]
 pub enum Ended {
     // All were stored, in so many bytes.
     All(usize),

@@ -9,7 +9,7 @@ ghost use Rattle.readable_log.specs.Run.{LineEnds, Runs};
 use path_read::reader::Stored;
 
 // How far lines were converted, and what was made of them.
-#[derive(Drop)]
+#[derive(Clone, Copy)]
 pub struct Run {
     // Where the first line that is left starts.
     pub next: usize,

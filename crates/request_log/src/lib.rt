@@ -6,7 +6,7 @@ ghost use Rattle.request_log.specs.Heading.{heading, headed};
 
 use text::frame::End;
 
-#[derive(Drop)]
+#[derive(Clone, Copy)]
 pub enum Heading {
     // 20 or 21, or `limits::CLEAR` where neither holds; where the origin stands, and where the path.
     At {

@@ -10,7 +10,7 @@ pub const NO_LENGTH: u32 = 4294967295;
 
 // As the host lends it: five numbers in C's layout.
 #[repr(C)]
-#[derive(Drop)]
+#[derive(Clone, Copy)]
 pub struct Record {
     // 1 policy, 2 table.
     pub kind: u32,
@@ -25,14 +25,14 @@ pub struct Record {
 }
 
 // What a call makes of a record, and what it answers.
-#[derive(Drop)]
+#[derive(Clone, Copy)]
 pub struct Stepped {
     pub next: Record,
     pub answer: Checked,
 }
 
 // What a probe judges by: the text of a slot, or no text.
-#[derive(Drop)]
+#[derive(Clone, Copy)]
 pub enum InForce {
     Text { slot: u32, len: u32 },
     Factory,

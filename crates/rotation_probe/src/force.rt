@@ -5,7 +5,7 @@ ghost use Rattle.rotation_probe.specs.Source.{source_of};
 use rotation::{InForce, Record};
 
 // The record's refusal; no text; or the part of the store that holds the text in force.
-#[derive(Drop)]
+#[derive(Clone, Copy)]
 pub enum Source {
     Refused(u8),
     Factory,

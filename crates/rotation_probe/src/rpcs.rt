@@ -8,7 +8,7 @@ use rotation::Record;
 use rpc::verdict::Verdict;
 
 // The answer of an RPC probe.
-#[derive(Drop)]
+#[derive(Clone, Copy)]
 pub enum RpcAnswer {
     // Without a text: everything is permitted, and no rule named.
     PermitAll,

@@ -102,7 +102,7 @@ fn join_line(l: &[u8], key: &[u8], out: &mut [u8], at: usize) -> usize
 }
 
 // From where to where a value stands.
-#[derive(Drop)]
+#[derive(Clone, Copy)]
 pub struct Span {
     pub from: usize,
     pub to: usize,

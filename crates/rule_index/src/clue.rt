@@ -12,7 +12,7 @@ ghost use Rattle.rule_index.specs.Clue.{values_of, rule_clues};
 use text_hash::Seed;
 
 // Where a clue stands, and how many uses its place has.
-#[derive(Drop)]
+#[derive(Clone, Copy)]
 struct Choice {
     at: usize,
     uses: usize,

@@ -13,7 +13,7 @@ use text_hash::Seed;
 use verdict_judge::best::Best;
 
 // Who asks: the set of the user's groups, the place of his name, and the mode.
-#[derive(Drop)]
+#[derive(Clone, Copy)]
 pub struct Asker {
     pub set: u64,
     pub place: usize,

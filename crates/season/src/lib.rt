@@ -5,7 +5,7 @@
 pub mod writing;
 
 // The answer of the report.
-#[derive(Drop)]
+#[derive(Clone, Copy)]
 pub enum Reported {
     // So many bytes were stored.
     Length(usize),

@@ -13,7 +13,7 @@ use verdict_request::PathAnswer;
 
 // A heading: how many bytes it has, which is where the path starts (0 where there is none); the set of the user's groups, the place of his name, and the
 // mode.
-#[derive(Drop)]
+#[derive(Clone, Copy)]
 pub struct Asked {
     pub path: usize,
     pub set: u64,
@@ -33,7 +33,7 @@ pub fn nobody() -> Asked
     }
 }
 
-#[derive(Drop)]
+#[derive(Clone, Copy)]
 pub enum Judged {
     // The frame holds no good request.
     Bad,

@@ -11,7 +11,7 @@ use crate::heading::{Asked, Judged};
 use table_line::Line;
 use text_hash::Seed;
 
-#[derive(Drop)]
+#[derive(Clone, Copy)]
 pub enum Step {
     // The line was counted; the next one starts at `next`.
     To { next: usize, asked: Asked },
@@ -19,7 +19,7 @@ pub enum Step {
     Bad,
 }
 
-#[derive(Drop)]
+#[derive(Clone, Copy)]
 pub enum Ended {
     // All lines were counted, and there are so many now.
     Lines { all: usize, asked: Asked },

@@ -8,7 +8,7 @@ pub const MAX_U64: u64 = 18446744073709551615;
 
 // What became of a report: all went well; or the first line that is no figure, that there is not though it should be or is though it should not,
 // or whose sum has more than 64 bits.
-#[derive(Drop)]
+#[derive(Clone, Copy)]
 pub enum Outcome {
     Good,
     NoFigure { line: usize },

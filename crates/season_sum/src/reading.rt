@@ -9,7 +9,7 @@ ghost use Rattle.season_sum.specs.Steps.{ReadsNumber, ReadsFigure};
 use crate::Outcome;
 
 // The number that a line is, and where the next line begins.
-#[derive(Drop)]
+#[derive(Clone, Copy)]
 pub enum Figure {
     Number { value: u64, next: usize },
     Bad,

@@ -74,7 +74,7 @@ pub fn version_number(f: &[u8], last: u8) -> u8
 }
 
 // Where the strings of a rule end, and the number of its path.
-#[derive(Drop)]
+#[derive(Clone, Copy)]
 pub enum RuleFrame {
     Is {
         subject: usize,

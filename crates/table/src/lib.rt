@@ -65,21 +65,21 @@ pub fn is_bad_user(user: &[u8]) -> bool
 }
 
 // Groups and rules are numbered from 0 in text order. The two kinds of number never stand for each other.
-#[derive(Drop)]
+#[derive(Clone, Copy)]
 pub struct GroupNumber(pub u8);
 
-#[derive(Drop)]
+#[derive(Clone, Copy)]
 pub struct RuleNumber(pub u16);
 
 // The answer of a table check.
-#[derive(Drop)]
+#[derive(Clone, Copy)]
 pub enum Checked {
     Accepted,
     Refused { number: u8, line: usize },
 }
 
 // The answer of a count of a user's groups. Declined: the table's refusal, or 20 with line 0 for the user.
-#[derive(Drop)]
+#[derive(Clone, Copy)]
 pub enum Counted {
     Count { count: u8, first: GroupNumber },
     NoGroup,

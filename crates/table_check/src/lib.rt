@@ -13,7 +13,7 @@ pub use check::check_table;
 pub use count::count_groups;
 
 // What a look at a table text tells of its rows, and of one user: `set` has his groups.
-#[derive(Drop)]
+#[derive(Clone, Copy)]
 pub enum Seen {
     Table { counts: Counts, set: u64 },
     Refused { number: u8, line: usize },

@@ -12,7 +12,7 @@ use table::{GroupNumber, RuleNumber};
 use table_load::Loaded;
 
 // A row that has a name: a rule's is its id.
-#[derive(Drop)]
+#[derive(Clone, Copy)]
 pub enum Row {
     Group(GroupNumber),
     Rule(RuleNumber),

@@ -7,7 +7,7 @@ ghost use Rattle.text.specs.HexTable.{HexTable};
 ghost use Rattle.table_line.specs.Lines.{lines};
 ghost use Rattle.table_line.specs.Decoding.{digits, first_line};
 
-#[derive(Drop)]
+#[derive(Clone, Copy)]
 pub enum Line {
     // A frame of len bytes; the next line starts at next.
     Frame { len: usize, next: usize },

@@ -11,7 +11,7 @@ use table_line::Line;
 
 pub mod row;
 
-#[derive(Drop)]
+#[derive(Clone, Copy)]
 pub enum Loaded {
     // The bytes up to `used` are the decoded frames.
     Table { used: usize, counts: Counts },

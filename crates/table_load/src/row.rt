@@ -10,7 +10,7 @@ ghost use Rattle.table_load.specs.Held.{Held, counts_after};
 ghost use Rattle.table_load.specs.Loaded.{Grown};
 
 // What the rows so far are: the kind of the last, and how many groups, members and rules.
-#[derive(Drop)]
+#[derive(Clone, Copy)]
 pub struct Counts {
     pub kind: u8,
     pub groups: usize,

@@ -4,7 +4,7 @@ ghost use Rattle.text.specs.Frame.{string};
 ghost use Rattle.text.specs.Steps.{end_of};
 
 // Where what was read ends, which is where reading goes on; or the frame is too short.
-#[derive(Drop)]
+#[derive(Clone, Copy)]
 pub enum End {
     At(usize),
     Unread,

@@ -8,7 +8,7 @@ ghost use Rattle.std.specs.Prelude.{◌≡◌, ◌≤◌, ◌<◌};
 ghost use Rattle.text_hash.specs.Mix.{Small, middle, mix, max_places, place_of};
 
 // The factors, odd numbers.
-#[derive(Drop)]
+#[derive(Clone, Copy)]
 pub struct Seed {
     pub first: usize,
     pub second: usize,

@@ -13,7 +13,7 @@ use text_hash::Seed;
 const DEPTH_STEP: usize = 256;
 
 // Four numbers, each with binary digits.
-#[derive(Drop)]
+#[derive(Clone, Copy)]
 pub struct Filter {
     pub a: u64,
     pub b: u64,

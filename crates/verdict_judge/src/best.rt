@@ -10,7 +10,7 @@ ghost use Rattle.verdict_judge.specs.Best.{held, Sound, Ranked, wins};
 use table::RuleNumber;
 
 // Its number, and where its action byte stands. The weight is 0 where there is none yet; where the ranking decides, it is the rank + 1.
-#[derive(Drop)]
+#[derive(Clone, Copy)]
 pub struct Best {
     pub weight: usize,
     pub number: RuleNumber,

@@ -7,7 +7,7 @@ pub mod request;
 use table::RuleNumber;
 
 // The answer of the single-path verdict.
-#[derive(Drop)]
+#[derive(Clone, Copy)]
 pub enum PathAnswer {
     Permit(RuleNumber),
     Deny(RuleNumber),
@@ -17,7 +17,7 @@ pub enum PathAnswer {
 }
 
 // The answer of the tree verdict.
-#[derive(Drop)]
+#[derive(Clone, Copy)]
 pub enum TreeAnswer {
     All,
     None,
@@ -26,7 +26,7 @@ pub enum TreeAnswer {
 }
 
 // What one of the two calls answers.
-#[derive(Drop)]
+#[derive(Clone, Copy)]
 pub enum Verdict {
     Path(PathAnswer),
     Tree(TreeAnswer),

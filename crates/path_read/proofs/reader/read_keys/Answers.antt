@@ -1,0 +1,125 @@
+use native.Mathlib.Omega.{arith}
+use mathlib.Core.Path.{sym, ap, ◌∙◌}
+use mathlib.Core.Bool.{not}
+use Prim.Native.Nat.{◌*◌, ◌-◌}
+use lib.ListN.{length-set}
+use Rattle.limits.specs.Sizes.{max_key_bytes, max_keys_bytes}
+use Rattle.path.specs.Bytes.{key_bytes}
+use Rattle.path_read.specs.Steps.{good_key, distinct, stores, nothing}
+use Rattle.path_read.proofs.Storing.{storing_start, storing_long, storing_from, storing_none, storing_done, storing_turn, stored_to, stored_not, within_after, within_less, room_byte, room_end, room_after}
+use Rattle.path_read.proofs.Reading.{some_left, next_inside, each_turn, each_unread, each_done, wrote_counted}
+use Rattle.path_read.proofs.Judging.{pass_good, pass_bad, pass_none, keys_twice}
+use Rattle.path_read.proofs.reader.read_keys.Goals as goal
+
+pub overflow_add-start : goal.overflow_add-start
+overflow_add-start c = omega (arith, room_byte _ _ _ _ _ _ c.requires (omega arith) (omega arith))
+
+pub loop-left-init : goal.loop-left-init
+loop-left-init c = (
+  storing_start key_bytes _ _ _ (omega (
+    arith,
+    room_byte _ _ _ _ _ _ c.requires (omega arith) (omega arith),
+  )),
+  omega arith,
+  record { few = omega arith; near = omega arith; inside = c.requires.starts },
+)
+
+pub overflow_add-p : goal.overflow_add-p
+overflow_add-p c =
+    omega (
+      arith,
+      next_inside 91 c.loop-left.left c.args.text.now c.loop-left.p _
+          c.byte_at.ensures c.loop-left-test.true (omega arith),
+    )
+
+pub read_key-k-requires : goal.read_key-k-requires
+read_key-k-requires c =
+    let i = next_inside 91 c.loop-left.left c.args.text.now c.loop-left.p _
+    c.byte_at.ensures c.loop-left-test.true (omega arith) in
+    let z = some_left 91 c.loop-left.left c.args.text.now c.loop-left.p _ c.byte_at.ensures c.loop-left-test.true in
+    room_after _ _ _ _ _ _ c.requires _ _ _ _ c.loop-left.invariant.2
+    (omega (arith, storing_from _ _ _ _ _ _ _ _ c.loop-left.invariant.0)) max_key_bytes 1 _ _
+    (storing_long _ _ _ _ _ _ _ _ c.loop-left.invariant.0) (omega (arith, z, c.loop-left.invariant.1))
+    (omega (arith, z, c.loop-left.invariant.1)) (omega (arith, i))
+
+pub shape_of-out-in_default : goal.shape_of-out-in_default
+shape_of-out-in_default c =
+    omega (arith, c.read_key-k.auto.1.1.0, storing_long _ _ _ _ _ _ _ _ c.loop-left.invariant.0)
+
+pub returns-in_default : goal.returns-in_default
+returns-in_default c =
+    nothing (pass_none distinct (storing_none _ _ _ _ _ _ _ _ c.loop-left.invariant.0
+    (each_unread 91 c.loop-left.left c.args.text.now c.loop-left.p _
+    c.byte_at.ensures c.loop-left-test.true good_key
+    (stored_not c.read_key-k.ensures c.in_default.is))))
+
+pub overflow_sub-left : goal.overflow_sub-left
+overflow_sub-left c =
+    some_left 91 c.loop-left.left c.args.text.now c.loop-left.p _
+    c.byte_at.ensures c.loop-left-test.true
+
+pub loop-left-smaller : goal.loop-left-smaller
+loop-left-smaller c =
+    omega (
+      arith,
+      some_left 91 c.loop-left.left c.args.text.now c.loop-left.p
+          _ c.byte_at.ensures c.loop-left-test.true,
+    )
+
+pub loop-left-preserved : goal.loop-left-preserved
+loop-left-preserved c =
+    let u = stored_to c.read_key-k.ensures c.in-To.is in
+    let z = some_left 91 c.loop-left.left c.args.text.now c.loop-left.p _
+    c.byte_at.ensures c.loop-left-test.true in
+    let l = storing_long _ _ _ _ _ _ _ _ c.loop-left.invariant.0 in
+    let o = storing_from _ _ _ _ _ _ _ _ c.loop-left.invariant.0 in
+    let w = within_after (max_keys_bytes - max_key_bytes * c.loop-left.left) 1 max_key_bytes 1
+    (max_keys_bytes - max_key_bytes * (c.loop-left.left - 1)) 1 _ _ _ _ _ _ _ _ c.loop-left.invariant.2 u.3
+    (omega (arith, z, c.loop-left.invariant.1)) (omega (arith, z, c.loop-left.invariant.1)) in
+    let f = room_end _ _ _ _ _ _ c.requires (max_keys_bytes - max_key_bytes * (c.loop-left.left - 1)) 1 _ _ w
+    (omega (arith, u.2.ends)) (omega arith) (omega arith) in (
+      storing_turn _ _ _ _ _ _ _ _ c.loop-left.invariant.0 u.0 _ _ _ _
+          (each_turn 91 c.loop-left.left c.args.text.now c.loop-left.p _
+          c.byte_at.ensures c.loop-left-test.true good_key u.0 _ u.1) u.2
+          (omega (arith, u.2.ends, f)) (omega (arith, z, c.loop-left.invariant.1)),
+      omega (arith, c.loop-left.invariant.1),
+      w,
+    )
+
+pub slice_bounds-has_twice-count : goal.slice_bounds-has_twice-count
+slice_bounds-has_twice-count c = storing_from _ _ _ _ _ _ _ _ c.loop-left.invariant.0
+
+pub slice_bounds-has_twice-start : goal.slice_bounds-has_twice-start
+slice_bounds-has_twice-start c = storing_from _ _ _ _ _ _ _ _ c.loop-left.invariant.0
+
+pub slice_bounds-has_twice-end : goal.slice_bounds-has_twice-end
+slice_bounds-has_twice-end c =
+    omega (arith, c.loop-left.invariant.0.wrote.ends, c.loop-left.invariant.0.room, storing_long _ _ _ _ _ _ _ _ c.loop-left.invariant.0)
+
+pub shape_of-out-then-has_twice : goal.shape_of-out-then-has_twice
+shape_of-out-then-has_twice c =
+    storing_long _ _ _ _ _ _ _ _ c.loop-left.invariant.0
+
+pub returns-then-has_twice : goal.returns-then-has_twice
+returns-then-has_twice c =
+    nothing (pass_bad distinct (storing_done _ _ _ _ _ _ _ _ c.loop-left.invariant.0 _
+    (each_done 91 c.loop-left.left c.args.text.now c.loop-left.p _ c.byte_at.ensures c.loop-left-test.false good_key))
+    (ap not (sym (keys_twice _ _ _ _ _ _ _ c.loop-left.invariant.0.wrote c.loop-left.invariant.0.room
+    c.loop-left.invariant.0.count c.has_twice.ensures) ∙ c.if-has_twice.true)))
+
+pub bounds-out-to : goal.bounds-out-to
+bounds-out-to c =
+    omega (arith, storing_long _ _ _ _ _ _ _ _ c.loop-left.invariant.0, room_byte _ _ _ _ _ _ c.requires (omega arith) (omega arith))
+
+pub shape_of-out : goal.shape_of-out
+shape_of-out c =
+    simp length-set (storing_long _ _ _ _ _ _ _ _ c.loop-left.invariant.0)
+
+pub returns : goal.returns
+returns c =
+    stores (pass_good distinct (storing_done _ _ _ _ _ _ _ _ c.loop-left.invariant.0 _
+    (each_done 91 c.loop-left.left c.args.text.now c.loop-left.p _ c.byte_at.ensures c.loop-left-test.false good_key))
+    (ap not (sym (keys_twice _ _ _ _ _ _ _ c.loop-left.invariant.0.wrote c.loop-left.invariant.0.room
+    c.loop-left.invariant.0.count c.has_twice.ensures) ∙ c.if-has_twice.false)))
+    (wrote_counted key_bytes _ _ _ _ _ _ c.loop-left.invariant.0.count c.loop-left.invariant.0.room
+    c.loop-left.invariant.0.wrote) (within_less _ _ _ _ _ _ _ _ _ c.loop-left.invariant.2 (omega arith) (omega arith))
