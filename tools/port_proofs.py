@@ -195,7 +195,7 @@ class Function:
             for field, step, old in (arm[2] if arm else []):
                 if old:
                     self.matched.setdefault(norm(step), {})[tuple(old)] = (arm[0], field)
-        self.hands = []
+        self.hands, self.placed = [], []
         self.own = CONTRACTS.get(f"{crate}::" + path.replace(".", "::"), {"requires": [], "ensures": []})
         self.callee = {norm(place[2][0]): place[3] for place in entry["places"] if place[3] and place[2] and place[2][0]}
 
@@ -266,6 +266,9 @@ class Function:
             aliases.add(found.group(1))
             gap = "\n    " if "\n" in found.group(0) else ""
             text = text[: found.start()] + gap + text[found.end() :]
+        for h in self.placed:
+            for a in aliases - {"c"}:
+                text = re.sub(r"(?<![\w.'-])" + re.escape(h) + r" " + re.escape(a) + r"(?![\w.'-])", h + " c", text)
         for a in sorted(aliases - {"c"}, key=len, reverse=True):
             text = re.sub(r"(?<![^\s(\[{,;])" + re.escape(a) + r"(?=\.)", "c", text)
             if re.search(r"(?<![^\s(\[{,;])" + re.escape(a) + r"(?![^\s)\]},;])", text):
@@ -289,8 +292,10 @@ def turn(crate, folder, entry):
     text = open(os.path.join(folder, "Proof.antt"), encoding="utf-8").read()
     loops = {norm(names[0]): (names, vars_, changed) for (names, vars_), changed in zip(entry["loops"], entry["changed"])}
     uses, header, invariants, answers, others, spec = [], [], [], [], [], None
-    answered = set()
+    answered = {}
     parts = items(text)
+    placed = r"(?:(?:pub|abbrev|unfoldable)\s+)*(" + NAME + r")\s*:\s*(?:\(c : )?tie\.(?!Need|invariant|decreases)"
+    f.placed = [re.match(placed, body).group(1) for _, body in parts if re.match(placed, body)]
     for comment, body in parts:
         if body.startswith("use "):
             if comment:
@@ -328,7 +333,7 @@ def turn(crate, folder, entry):
             if not new:
                 f.hand(f"goal {need.group(1)}")
                 new = "UNKNOWN-" + need.group(1)
-            answered.add(name)
+            answered[name] = new
             tail = re.sub(r"^" + re.escape(name) + r"((?:[ ]+[^\s=]+)*)\s*=", lambda m: new + "".join(" " + a for a in m.group(1).split() if a != "κs") + " =", tail, flags=re.M)
             tail = f.expression(tail)
             several = f.clauses_of(norm(need.group(1)))
@@ -344,11 +349,17 @@ def turn(crate, folder, entry):
         others.append((comment, body))
     places = {}
     for comment, body in list(others):
-        m = re.match(r"(?:(?:pub|abbrev|unfoldable)\s+)*(" + NAME + r")\s*:\s*(?:\(c : )?tie\.[^\n]*\n(?:unfolding[^\n]*\n)*\1 c((?:\s+[^\s=]+)*)\s*=\s*(.*)", body, re.S)
+        m = re.match(r"(?:(?:pub|abbrev|unfoldable)\s+)*(" + NAME + r")\s*:\s*(?:\(c : )?tie\.[^\n]*?→ ([^\n]*)\n(?:unfolding[^\n]*\n)*\1 c((?:\s+[^\s=]+)*)\s*=\s*(.*)", body, re.S)
         if m:
-            ps = m.group(2).split()
-            value = f.expression(m.group(3)).strip()
-            places[m.group(1)] = "(" + (f"λ {' '.join(ps)}. " if ps else "") + value + ")"
+            ps = m.group(3).split()
+            value = f.expression(m.group(4)).strip()
+            kind = m.group(2).strip()
+            if kind.startswith("tie."):
+                places[m.group(1)] = value
+            elif ps:
+                places[m.group(1)] = f"(λ {' '.join(ps)}. {value})"
+            else:
+                places[m.group(1)] = f"(let it : {kind} = {value} in it)"
             others.remove((comment, body))
     for _ in range(3):
         for name, value in places.items():
@@ -356,6 +367,9 @@ def turn(crate, folder, entry):
             for other in places:
                 places[other] = re.sub(pattern, lambda m: value, places[other])
             answers = [(a, b, re.sub(pattern, lambda m: value, t)) for a, b, t in answers]
+    for old, new in answered.items():
+        if old != new and old != "returns":
+            answers = [(a, b, re.sub(r"(?<![\w.'-])" + re.escape(old) + r"(?= c(?![\w'-]))", new, t)) for a, b, t in answers]
     if places:
         answers = [(a, b, re.sub(r"\((c(?:\.[^\s()]+)*)\)(?=[\s.)])", r"\1", t)) for a, b, t in answers]
     if spec:

@@ -4,18 +4,18 @@ use native.Mathlib.Omega.{arith}
 use mathlib.Core.Path.{◌∙◌}
 use Rattle.text.proofs.Frames.{string_ends}
 use Rattle.text.proofs.Filling.{fill_byte, wrote}
-use Rattle.path_write.proofs.Writing.{element_is, element-named, element-counted, elem_read, elem_ends, elem_start, elem_room, keys_room, elem_wrote}
+use Rattle.path_write.proofs.Writing.{element_is, element_named, element_counted, elem_read, elem_ends, elem_start, elem_room, keys_room, elem_wrote}
 use Rattle.path_write.proofs.write_element.Statement.{statement}
 use Rattle.path_write.proofs.write_element.Tie as tie
 
 returns : tie.Need-returns
 returns c = let at-start = c.before.before.before.before.before in
-    element-named _ _ _ c.before.before.string_end_lem.ensures at-start.requires.reads c.enum_told.given.1
+    element_named _ _ _ c.before.before.string_end_lem.ensures at-start.requires.reads c.enum_told.given.1
 
 returns_2 : tie.Need-returns-2
 returns_2 c = let at-string-end = c.before.before.before.before in
     let at-start = at-string-end.before.before.before in
-    element-counted _ _ _ at-string-end.string_end_lem.ensures at-start.requires.reads _ c.before.before.n.given.1 c.if1.true
+    element_counted _ _ _ at-string-end.string_end_lem.ensures at-start.requires.reads _ c.before.before.n.given.1 c.if1.true
 
 cast_count : tie.Need-overflow-cast-count
 cast_count c = let at_n = c.before.before.before in

@@ -9,7 +9,7 @@ use Rattle.path.specs.Bytes.{key}
 use Rattle.path_frame.proofs.Walks.{key_got, key_nameless, key_valueless}
 use Rattle.path_read.specs.Text.{key_text}
 use Rattle.path_write.specs.Steps.{written, end_at}
-use Rattle.path_write.proofs.Writing.{Writing, writing_start, writing-never, writing_done, writing_room, writing_turn}
+use Rattle.path_write.proofs.Writing.{Writing, writing_start, writing_never, writing_done, writing_room, writing_turn}
 use Rattle.path_write.proofs.write_keys.Statement.{statement}
 use Rattle.path_write.proofs.write_keys.Tie as tie
 
@@ -26,12 +26,12 @@ loop_holds c = writing_start key_text _ _ _ c.before.before.requires
 
 returns : tie.Need-returns invariant_loop decreases_loop
 returns c = let at-loop-test = c.before.before.before in
-    writing-never _ _ _ _ _ _ _ _ at-loop-test.before.loop.invariant
+    writing_never _ _ _ _ _ _ _ _ at-loop-test.before.loop.invariant
     (times_unread key _ _ _ at-loop-test.loop-test.true (key_nameless _ _ _ c.before.before.string_end_lem.ensures c.enum_told.given.1))
 
 returns_2 : tie.Need-returns-2 invariant_loop decreases_loop
 returns_2 c = let at_n = c.before.before.before.before in let at-loop-test = at_n.before.before.before in
-    writing-never _ _ _ _ _ _ _ _ at-loop-test.before.loop.invariant
+    writing_never _ _ _ _ _ _ _ _ at-loop-test.before.loop.invariant
     (times_unread key _ _ _ at-loop-test.loop-test.true
     (key_valueless _ _ _ at_n.before.before.string_end_lem.ensures _ _ at_n.n.given.1
     c.before.before.string-end2.ensures c.enum-told2.given.1))

@@ -1,13 +1,13 @@
 -- `write_path` stores a / for the root, and otherwise the elements.
 use borrow.Author.Rules.{rules}
 use native.Mathlib.Omega.{arith}
-use Rattle.path_write.proofs.Writing.{path-counted, root_room, root_wrote, more_room, more_wrote}
+use Rattle.path_write.proofs.Writing.{path_counted, root_room, root_wrote, more_room, more_wrote}
 use Rattle.path_write.proofs.write_path.Statement.{statement}
 use Rattle.path_write.proofs.write_path.Tie as tie
 
 returns : tie.Need-returns
 returns c = let at-start = c.before.before.before in
-    path-counted at-start.args.out.now at-start.args.f.now at-start.requires (omega (arith, c.if1.true))
+    path_counted at-start.args.out.now at-start.args.f.now at-start.requires (omega (arith, c.if1.true))
 
 cast_count : tie.Need-overflow-cast-count
 cast_count c = omega (arith, c.shared-slice-known2.given 0)
