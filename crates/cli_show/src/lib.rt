@@ -13,6 +13,12 @@ use std::io;
 // Room for the lines of any answer, but for a refusal.
 pub const MAX_LINES: usize = 320;
 
+// Room for a name or another word: as many bytes as the longest path has, and one more.
+pub const WORD_ROOM: usize = 4096;
+
+// Room for a text.
+pub const TEXT_ROOM: usize = 65536;
+
 // Where words are printed.
 #[derive(Clone, Copy, PartialEq)]
 pub enum Stream {
