@@ -19,7 +19,7 @@ OPEN, CLOSE = "([{", ")]}"
 
 
 def norm(word):
-    return re.sub(r"_lem\b", "", word.replace("-", "_").replace("′", "'"))
+    return re.sub(r"_lem\b", "", word.replace("-", "_").replace("′", "'")).lower()
 
 
 def generated(crate):
@@ -238,22 +238,37 @@ class Function:
             names = self.fields.get(new, {})
             if rest:
                 rest = [names.get(rest[0], rest[0])] + rest[1:]
+            if rest[:1] in (["auto"], ["new"]) and len(rest) > 1 and rest[1].isdigit():
+                ones = 0
+                while rest[1 + ones] == "1":
+                    ones += 1
+                params = self.entry["params"].get(self.callee.get(key), [])
+                if ones < len(params):
+                    rest = [rest[0], params[ones]] + rest[2 + ones :]
+                else:
+                    self.hand(f"{'.'.join(rest)} of {first}")
             clause = self.clauses.get(new)
             if clause and rest and rest[0] == "ensures" and clause.get("fields"):
                 fields = clause["fields"]
+                if len(fields) > 1 and len(rest) == 1:
+                    return "(" + ", ".join(".".join(out + ["ensures", x]) for x in fields) + ")"
                 if len(rest) > 1 and rest[1].isdigit() and int(rest[1]) < len(fields) and len(fields) > 1:
                     rest = ["ensures", fields[int(rest[1])]] + rest[2:]
                 elif len(fields) == 1 and (len(rest) == 1 or rest[1] not in fields):
                     rest = ["ensures", fields[0]] + rest[1:]
             return ".".join(out + rest)
+        if first == "well-formed":
+            return ".".join([m.group(1), "well_formed"] + rest)
+        if first == "requires" and not rest and len(self.own["requires"]) > 1:
+            return "(" + ", ".join(f"{m.group(1)}.requires.{x}" for x in self.own["requires"]) + ")"
         if first == "requires" and rest and rest[0].isdigit() and len(self.own["requires"]) > 1:
             return ".".join([m.group(1), "requires", self.own["requires"][int(rest[0])]] + rest[1:])
         if first not in ("args", "requires", "ranges", "type_inv"):
             self.hand(f"step {first}")
         return ".".join([m.group(1)] + segments)
 
-    def expression(self, text):
-        aliases = {"c"}
+    def expression(self, text, first="c"):
+        aliases = {"c", first}
         while True:
             m = re.search(r"let (" + NAME + r") = (" + NAME + r")((?:\.before)*) in\s?", text)
             found = None
@@ -280,6 +295,8 @@ class Function:
     def loop_args(self, loop, patterns):
         names, vars_, changed = loop
         slots = ["l.initial." + v if ch else "l." + v for v, ch in zip(vars_, changed)] + ["l." + v for v, ch in zip(vars_, changed) if ch]
+        if len(slots) < len(patterns):
+            patterns = [p for p in patterns if not re.fullmatch(r"t\d+₀?", p)]
         if len(slots) != len(patterns):
             self.hand(f"loop {names[0]}: {len(patterns)} arguments {' '.join(patterns)} for {' '.join(slots)}")
             return None
@@ -290,6 +307,9 @@ def turn(crate, folder, entry):
     path = os.path.relpath(folder, f"crates/{crate}/proofs").replace("/", ".")
     f = Function(crate, path, entry)
     text = open(os.path.join(folder, "Proof.antt"), encoding="utf-8").read()
+    for name in re.findall(r"(?m)^(?:pub )?(?:record|data) ([A-Z]\w*(?:-[a-z]\w*)+)", text):
+        camel = "".join(w[0].upper() + w[1:] for w in name.split("-"))
+        text = re.sub(r"(?<![\w'-])" + re.escape(name) + r"(?![\w'-])", camel, text)
     loops = {norm(names[0]): (names, vars_, changed) for (names, vars_), changed in zip(entry["loops"], entry["changed"])}
     uses, header, invariants, answers, others, spec = [], [], [], [], [], None
     answered = {}
@@ -349,15 +369,15 @@ def turn(crate, folder, entry):
         others.append((comment, body))
     places = {}
     for comment, body in list(others):
-        m = re.match(r"(?:(?:pub|abbrev|unfoldable)\s+)*(" + NAME + r")\s*:\s*(?:\(c : )?tie\.[^\n]*?→ ([^\n]*)\n(?:unfolding[^\n]*\n)*\1 c((?:\s+[^\s=]+)*)\s*=\s*(.*)", body, re.S)
+        m = re.match(r"(?:(?:pub|abbrev|unfoldable)\s+)*(" + NAME + r")\s*:\s*(?:\(c : )?tie\.[^\n]*?→ ([^\n]*)\n(?:unfolding[^\n]*\n)*\1 ([^\s=]+)((?:\s+[^\s=]+)*)\s*=\s*(.*)", body, re.S)
         if m:
-            ps = m.group(3).split()
-            value = f.expression(m.group(4)).strip()
+            ps = m.group(4).split()
+            value = f.expression(m.group(5), m.group(3)).strip()
             kind = m.group(2).strip()
             if kind.startswith("tie."):
                 places[m.group(1)] = value
             elif ps:
-                places[m.group(1)] = f"(λ {' '.join(ps)}. {value})"
+                places[m.group(1)] = f"(let it : {kind} = λ {' '.join(ps)}. {value} in it)"
             else:
                 places[m.group(1)] = f"(let it : {kind} = {value} in it)"
             others.remove((comment, body))
@@ -396,6 +416,18 @@ def turn(crate, folder, entry):
                 f.hand(f"{len(args) - skip} needs then, {len(f.order)} now; inline: {inline}")
     keep = [u for u in uses if not re.search(r"\.(Tie|Statement)(\.\{| as )", u) and not re.search(r"borrow\.Author\.Rules|proofs\.[^ ]*\.Lts", u)]
     lts = [u for u in uses if re.search(r"\.Lts\b", u)]
+    shared, names = [], set()
+    told = "\n".join(b for _, b in invariants)
+    while True:
+        more = [(c, b) for c, b in others if b and (c, b) not in shared and any(used(n, told) for n in declared(b))]
+        if not more:
+            break
+        shared += more
+        told += "\n".join(b for _, b in more)
+    shared = [x for x in others if x in shared]
+    others = [x for x in others if x not in shared]
+    for c, b in shared:
+        names |= set(declared(b))
     helper = "\n\n".join("\n".join(c + [b]) if b else "\n".join(c) for c, b in others if b)
     if "lts." in helper or "tie." in helper:
         f.hand("helpers typed by a place")
@@ -403,14 +435,35 @@ def turn(crate, folder, entry):
         keep.append("use Rattle.std.proofs.Common.{rules}")
     top = "\n".join(header)
     if invariants:
-        body = "\n\n".join("\n".join(c + [b]) for c, b in invariants)
+        body = "\n\n".join("\n".join(c + [published(b)]) for c, b in shared) + "\n\n" if shared else ""
+        body += "\n\n".join("\n".join(c + [b]) for c, b in invariants)
         write(folder, "Invariants.antt", top, keep, f"use Rattle.{crate}.proofs.{path}.Given as goal", body)
     if answers or helper:
         body = (helper + "\n\n" if helper else "") + "\n\n".join("\n".join(c + [b]) for c, _, b in answers)
+        if names:
+            lts.append(f"use Rattle.{crate}.proofs.{path}.Invariants.{{{', '.join(sorted(names))}}}")
         write(folder, "Answers.antt", "" if invariants else top, keep + lts, f"use Rattle.{crate}.proofs.{path}.Goals as goal", body)
     os.remove(os.path.join(folder, "Proof.antt"))
     for h in f.hands:
         print(f"hand: {folder}: {h}")
+
+
+def declared(body):
+    """The names that a helper brings."""
+    m = re.match(r"(?:(?:pub|abbrev|unfoldable)\s+)*(?:record|data)\s+([^\s:({]+)", body) or re.match(r"(?:(?:pub|abbrev|unfoldable)\s+)*(" + NAME + r")\s*:", body)
+    return [m.group(1)] if m else []
+
+
+def published(body):
+    lines = body.split("\n")
+    out = []
+    for i, l in enumerate(lines):
+        if i == 0 and not re.match(r"(?:\w+ )*pub ", l):
+            l = re.sub(r"^(abbrev |unfoldable )?", lambda m: (m.group(1) or "") + "pub ", l, count=1)
+        elif lines[0].lstrip("pub ").startswith("record") and re.match(r"  [a-z]\S* : ", l):
+            l = "  pub " + l.strip()
+        out.append(l)
+    return "\n".join(out)
 
 
 def names_in(use):
