@@ -215,6 +215,17 @@ class Function:
                 return self.needs[b + old[len(a) :]]
         return None
 
+    def lent(self, key):
+        """The fact on a lent buffer's length that the step states: where the call that had the buffer has it."""
+        places = {place[0]: place for place in self.entry["places"]}
+        at = next((p for p in self.entry["places"] if p[2] and norm(p[2][0]) == key), None)
+        name = re.sub(r"\d+$", "", key)
+        while at:
+            at = places.get(at[1])
+            if at and at[3]:
+                return f"{at[2][1]}.auto.{name}" if name in self.entry["params"].get(at[3], []) else None
+        return None
+
     def hand(self, what):
         self.hands.append(what)
 
@@ -237,8 +248,15 @@ class Function:
                 return ".".join([m.group(1), *self.matched[key][old]] + rest[len(old) :])
         if key in self.steps:
             new = self.steps[key]
+            if rest == ["given"] and self.lent(key):
+                return f"{m.group(1)}.{self.lent(key)}"
             if "given" in rest[:1]:
                 self.hand(f"given of {first}")
+            if len(rest) > 1 and rest[0] in ("new", "auto") and re.match(r"(1\.)*0(\.|$)", ".".join(rest[1:])):
+                at = rest.index("0", 1)
+                names = self.entry["params"].get(self.callee.get(key), [])
+                if at - 1 < len(names):
+                    rest = [rest[0], names[at - 1]] + rest[at + 1 :]
             out = [m.group(1), new]
             names = self.fields.get(new, {})
             if rest:
