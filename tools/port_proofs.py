@@ -306,6 +306,26 @@ class Function:
         return dict(zip(patterns, slots))
 
 
+def cited(answers, bodies):
+    """An answer that cites another answer by its old name has that answer's term instead."""
+    for _ in range(3):
+        for name, (args, value) in bodies.items():
+            pattern = r"(?<![\w.'-])" + re.escape(name) + r"(?P<args>" + "".join(r"\s+" + NAME for _ in args) + r")(?![\w.'-])"
+
+            def inside(m):
+                term = value
+                for a, b in zip(args, m.group("args").split()):
+                    if a != b:
+                        term = re.sub(r"(?<![^\s(\[{,;])" + re.escape(a) + r"(?=[\s.)\]},;]|$)", b, term)
+                return "(" + term.strip() + ")"
+
+            for i, (c, n, x) in enumerate(answers):
+                head = re.search(r"^" + re.escape(n) + r"(?:[ ]+[^\s=]+)*\s*=", x, re.M)
+                if head:
+                    answers[i] = (c, n, x[: head.end()] + re.sub(pattern, inside, x[head.end() :]))
+    return answers
+
+
 def parameters():
     """For each function, by crate, module and name: the names of its parameters."""
     found = {}
@@ -327,7 +347,7 @@ def turn_cycle(crate, folder, names):
     functions = {m: Function(crate, (module + "." if module else "") + m, e, e["stem"]) for m, e in members.items()}
     params = parameters()
     text = open(os.path.join(folder, "Proof.antt"), encoding="utf-8").read()
-    uses, header, measures, invariants, answers, others, hands = [], [], [], [], [], [], []
+    uses, header, measures, invariants, answers, others, hands, bodies = [], [], [], [], [], [], [], {}
     for comment, body in items(text):
         if body.startswith("use "):
             if comment:
@@ -379,12 +399,16 @@ def turn_cycle(crate, folder, names):
             new = f.stem + new
             tail = re.sub(r"^" + re.escape(name) + r"((?:[ ]+[^\s=]+)*)\s*=", lambda m: new + "".join(" " + a for a in m.group(1).split() if a != "κs") + " =", tail, flags=re.M)
             tail = f.expression(tail)
+            eq = re.search(r"^" + re.escape(new) + r"((?:[ ]+[^\s=]+)*)\s*=(.*)", tail, re.M | re.S)
+            if eq:
+                bodies[name] = (eq.group(1).split(), eq.group(2))
             several = f.clauses_of(norm(need.group(2)))
             if several:
                 tail = as_record(tail, new, several)
             answers.append((comment, new, f"pub {new} : goal.{new}\n" + tail))
             continue
         others.append((comment, body))
+    answers = cited(answers, bodies)
     keep = [u for u in uses if not re.search(r"\.(Tie|Lts-\w+|Reads|Kinds|PlainCycle)\b|\{statement\}|borrow\.Author\.Rules", u)]
     helper = "\n\n".join("\n".join(c + [b]) for c, b in others if b)
     if "rules" in " ".join(b for _, _, b in answers) + helper:
@@ -402,7 +426,7 @@ def turn(crate, folder, entry):
     f = Function(crate, path, entry)
     text = open(os.path.join(folder, "Proof.antt"), encoding="utf-8").read()
     loops = {norm(names[0]): (names, vars_, changed) for (names, vars_), changed in zip(entry["loops"], entry["changed"])}
-    uses, header, invariants, answers, others, spec = [], [], [], [], [], None
+    uses, header, invariants, answers, others, spec, bodies = [], [], [], [], [], None, {}
     answered = set()
     parts = items(text)
     for comment, body in parts:
@@ -445,6 +469,9 @@ def turn(crate, folder, entry):
             answered.add(name)
             tail = re.sub(r"^" + re.escape(name) + r"((?:[ ]+[^\s=]+)*)\s*=", lambda m: new + "".join(" " + a for a in m.group(1).split() if a != "κs") + " =", tail, flags=re.M)
             tail = f.expression(tail)
+            eq = re.search(r"^" + re.escape(new) + r"((?:[ ]+[^\s=]+)*)\s*=(.*)", tail, re.M | re.S)
+            if eq:
+                bodies[name] = (eq.group(1).split(), eq.group(2))
             several = f.clauses_of(norm(need.group(1)))
             if several:
                 tail = as_record(tail, new, several)
@@ -494,6 +521,7 @@ def turn(crate, folder, entry):
             inline = [a for a in args if a.startswith("(λ") and "search rules" not in a]
             if inline:
                 f.hand(f"{len(args) - skip} needs then, {len(f.order)} now; inline: {inline}")
+    answers = cited(answers, bodies)
     keep = [u for u in uses if not re.search(r"\.(Tie|Statement)(\.\{| as )", u) and not re.search(r"borrow\.Author\.Rules|proofs\.[^ ]*\.Lts", u)]
     lts = [u for u in uses if re.search(r"\.Lts\b", u)]
     helper = "\n\n".join("\n".join(c + [b]) if b else "\n".join(c) for c, b in others if b)
