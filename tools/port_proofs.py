@@ -235,6 +235,9 @@ class Function:
         if not segments:
             return m.group(1)
         first, rest = segments[0], segments[1:]
+        if norm(first) not in self.steps and norm(first) not in self.known and re.sub(r"\d+$", "", norm(first)) in self.steps:
+            first = re.sub(r"\d+$", "", first)
+            segments = [first] + rest
         if self.stem and first == "requires" and rest:
             if rest[0] == "0":
                 return ".".join([m.group(1), "decreases"] + rest[1:])
