@@ -297,7 +297,7 @@ class Function:
             if re.search(r"(?<![^\s(\[{,;])" + re.escape(a) + r"(?![^\s)\]},;])", text):
                 self.hand(f"bare place {a}")
         text = re.sub(r"(?<![^\s(\[{,;])(c)((?:\.[^\s(){}\[\],;.]+)+)", self.chain, text)
-        text = re.sub(r"not-(true|false) _ (c(?:\.[^\s(){}\[\],;.]+)+\.\1)-raw", r"\2", text)
+        text = re.sub(r"not-(true|false) _\s+(c(?:\.[^\s(){}\[\],;.]+)+\.\1)-raw", r"\2", text)
         text = re.sub(r"[ \t]+\n", "\n", text)
         return re.sub(r"=\s*\n\s*\n", "=\n", text)
 
