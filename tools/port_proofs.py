@@ -19,7 +19,7 @@ OPEN, CLOSE = "([{", ")]}"
 
 
 def norm(word):
-    return re.sub(r"_lem\b", "", word.replace("-", "_").replace("′", "'"))
+    return re.sub(r"_lem\b", "", word.replace("-", "_").replace("′", "'")).lower()
 
 
 def generated(crate):
@@ -195,7 +195,7 @@ class Function:
             for field, step, old in (arm[2] if arm else []):
                 if old:
                     self.matched.setdefault(norm(step), {})[tuple(old)] = (arm[0], field)
-        self.hands = []
+        self.hands, self.placed = [], []
         self.own = CONTRACTS.get(f"{crate}::" + path.replace(".", "::"), {"requires": [], "ensures": []})
         self.callee = {norm(place[2][0]): place[3] for place in entry["places"] if place[3] and place[2] and place[2][0]}
 
@@ -255,31 +255,41 @@ class Function:
                 return f"{m.group(1)}.{self.lent(key)}"
             if "given" in rest[:1]:
                 self.hand(f"given of {first}")
-            if len(rest) > 1 and rest[0] in ("new", "auto") and re.match(r"(1\.)*0(\.|$)", ".".join(rest[1:])):
-                at = rest.index("0", 1)
-                names = self.entry["params"].get(self.callee.get(key), [])
-                if at - 1 < len(names):
-                    rest = [rest[0], names[at - 1]] + rest[at + 1 :]
             out = [m.group(1), new]
             names = self.fields.get(new, {})
             if rest:
                 rest = [names.get(rest[0], rest[0])] + rest[1:]
+            if rest[:1] in (["auto"], ["new"]) and len(rest) > 1 and rest[1].isdigit():
+                ones = 0
+                while rest[1 + ones] == "1":
+                    ones += 1
+                params = self.entry["params"].get(self.callee.get(key), [])
+                if ones < len(params):
+                    rest = [rest[0], params[ones]] + rest[2 + ones :]
+                else:
+                    self.hand(f"{'.'.join(rest)} of {first}")
             clause = self.clauses.get(new)
             if clause and rest and rest[0] == "ensures" and clause.get("fields"):
                 fields = clause["fields"]
+                if len(fields) > 1 and len(rest) == 1:
+                    return "(" + ", ".join(".".join(out + ["ensures", x]) for x in fields) + ")"
                 if len(rest) > 1 and rest[1].isdigit() and int(rest[1]) < len(fields) and len(fields) > 1:
                     rest = ["ensures", fields[int(rest[1])]] + rest[2:]
                 elif len(fields) == 1 and (len(rest) == 1 or rest[1] not in fields):
                     rest = ["ensures", fields[0]] + rest[1:]
             return ".".join(out + rest)
+        if first == "well-formed":
+            return ".".join([m.group(1), "well_formed"] + rest)
+        if first == "requires" and not rest and len(self.own["requires"]) > 1:
+            return "(" + ", ".join(f"{m.group(1)}.requires.{x}" for x in self.own["requires"]) + ")"
         if first == "requires" and rest and rest[0].isdigit() and len(self.own["requires"]) > 1:
             return ".".join([m.group(1), "requires", self.own["requires"][int(rest[0])]] + rest[1:])
         if first not in ("args", "requires", "ranges", "type_inv"):
             self.hand(f"step {first}")
         return ".".join([m.group(1)] + segments)
 
-    def expression(self, text):
-        aliases = {"c"}
+    def expression(self, text, first="c"):
+        aliases = {"c", first}
         while True:
             m = re.search(r"let (" + NAME + r") = (" + NAME + r")((?:\.before)*) in\s?", text)
             found = None
@@ -292,6 +302,9 @@ class Function:
             aliases.add(found.group(1))
             gap = "\n    " if "\n" in found.group(0) else ""
             text = text[: found.start()] + gap + text[found.end() :]
+        for h in self.placed:
+            for a in aliases - {"c"}:
+                text = re.sub(r"(?<![\w.'-])" + re.escape(h) + r" " + re.escape(a) + r"(?![\w.'-])", h + " c", text)
         for a in sorted(aliases - {"c"}, key=len, reverse=True):
             text = re.sub(r"(?<![^\s(\[{,;])" + re.escape(a) + r"(?=\.)", "c", text)
             if re.search(r"(?<![^\s(\[{,;])" + re.escape(a) + r"(?![^\s)\]},;])", text):
@@ -304,14 +317,17 @@ class Function:
     def loop_args(self, loop, patterns):
         names, vars_, changed = loop
         slots = ["l.initial." + v if ch else "l." + v for v, ch in zip(vars_, changed)] + ["l." + v for v, ch in zip(vars_, changed) if ch]
+        if len(slots) < len(patterns):
+            patterns = [p for p in patterns if not re.fullmatch(r"t\d+₀?", p)]
         if len(slots) != len(patterns):
             self.hand(f"loop {names[0]}: {len(patterns)} arguments {' '.join(patterns)} for {' '.join(slots)}")
             return None
         return dict(zip(patterns, slots))
 
 
-def cited(answers, bodies):
-    """An answer that cites another answer by its old name has that answer's term instead."""
+def cited(answers, bodies, answered=None, f=None):
+    """An answer that cites another answer by its old name has that answer's term instead, unless both goals have the same record."""
+    at = dict(zip(f.order, [b for _, b in f.entry["asked_at"]])) if f else {}
     for _ in range(3):
         for name, (args, value) in bodies.items():
             pattern = r"(?<![\w.'-])" + re.escape(name) + r"(?P<args>" + "".join(r"\s+" + NAME for _ in args) + r")(?![\w.'-])"
@@ -325,7 +341,8 @@ def cited(answers, bodies):
 
             for i, (c, n, x) in enumerate(answers):
                 head = re.search(r"^" + re.escape(n) + r"(?:[ ]+[^\s=]+)*\s*=", x, re.M)
-                if head:
+                alike = answered and name != "returns" and at.get(answered.get(name)) == at.get(n) and n in at
+                if head and not alike:
                     answers[i] = (c, n, x[: head.end()] + re.sub(pattern, inside, x[head.end() :]))
     return answers
 
@@ -429,10 +446,15 @@ def turn(crate, folder, entry):
     path = os.path.relpath(folder, f"crates/{crate}/proofs").replace("/", ".")
     f = Function(crate, path, entry)
     text = open(os.path.join(folder, "Proof.antt"), encoding="utf-8").read()
+    for name in re.findall(r"(?m)^(?:pub )?(?:record|data) ([A-Z]\w*(?:-[a-z]\w*)+)", text):
+        camel = "".join(w[0].upper() + w[1:] for w in name.split("-"))
+        text = re.sub(r"(?<![\w'-])" + re.escape(name) + r"(?![\w'-])", camel, text)
     loops = {norm(names[0]): (names, vars_, changed) for (names, vars_), changed in zip(entry["loops"], entry["changed"])}
     uses, header, invariants, answers, others, spec, bodies = [], [], [], [], [], None, {}
-    answered = set()
+    answered = {}
     parts = items(text)
+    placed = r"(?:(?:pub|abbrev|unfoldable)\s+)*(" + NAME + r")\s*:\s*(?:\(c : )?tie\.(?!Need|invariant|decreases)"
+    f.placed = [re.match(placed, body).group(1) for _, body in parts if re.match(placed, body)]
     for comment, body in parts:
         if body.startswith("use "):
             if comment:
@@ -470,7 +492,7 @@ def turn(crate, folder, entry):
             if not new:
                 f.hand(f"goal {need.group(1)}")
                 new = "UNKNOWN-" + need.group(1)
-            answered.add(name)
+            answered[name] = new
             tail = re.sub(r"^" + re.escape(name) + r"((?:[ ]+[^\s=]+)*)\s*=", lambda m: new + "".join(" " + a for a in m.group(1).split() if a != "κs") + " =", tail, flags=re.M)
             tail = f.expression(tail)
             eq = re.search(r"^" + re.escape(new) + r"((?:[ ]+[^\s=]+)*)\s*=(.*)", tail, re.M | re.S)
@@ -489,11 +511,17 @@ def turn(crate, folder, entry):
         others.append((comment, body))
     places = {}
     for comment, body in list(others):
-        m = re.match(r"(?:(?:pub|abbrev|unfoldable)\s+)*(" + NAME + r")\s*:\s*(?:\(c : )?tie\.[^\n]*\n(?:unfolding[^\n]*\n)*\1 c((?:\s+[^\s=]+)*)\s*=\s*(.*)", body, re.S)
+        m = re.match(r"(?:(?:pub|abbrev|unfoldable)\s+)*(" + NAME + r")\s*:\s*(?:\(c : )?tie\.[^\n]*?→ ([^\n]*)\n(?:unfolding[^\n]*\n)*\1 ([^\s=]+)((?:\s+[^\s=]+)*)\s*=\s*(.*)", body, re.S)
         if m:
-            ps = m.group(2).split()
-            value = f.expression(m.group(3)).strip()
-            places[m.group(1)] = "(" + (f"λ {' '.join(ps)}. " if ps else "") + value + ")"
+            ps = m.group(4).split()
+            value = f.expression(m.group(5), m.group(3)).strip()
+            kind = m.group(2).strip()
+            if kind.startswith("tie."):
+                places[m.group(1)] = value
+            elif ps:
+                places[m.group(1)] = f"(let it : {kind} = λ {' '.join(ps)}. {value} in it)"
+            else:
+                places[m.group(1)] = f"(let it : {kind} = {value} in it)"
             others.remove((comment, body))
     for _ in range(3):
         for name, value in places.items():
@@ -501,6 +529,10 @@ def turn(crate, folder, entry):
             for other in places:
                 places[other] = re.sub(pattern, lambda m: value, places[other])
             answers = [(a, b, re.sub(pattern, lambda m: value, t)) for a, b, t in answers]
+    answers = cited(answers, bodies, answered, f)
+    for old, new in answered.items():
+        if old != new and old != "returns":
+            answers = [(a, b, re.sub(r"(?<![\w.'-])" + re.escape(old) + r"(?= c(?![\w'-]))", new, t)) for a, b, t in answers]
     if places:
         answers = [(a, b, re.sub(r"\((c(?:\.[^\s()]+)*)\)(?=[\s.)])", r"\1", t)) for a, b, t in answers]
     if spec:
@@ -525,9 +557,20 @@ def turn(crate, folder, entry):
             inline = [a for a in args if a.startswith("(λ") and "search rules" not in a]
             if inline:
                 f.hand(f"{len(args) - skip} needs then, {len(f.order)} now; inline: {inline}")
-    answers = cited(answers, bodies)
     keep = [u for u in uses if not re.search(r"\.(Tie|Statement)(\.\{| as )", u) and not re.search(r"borrow\.Author\.Rules|proofs\.[^ ]*\.Lts", u)]
     lts = [u for u in uses if re.search(r"\.Lts\b", u)]
+    shared, names = [], set()
+    told = "\n".join(b for _, b in invariants)
+    while True:
+        more = [(c, b) for c, b in others if b and (c, b) not in shared and any(used(n, told) for n in declared(b))]
+        if not more:
+            break
+        shared += more
+        told += "\n".join(b for _, b in more)
+    shared = [x for x in others if x in shared]
+    others = [x for x in others if x not in shared]
+    for c, b in shared:
+        names |= set(declared(b))
     helper = "\n\n".join("\n".join(c + [b]) if b else "\n".join(c) for c, b in others if b)
     if "lts." in helper or "tie." in helper:
         f.hand("helpers typed by a place")
@@ -535,14 +578,35 @@ def turn(crate, folder, entry):
         keep.append("use Rattle.std.proofs.Common.{rules}")
     top = "\n".join(header)
     if invariants:
-        body = "\n\n".join("\n".join(c + [b]) for c, b in invariants)
+        body = "\n\n".join("\n".join(c + [published(b)]) for c, b in shared) + "\n\n" if shared else ""
+        body += "\n\n".join("\n".join(c + [b]) for c, b in invariants)
         write(folder, "Invariants.antt", top, keep, f"use Rattle.{crate}.proofs.{path}.Given as goal", body)
     if answers or helper:
         body = (helper + "\n\n" if helper else "") + "\n\n".join("\n".join(c + [b]) for c, _, b in answers)
+        if names:
+            lts.append(f"use Rattle.{crate}.proofs.{path}.Invariants.{{{', '.join(sorted(names))}}}")
         write(folder, "Answers.antt", "" if invariants else top, keep + lts, f"use Rattle.{crate}.proofs.{path}.Goals as goal", body)
     os.remove(os.path.join(folder, "Proof.antt"))
     for h in f.hands:
         print(f"hand: {folder}: {h}")
+
+
+def declared(body):
+    """The names that a helper brings."""
+    m = re.match(r"(?:(?:pub|abbrev|unfoldable)\s+)*(?:record|data)\s+([^\s:({]+)", body) or re.match(r"(?:(?:pub|abbrev|unfoldable)\s+)*(" + NAME + r")\s*:", body)
+    return [m.group(1)] if m else []
+
+
+def published(body):
+    lines = body.split("\n")
+    out = []
+    for i, l in enumerate(lines):
+        if i == 0 and not re.match(r"(?:\w+ )*pub ", l):
+            l = re.sub(r"^(abbrev |unfoldable )?", lambda m: (m.group(1) or "") + "pub ", l, count=1)
+        elif lines[0].lstrip("pub ").startswith("record") and re.match(r"  [a-z]\S* : ", l):
+            l = "  pub " + l.strip()
+        out.append(l)
+    return "\n".join(out)
 
 
 def names_in(use):

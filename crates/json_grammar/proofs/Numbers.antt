@@ -11,7 +11,7 @@ use Rattle.json_grammar.specs.Abnf.{is, one, ◌then◌, seq, first, second, Opt
 use Rattle.json_grammar.specs.Grammar.{DIGIT, digit1_9, e_or_E, minus_or_plus, Digits, Int, Frac, Exp, Number}
 use Rattle.json_grammar.specs.Parser.{read_digits, read_int, read_frac, read_exp, read_number}
 use Rattle.text.proofs.Tests.{by, or_false_l, or_false_r}
-use Rattle.json_grammar.proofs.Basics.{split, empty-handed, starts, lit, in_range, Cut, Reads, Apart, Within, starts_within, reads_within, push, skips, leads, mays, may_one, bound_reads}
+use Rattle.json_grammar.proofs.Basics.{split, empty_handed, starts, lit, in_range, Cut, Reads, Apart, Within, starts_within, reads_within, push, skips, leads, mays, may_one, bound_reads}
 
 -- what would carry a number on: after its fraction, after its whole part and fraction
 unfoldable pub pointed : ℕ → Bool
@@ -75,10 +75,10 @@ exp_read = mays e_or_E (reads_within digit_numeric (bound_reads (may_one minus_o
 
 int_sound : (s t : List ℕ) → read_int s ≡ some t → Cut Int s t
 unfolding read_int
-int_sound [] t e = empty-handed e
+int_sound [] t e = empty_handed e
 int_sound (c ∷ s) t e =
     split (is 0x30 c) e (λ h q. (c ∷ [], first (one h), push c (cc)))
-    (λ h q. split (digit1_9 c) q (λ i o. let r = (skips DIGIT).sound s t o in (c ∷ r.0, second (seq (one i) r.1), push c r.2)) (λ i o. empty-handed o))
+    (λ h q. split (digit1_9 c) q (λ i o. let r = (skips DIGIT).sound s t o in (c ∷ r.0, second (seq (one i) r.1), push c r.2)) (λ i o. empty_handed o))
 
 int_complete : (v : List ℕ) → Int v → (t : List ℕ) → starts DIGIT t ≡ false → read_int (v ++ t) ≡ some t
 unfolding read_int

@@ -9,7 +9,7 @@ use Rattle.json_grammar.specs.Json.{Json}
 use Rattle.json_grammar.specs.Grammar.{white, Ws, json}
 use Rattle.json_grammar.specs.JsonText.{JsonText}
 use Rattle.json_grammar.specs.Parser.{skip, read_value, at_end, parse}
-use Rattle.json_grammar.proofs.Basics.{empty-handed, bound, binds, starts, skip_sound, skip_star}
+use Rattle.json_grammar.proofs.Basics.{empty_handed, bound, binds, starts, skip_sound, skip_star}
 use Rattle.json_grammar.proofs.Numbers.{numeric}
 use Rattle.json_grammar.proofs.Scalars.{ws_stops}
 use Rattle.json_grammar.proofs.Values.{value_read}
@@ -18,7 +18,7 @@ use Rattle.json_grammar.proofs.OurTexts.{OurText, text_out, text_in}
 ended : (j k : Json) (t : List ℕ) → at_end j t ≡ some k → (t ≡ []) × (j ≡ k)
 unfolding at_end
 ended j k [] e = (refl, cc)
-ended j k (c ∷ t) e = empty-handed e
+ended j k (c ∷ t) e = empty_handed e
 
 glue_text : (s u k v w t : List ℕ) → s ≡ u ++ k → k ≡ v ++ (w ++ t) → t ≡ [] → u ++ (v ++ w) ≡ s
 glue_text s u k v w t p q r = let o : w ++ t ≡ w = ap (λ (x : List ℕ). w ++ x) r ∙ append-nil w in cc

@@ -13,7 +13,7 @@ use Rattle.json_grammar.specs.Json.{Json, jnull, jtrue, jfalse, jnumber, jstring
 use Rattle.json_grammar.specs.Grammar.{white, Ws, Sign, sign, DIGIT, digit1_9, e_or_E, Number, Quoted, quoted, Scalar, false_text, null_text, true_text, number, string}
 use Rattle.json_grammar.specs.Parser.{Reader, ◌>>=◌, skip, plainly, last_plain, read_chars, read_word, read_number, spaced, read_scalar}
 use Rattle.text.proofs.Tests.{by}
-use Rattle.json_grammar.proofs.Basics.{split, empty-handed, bound, binds, starts, lit, in_range, push, skip_sound, skip_star, skip_stop}
+use Rattle.json_grammar.proofs.Basics.{split, empty_handed, bound, binds, starts, lit, in_range, push, skip_sound, skip_star, skip_stop}
 use Rattle.json_grammar.proofs.Numbers.{pointed, numeric, number_read}
 use Rattle.json_grammar.proofs.Strings.{chars_sound, chars_complete}
 
@@ -62,8 +62,8 @@ spaced_sound {A} R {a} v s t r m e k =
 word_sound : (w s t : List ℕ) → read_word w s ≡ some t → s ≡ w ++ t
 unfolding read_word
 word_sound [] s t e = cc
-word_sound (x ∷ w) [] t e = empty-handed e
-word_sound (x ∷ w) (c ∷ s) t e = split (is x c) e (λ h k. ap (λ (y : ℕ). y ∷ s) (eqb-true c x h) ∙ push x (word_sound w s t k)) (λ h k. empty-handed k)
+word_sound (x ∷ w) [] t e = empty_handed e
+word_sound (x ∷ w) (c ∷ s) t e = split (is x c) e (λ h k. ap (λ (y : ℕ). y ∷ s) (eqb-true c x h) ∙ push x (word_sound w s t k)) (λ h k. empty_handed k)
 
 pub quoted_sound : (c : ℕ) (s : List ℕ) (r : List ℕ × List ℕ) → is 0x22 c ≡ true → read_chars plainly s ≡ some r → (v : List ℕ) × Quoted last_plain v r.0 × (c ∷ s ≡ v ++ r.1)
 quoted_sound c s r h e =
@@ -90,7 +90,7 @@ scalar_number c s l h = rw (ne_eqb c 0x22 (λ z. omega arith), ne_eqb c 0x74 (λ
 
 scalar_sound : (s : List ℕ) (r : Json × List ℕ) → read_scalar s ≡ some r → Cuts (Scalar last_plain) s r
 unfolding read_scalar
-scalar_sound [] r e = empty-handed e
+scalar_sound [] r e = empty_handed e
 scalar_sound (c ∷ s) r e =
     split (is 0x22 c) e (λ h k. let b = bound (read_chars plainly s) (λ x. spaced (jstring x.0) x.1) k in let q = quoted_sound c s b.0 h b.1 in spaced_sound (Scalar last_plain) _ _ _ r (string q.1) q.2 b.2)
     (λ _ e. split (is 0x74 c) e (λ h k. let b = bound (read_word (bytes "rue") s) (spaced jtrue) k in spaced_sound (Scalar last_plain) (bytes "true") _ _ r true_text (lit (λ (x : ℕ). x ∷ s) 0x74 c h (push 0x74 (word_sound (bytes "rue") s b.0 b.1))) b.2)

@@ -19,7 +19,7 @@ use Rattle.text.specs.Steps.{Wrote}
 use Rattle.text.specs.Refusal.{clear}
 use Rattle.text.proofs.Filling.{wrote_long}
 use Rattle.text.proofs.Tests.{by, clash, and_l, and_r, both, and_left, and_right}
-use Rattle.text.proofs.Codec.{never-got, then_got, got_move}
+use Rattle.text.proofs.Codec.{never_got, then_got, got_move}
 use Rattle.text_search.specs.Search.{until}
 use Rattle.text_search.proofs.Searching.{until_fits}
 use Rattle.path.specs.Path.{Key, Elem, Path}
@@ -60,8 +60,8 @@ module _ {A : Type 0} (ok : A → Bool) where
   pass_got (got b u) e =
       by (ok b)
       (λ h. let e' = rw h at e in (e', got_move (λ c q. ok c ≡ true) e' h))
-      (λ h. let e' = rw h at e in never-got refl e')
-  pass_got unread e = never-got refl e
+      (λ h. let e' = rw h at e in never_got refl e')
+  pass_got unread e = never_got refl e
 
   -- a first part that does not pass lets nothing pass
   pub pass_first : {B : Type 0} (fine : B → Bool) (x : Parsed A) (k : A → ℕ → Parsed B) → ((a : A) (p : ℕ) (b : B) (t : ℕ) → k a p ≡ got b t → fine b ≡ true → ok a ≡ true)
@@ -74,7 +74,7 @@ module _ {A : Type 0} (ok : A → Bool) where
       go unread i = refl
       go (got b t) i =
           by (fine b)
-          (λ f. let e' = rw (h a p b t i f) at e in never-got e' refl)
+          (λ f. let e' = rw (h a p b t i f) at e in never_got e' refl)
           (λ f. rw f)
 
   -- a part that passes where the whole does
@@ -322,7 +322,7 @@ name_part : (a b : ℕ) (s : Str) (at : ℕ) (n : Str) (m : ℕ) → name a b s 
 unfolding name if◌then◌else◌
 name_part a b s at n m e =
     by (ltb max_string (up_to a b (drop at s)))
-    (λ u. let e' = rw u at e in never-got refl e')
+    (λ u. let e' = rw u at e in never_got refl e')
     (λ u. let e' = rw u at e in got_move (λ x q. x ≡ part s at q) e' refl)
 
 module _ (s : Str) (at : ℕ) where
@@ -374,7 +374,7 @@ module _ (s : Str) where
       go unread i f = refl
       go (got p t) i f =
           by (all (good elem_refusal) p)
-          (λ g. let f' = rw g at f in never-got f' refl)
+          (λ g. let f' = rw g at f in never_got f' refl)
           (λ g. rw (path_good p (each_few 47 max_elements element s 0 p t i), g) (by (eqb t (length s)) (λ z. rw z) (λ z. rw z)))
 
   pub elements_good : (p : Path) (t : ℕ) → good_elements s 0 ≡ got p t → (each 47 max_elements element s 0 ≡ got p t) × (good_path p ≡ true)

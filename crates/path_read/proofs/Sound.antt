@@ -14,7 +14,7 @@ use Rattle.text.specs.Test.{if◌then◌else◌}
 use Rattle.text.specs.String.{Str, joined}
 use Rattle.text.specs.Frame.{got, Reader, ◌>>=◌, ret, part}
 use Rattle.text.proofs.Tests.{by}
-use Rattle.text.proofs.Codec.{never-got, then_got, got_move, Took, took_both, took_none, took_cons, joined_nil, joined_cons}
+use Rattle.text.proofs.Codec.{never_got, then_got, got_move, Took, took_both, took_none, took_cons, joined_nil, joined_cons}
 use Rattle.text_search.proofs.Searching.{until_fits}
 use Rattle.path.specs.Path.{Key, Elem, Path}
 use Rattle.path_read.specs.Text.{is_mark, escaped, key_text, elem_text}
@@ -38,7 +38,7 @@ module _ (s : Str) (at : ℕ) where
   literal_took b c t h e =
       by (eqb (get_or s at 0) b)
       (λ u. let e' = rw u at e in got_move (λ x q. Took s at (b ∷ []) q) e' (byte_took b h (eqb-true _ _ u)))
-      (λ u. let e' = rw u at e in never-got refl e')
+      (λ u. let e' = rw u at e in never_got refl e')
 
 -- there are no more bytes than the text has
 split : (s : Str) (at u : ℕ) → at ≤ length s → u ≤ length (drop at s) → Took s at (part s at (at + u)) (at + u)
@@ -50,7 +50,7 @@ name_took : (a b : ℕ) (s : Str) (at : ℕ) (n : Str) (t : ℕ) → at ≤ leng
 unfolding name if◌then◌else◌
 name_took a b s at n t h e =
     by (ltb max_string (up_to a b (drop at s)))
-    (λ u. let e' = rw u at e in never-got refl e')
+    (λ u. let e' = rw u at e in never_got refl e')
     (λ u. let e' = rw u at e in got_move (λ x q. Took s at x q) e' (split s at (up_to a b (drop at s)) h (until_fits (is_either a b) (drop at s))))
 
 pub escaped_plain : (b : ℕ) → is_mark b ≡ false → escaped b ≡ b ∷ []
@@ -86,9 +86,9 @@ item_took s at b t n e =
     by (eqb (get_or s at 0) 92)
     (λ v. by (is_mark (get_or s (at + 1) 0))
     (λ w. let e' = rw (u, v, w) at e in got_move (λ x q. Took s at (escaped x) q) e' (pair_took s at (eqb-true _ _ v) w))
-    (λ w. let e' = rw (u, v, w) at e in never-got refl e'))
+    (λ w. let e' = rw (u, v, w) at e in never_got refl e'))
     (λ v. let e' = rw (u, v) at e in got_move (λ x q. Took s at (escaped x) q) e' (rw (escaped_plain (get_or s at 0) (no_mark (get_or s at 0) n v)) (one_took s at h))))
-    (λ u. let e' = rw u at e in never-got refl e')
+    (λ u. let e' = rw u at e in never_got refl e')
 
 -- the next byte of a value stands within the text
 pub item_inside : (s : Str) (at b t : ℕ) → item s at ≡ got b t → (at < t) × (t ≤ length s)
@@ -99,9 +99,9 @@ item_inside s at b t e =
     by (eqb (get_or s at 0) 92)
     (λ v. by (is_mark (get_or s (at + 1) 0))
     (λ w. let e' = rw (u, v, w) at e in got_move (λ x q. (at < q) × (q ≤ length s)) e' (omega arith, omega (arith, mark_inside s (at + 1) w)))
-    (λ w. let e' = rw (u, v, w) at e in never-got refl e'))
+    (λ w. let e' = rw (u, v, w) at e in never_got refl e'))
     (λ v. let e' = rw (u, v) at e in got_move (λ x q. (at < q) × (q ≤ length s)) e' (omega arith, omega arith)))
-    (λ u. let e' = rw u at e in never-got refl e')
+    (λ u. let e' = rw u at e in never_got refl e')
 
 closed : (s : Str) (at : ℕ) → eqb (get_or s at 0) 93 ≡ true → Took s at (joined escaped [] ++ 93 ∷ []) (at + 1)
 closed s at e = rw (joined_nil escaped) (byte_took s at 93 (omega arith) (eqb-true _ _ e))
@@ -111,7 +111,7 @@ unfolding value if◌then◌else◌ ◌>>=◌ ret
 value_took zero s at v t e =
     by (eqb (get_or s at 0) 93)
     (λ u. let e' = rw u at e in got_move (λ x q. Took s at (joined escaped x ++ 93 ∷ []) q) e' (closed s at u))
-    (λ u. let e' = rw u at e in never-got refl e')
+    (λ u. let e' = rw u at e in never_got refl e')
 value_took (suc n) s at v t e =
     by (eqb (get_or s at 0) 93)
     (λ u. let e' = rw u at e in got_move (λ x q. Took s at (joined escaped x ++ 93 ∷ []) q) e' (closed s at u))

@@ -126,8 +126,8 @@ module _ {A : Type 0} (write : A → Str) where
   writing_start d to x h = record { reads = h.reads; stops = refl; pending = fill_start d to _ h.room }
 
   module _ (d : List ℕ) (to : ℕ) (w : Str) (stop : ℕ) (x : Parsed (List A)) (out : List ℕ) (q : ℕ) (s : Writing write d to w stop x out q) where
-    pub writing-never {ℓ} : {X : Type ℓ} → x ≡ unread → X
-    writing-never e = clash s.reads (ap is_read e)
+    pub writing_never {ℓ} : {X : Type ℓ} → x ≡ unread → X
+    writing_never e = clash s.reads (ap is_read e)
 
     pub writing_done : (p : ℕ) → x ≡ got [] p → (p ≡ stop) × Wrote d to w out q
     unfolding joined
@@ -168,13 +168,13 @@ module _ (f : List ℕ) (from : ℕ) (r : End) (h : r ≡ end_of (string f from)
   element_is m g l = record { is = rw ((string_ends f from r h m g).0, byte_got f m l) }
 
   module _ (i : is_read (element f from) ≡ true) where
-    pub element-named {ℓ} : {X : Type ℓ} → r ≡ Unread → X
+    pub element_named {ℓ} : {X : Type ℓ} → r ≡ Unread → X
     unfolding element ◌>>=◌
-    element-named g = clash i (rw (string_misses f from r h g))
+    element_named g = clash i (rw (string_misses f from r h g))
 
-    pub element-counted {ℓ} : {X : Type ℓ} (m : ℕ) → r ≡ At m → length f ≤ m → X
+    pub element_counted {ℓ} : {X : Type ℓ} (m : ℕ) → r ≡ At m → length f ≤ m → X
     unfolding element ◌>>=◌
-    element-counted m g l = clash i (rw ((string_ends f from r h m g).0, byte_unread f m l))
+    element_counted m g l = clash i (rw ((string_ends f from r h m g).0, byte_unread f m l))
 
 keys_read : (n : Str) (x : Parsed (List Key)) → is_read {A = Elem} (and_then x (λ ks t. got (record { name = n; keys = ks }) t)) ≡ true → is_read x ≡ true
 keys_read n (got ks t) h = refl
@@ -233,7 +233,7 @@ module _ (d : List ℕ) (to : ℕ) (w : Str) (stop : ℕ) (f : List ℕ) (p : �
       where
         go : (x : Parsed Elem) → element f p ≡ x → is_read x ≡ true
         go (got a t) e = refl
-        go unread e = writing-never elem_text d to w stop (times left element f p) out q s (times_unread element f p left z e)
+        go unread e = writing_never elem_text d to w stop (times left element f p) out q s (times_unread element f p left z e)
 
     first_is : (a : Elem) × (element f p ≡ got a (end_at (element f p))) × (written elem_text (element f p) ≡ elem_text a)
     first_is = first (element f p) first_read
@@ -264,9 +264,9 @@ path_words (got (a ∷ p) t) h = refl
 path_words unread h = refl
 
 module _ (d f : List ℕ) (pre : Fits path_text (path f 0) d 0) where
-  pub path-counted {ℓ} : {X : Type ℓ} → length f ≤ 0 → X
+  pub path_counted {ℓ} : {X : Type ℓ} → length f ≤ 0 → X
   unfolding path ◌>>=◌
-  path-counted h = let p = pre.reads in clash p (rw (byte_unread f 0 h))
+  path_counted h = let p = pre.reads in clash p (rw (byte_unread f 0 h))
 
   module _ (h : 0 < length f) where
     path_is : path f 0 ≡ times (get_or f 0 0) element f 1

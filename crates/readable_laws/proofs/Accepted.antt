@@ -16,7 +16,7 @@ use Rattle.text.specs.Frame.{got, ◌>>=◌, ret, run, string}
 use Rattle.text.specs.Refusal.{clear}
 use Rattle.text.proofs.Tests.{by, or_false_l, or_false_r}
 use Rattle.text.proofs.Frames.{byte_got, byte_unread}
-use Rattle.text.proofs.Codec.{never-got, then_got, got_move}
+use Rattle.text.proofs.Codec.{never_got, then_got, got_move}
 use Rattle.path.specs.Bytes.{path}
 use Rattle.path.specs.Refusal.{unsized, over_limit, stray_byte, misplaced, key_twice, good_path}
 use Rattle.path_read.proofs.Complete.{sized}
@@ -91,7 +91,7 @@ unfolding run if◌then◌else◌
 run_told f p t q e =
     by (leb 8 (length f - p))
     (λ u. got_move (λ d z. (z ≡ p + 8) × (8 ≤ length f - p)) (rw u at e) (refl, leb-true _ _ u))
-    (λ u. never-got refl (rw u at e))
+    (λ u. never_got refl (rw u at e))
 
 module _ (f : Str) (m : Small f) where
   version_reads : (e : Entry) (t : ℕ) → version_body f 1 ≡ got e t → Fine e → t ≡ length f → Reads (bytes "version S time T") f 1
@@ -161,7 +161,7 @@ module _ (f : Str) (m : Small f) where
       (λ u₁. by (eqb k 2) (λ u. let r = group_reads e (length f) (rw (u₁, u) at h) g refl in (r.text, kind_group_lem shown k f 1 (eqb-true _ _ u) ∙ r.is, r.prints))
       (λ u₂. by (eqb k 3) (λ u. let r = member_reads e (length f) (rw (u₁, u₂, u) at h) g refl in (r.text, kind_member_lem shown k f 1 (eqb-true _ _ u) ∙ r.is, r.prints))
       (λ u₃. by (eqb k 4) (λ u. let r = rule_reads e (length f) (rw (u₁, u₂, u₃, u) at h) g refl in (r.text, kind_rule_lem shown k f 1 (eqb-true _ _ u) ∙ r.is, r.prints))
-      (λ u₄. never-got refl (rw (u₁, u₂, u₃, u₄) at h)))))
+      (λ u₄. never_got refl (rw (u₁, u₂, u₃, u₄) at h)))))
 
   -- after the kind byte
   pub kind_told : (e : Entry) → entry_of f ≡ some e → body (get_or f 0 0) f 1 ≡ got e (length f)
@@ -170,7 +170,7 @@ module _ (f : Str) (m : Small f) where
       let w = whole_some f _ e h in
       by (ltb 0 (length f))
       (λ u. rw (byte_got f 0 (ltb-true _ _ u)) at w)
-      (λ u. never-got refl (rw (byte_unread f 0 (ltb-false _ _ u)) at w))
+      (λ u. never_got refl (rw (byte_unread f 0 (ltb-false _ _ u)) at w))
 
   frame_shows : (e : Entry) → entry_of f ≡ some e → Fine e → (s : Str) × (shown_frame f ≡ some s)
   unfolding shown_frame shown_by whole printed if◌then◌else◌

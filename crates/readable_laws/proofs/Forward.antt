@@ -14,7 +14,7 @@ use Rattle.text.specs.Byte.{is_print}
 use Rattle.text.specs.String.{Str, same}
 use Rattle.text.specs.Frame.{got, Reader, ◌>>=◌, ret, byte, string}
 use Rattle.text.proofs.Tests.{by, clash, and_l, and_r}
-use Rattle.text.proofs.Codec.{never-got, then_got, got_move}
+use Rattle.text.proofs.Codec.{never_got, then_got, got_move}
 use Rattle.path.specs.Path.{Path}
 use Rattle.path.specs.Bytes.{path, counted, path_bytes}
 use Rattle.path.specs.Refusal.{good_path}
@@ -105,7 +105,7 @@ code_told n k a b f at m u i e x y =
     (λ s. by (eqb c.0 k)
     (λ r. got_move (λ d q. (v : Str) × (shown_code n a b f at ≡ got v q) × (all is_print v ≡ true)) (rw (s, r) at c.3)
     (b, second_word n a b f at c.0 c.1 c.2 s (sym (ap (eqb c.0) i) ∙ r), y))
-    (λ r. never-got refl (rw (s, r) at c.3)))
+    (λ r. never_got refl (rw (s, r) at c.3)))
 
 -- a string of a frame that is shown
 abbrev pub Well : Str → Type 0

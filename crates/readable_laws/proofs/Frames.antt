@@ -14,7 +14,7 @@ use Rattle.text.specs.Byte.{is_print}
 use Rattle.text.specs.String.{Str, bytes}
 use Rattle.text.specs.Frame.{Parsed, got, unread, Reader, ◌>>=◌, ret}
 use Rattle.text.proofs.Tests.{by, clash}
-use Rattle.text.proofs.Codec.{never-got, then_got, got_move, Took}
+use Rattle.text.proofs.Codec.{never_got, then_got, got_move, Took}
 use Rattle.table.specs.Frame.{whole}
 use Rattle.readable_parts.specs.Parts.{Parts, part_of, shown_time, shown_plain, shown, packed}
 use Rattle.readable_lines.specs.Form.{parts, form_by, printed, shown_by, shown_frame, kind_by, packed_by, packed_frame}
@@ -75,7 +75,7 @@ module _ (c : ℕ) (l : is_last c ≡ true) where
 
 time_inside : (f : Str) (at : ℕ) (w : Str) (t : ℕ) → shown_time f at ≡ got w t → t ≤ length f
 unfolding shown_time if◌then◌else◌
-time_inside f at w t e = by (eqb (length f - at) 8) (λ u. got_move (λ d q. q ≤ length f) (rw u at e) (omega arith)) (λ u. never-got refl (rw u at e))
+time_inside f at w t e = by (eqb (length f - at) 8) (λ u. got_move (λ d q. q ≤ length f) (rw u at e) (omega arith)) (λ u. never_got refl (rw u at e))
 
 shown_stays : (c : ℕ) (s : Str) (at : ℕ) (b : Str) (t : ℕ) → at ≤ length s → part_of shown c s at ≡ got b t → t ≤ length s
 unfolding shown
@@ -120,7 +120,7 @@ module _ (P : Str → Type 0) (p q : Parts) (each : (c : ℕ) → is_last c ≡ 
         (λ u₁. by (eqb k 2) (λ u. by_form (bytes "group S") (unfold proper ◌and◌ in refl) (λ r s at. kind_group_lem r k s at (eqb-true _ _ u)) s at b t x l e)
         (λ u₂. by (eqb k 3) (λ u. by_form (bytes "member S S") (unfold proper ◌and◌ in refl) (λ r s at. kind_member_lem r k s at (eqb-true _ _ u)) s at b t x l e)
         (λ u₃. by (eqb k 4) (λ u. by_form (bytes "rule A M K S id S origin S P") (unfold proper ◌and◌ in refl) (λ r s at. kind_rule_lem r k s at (eqb-true _ _ u)) s at b t x l e)
-        (λ u₄. never-got (kind_none p k s at (eqb-false _ _ u₁) (eqb-false _ _ u₂) (eqb-false _ _ u₃) (eqb-false _ _ u₄)) e))))
+        (λ u₄. never_got (kind_none p k s at (eqb-false _ _ u₁) (eqb-false _ _ u₂) (eqb-false _ _ u₃) (eqb-false _ _ u₄)) e))))
 
 pub packed_form : (form : Str) → proper form ≡ true → Returns Any (parts packed form) (parts shown form)
 packed_form = form_back Any packed shown (λ c l. packed_each c l Any) (λ c l. packed_last c l Any) shown_stays
@@ -214,7 +214,7 @@ letter k f at w t e =
     (λ u₁. by (eqb k 2) (λ u. is 103 2 (eqb-true _ _ u) (lead 103 _ f at w t (unfold part_of shown shown_plain ret if◌then◌else◌ in refl) (sym (kind_group_lem shown k f at (eqb-true _ _ u)) ∙ e)) (unfold kind_by if◌then◌else◌ in refl))
     (λ u₂. by (eqb k 3) (λ u. is 109 3 (eqb-true _ _ u) (lead 109 _ f at w t (unfold part_of shown shown_plain ret if◌then◌else◌ in refl) (sym (kind_member_lem shown k f at (eqb-true _ _ u)) ∙ e)) (unfold kind_by if◌then◌else◌ in refl))
     (λ u₃. by (eqb k 4) (λ u. is 114 4 (eqb-true _ _ u) (lead 114 _ f at w t (unfold part_of shown shown_plain ret if◌then◌else◌ in refl) (sym (kind_rule_lem shown k f at (eqb-true _ _ u)) ∙ e)) (unfold kind_by if◌then◌else◌ in refl))
-    (λ u₄. never-got (kind_none shown k f at (eqb-false _ _ u₁) (eqb-false _ _ u₂) (eqb-false _ _ u₃) (eqb-false _ _ u₄)) e))))
+    (λ u₄. never_got (kind_none shown k f at (eqb-false _ _ u₁) (eqb-false _ _ u₂) (eqb-false _ _ u₃) (eqb-false _ _ u₄)) e))))
   where
     is : (c n : ℕ) → k ≡ n → get_or w 0 0 ≡ c → kind_by c ≡ n → kind_by (get_or w 0 0) ≡ k
     is c n i j h = ap kind_by j ∙ h ∙ sym i
@@ -225,7 +225,7 @@ pub show_pack : (f s : Str) → Small f → shown_frame f ≡ some s → packed_
 unfolding packed_frame shown_frame shown_by
 show_pack [] s m e =
     let p = printed_some (whole [] (form_by shown 0 [] 1)) s e in
-    never-got (kind_none shown 0 [] 1 (λ z. omega arith) (λ z. omega arith) (λ z. omega arith) (λ z. omega arith)) (whole_some [] (form_by shown 0 [] 1) s p.0)
+    never_got (kind_none shown 0 [] 1 (λ z. omega arith) (λ z. omega arith) (λ z. omega arith) (λ z. omega arith)) (whole_some [] (form_by shown 0 [] 1) s p.0)
 show_pack (k ∷ g) s m e =
     let p = printed_some (whole (k ∷ g) (form_by shown k (k ∷ g) 1)) s e in
     let w = whole_some (k ∷ g) (form_by shown k (k ∷ g) 1) s p.0 in

@@ -13,7 +13,7 @@ use Rattle.text.specs.Test.{if◌then◌else◌}
 use Rattle.text.specs.String.{Str, joined}
 use Rattle.text.specs.Frame.{got, unread, Reader, ◌>>=◌, ret, byte, string}
 use Rattle.text.proofs.Tests.{by}
-use Rattle.text.proofs.Codec.{never-got, then_got, got_move}
+use Rattle.text.proofs.Codec.{never_got, then_got, got_move}
 use Rattle.path_read.specs.Text.{escaped}
 use Rattle.path_read.specs.Calls.{text_for}
 use Rattle.path_read.proofs.Longest.{value_length, text_bound}
@@ -44,21 +44,21 @@ string_short f at w t e =
     let a = then_got (string f at) _ e in
     by (leb (length a.0) max_string)
     (λ u. got_move (λ z q. length z ≤ max_quoted) (rw u at a.3) (omega (arith, leb-true (length a.0) max_string u, length-append (joined escaped a.0) (93 ∷ []), value_length a.0)))
-    (λ u. never-got refl (rw u at a.3))
+    (λ u. never_got refl (rw u at a.3))
 
 time_short : Short 16 shown_time
 unfolding shown_time if◌then◌else◌
 time_short f at w t e =
     by (eqb (length f - at) 8)
     (λ u. got_move (λ z q. length z ≤ 16) (rw u at e) (omega (arith, eqb-true (length f - at) 8 u, hex_length (drop at f), length-drop at f)))
-    (λ u. never-got refl (rw u at e))
+    (λ u. never_got refl (rw u at e))
 
 path_short : Short max_path_text shown_path
 unfolding shown_path of_rest if◌then◌else◌
-path_short f at w t e = by (ltb at (length f)) (λ u. go (text_for (drop at f)) refl (rw u at e)) (λ u. never-got refl (rw u at e))
+path_short f at w t e = by (ltb at (length f)) (λ u. go (text_for (drop at f)) refl (rw u at e)) (λ u. never_got refl (rw u at e))
   where
     go : (o : Option Str) → text_for (drop at f) ≡ o → rest o (length f) ≡ got w t → length w ≤ max_path_text
-    go none i k = let k' : unread ≡ got w t = (unfold rest in k) in never-got refl k'
+    go none i k = let k' : unread ≡ got w t = (unfold rest in k) in never_got refl k'
     go (some s) i k = let k' : got s (length f) ≡ got w t = (unfold rest in k) in got_move (λ z q. length z ≤ max_path_text) k' (text_bound (drop at f) s i)
 
 code_short : (n : ℕ) (a b : Str) → length a ≤ 6 → length b ≤ 6 → Short 6 (shown_code n a b)
@@ -66,7 +66,7 @@ unfolding shown_code ◌>>=◌ ret if◌then◌else◌ unknown
 code_short n a b x y f at w t e =
     let c = then_got (byte f at) _ e in
     by (eqb c.0 n) (λ u. got_move (λ z q. length z ≤ 6) (rw u at c.3) x)
-    (λ u. by (eqb c.0 (n + 1)) (λ v. got_move (λ z q. length z ≤ 6) (rw (u, v) at c.3) y) (λ v. never-got refl (rw (u, v) at c.3)))
+    (λ u. by (eqb c.0 (n + 1)) (λ v. got_move (λ z q. length z ≤ 6) (rw (u, v) at c.3) y) (λ v. never_got refl (rw (u, v) at c.3)))
 
 plain_short : (c : ℕ) → Short 1 (shown_plain c)
 unfolding shown_plain ret

@@ -17,7 +17,7 @@ use Rattle.text.specs.Frame.{got, unread, ◌>>=◌, ret, byte, run, string, str
 use Rattle.text.specs.Refusal.{clear}
 use Rattle.text.proofs.Tests.{by, clash, or_false_l, or_false_r}
 use Rattle.path.specs.Refusal.{unsized, over_limit}
-use Rattle.text.proofs.Codec.{never-got, then_got, got_move, byte_took, string_took}
+use Rattle.text.proofs.Codec.{never_got, then_got, got_move, byte_took, string_took}
 use Rattle.path_read.specs.Text.{escaped}
 use Rattle.path_read.specs.Calls.{text_for}
 use Rattle.path_read.proofs.Longest.{value_length, text_twice}
@@ -68,7 +68,7 @@ string_longer f at w t e =
     let l : length f - at ≡ length a.0 + 1 + (length f - a.1) = sym (length-drop at f) ∙ ap length k.same ∙ length-append (string_bytes a.0) (drop a.1 f) ∙ omega (arith, length-drop a.1 f) in
     by (leb (length a.0) max_string)
     (λ u. got_move (λ z q. Longer 0 z at q) (rw u at a.3) (omega (arith, l, k.fits, length-append (joined escaped a.0) (93 ∷ []), value_length a.0)))
-    (λ u. never-got refl (rw u at a.3))
+    (λ u. never_got refl (rw u at a.3))
 
 time_longer : (f : Str) (at : ℕ) (w : Str) (t : ℕ) → shown_time f at ≡ got w t → Longer 0 w at t
 unfolding shown_time if◌then◌else◌
@@ -76,15 +76,15 @@ time_longer f at w t e =
     by (eqb (length f - at) 8)
     (λ u. let h : length f - at ≡ 8 = eqb-true _ _ u in
     got_move (λ z q. Longer 0 z at q) (rw u at e) (omega (arith, hex_length (drop at f), length-drop at f)))
-    (λ u. never-got refl (rw u at e))
+    (λ u. never_got refl (rw u at e))
 
 path_longer : (f : Str) (at : ℕ) (w : Str) (t : ℕ) → shown_path f at ≡ got w t → Longer 0 w at t
 unfolding shown_path of_rest if◌then◌else◌
 path_longer f at w t e =
-    by (ltb at (length f)) (λ u. go (text_for (drop at f)) refl (rw u at e) (ltb-true _ _ u)) (λ u. never-got refl (rw u at e))
+    by (ltb at (length f)) (λ u. go (text_for (drop at f)) refl (rw u at e) (ltb-true _ _ u)) (λ u. never_got refl (rw u at e))
   where
     go : (o : Option Str) → text_for (drop at f) ≡ o → rest o (length f) ≡ got w t → at < length f → Longer 0 w at t
-    go none i k h = let k' : unread ≡ got w t = (unfold rest in k) in never-got refl k'
+    go none i k h = let k' : unread ≡ got w t = (unfold rest in k) in never_got refl k'
     go (some s) i k h = let k' : got s (length f) ≡ got w t = (unfold rest in k) in got_move (λ z q. Longer 0 z at q) k' (omega (arith, text_twice (drop at f) s i, length-drop at f))
 
 code_longer : (n m : ℕ) (a b f : Str) (at : ℕ) (w : Str) (t : ℕ) → length a ≤ m + 2 → length b ≤ m + 2 → shown_code n a b f at ≡ got w t → Longer m w at t
@@ -97,7 +97,7 @@ code_longer n m a b f at w t x y e =
     (λ u. got_move (λ z q. Longer m z at q) (rw u at c.3) (omega (arith, l, k.fits)))
     (λ u. by (eqb c.0 (n + 1))
     (λ v. got_move (λ z q. Longer m z at q) (rw (u, v) at c.3) (omega (arith, l, k.fits)))
-    (λ v. never-got refl (rw (u, v) at c.3)))
+    (λ v. never_got refl (rw (u, v) at c.3)))
 
 part_longer : (c : ℕ) (f : Str) (at : ℕ) (w : Str) (t : ℕ) → part_of shown c f at ≡ got w t → Longer (extra c) w at t
 unfolding part_of extra shown if◌then◌else◌
@@ -169,7 +169,7 @@ module _ (f : Str) (e : Entry) (w : Str) where
       (λ u₁. by (eqb k 2) (λ u. group_longer (rw (u₁, u) at h) (rw (u₁, u) at g))
       (λ u₂. by (eqb k 3) (λ u. member_longer (rw (u₁, u₂, u) at h) (rw (u₁, u₂, u) at g))
       (λ u₃. by (eqb k 4) (λ u. rule_longer (rw (u₁, u₂, u₃, u) at h) (rw (u₁, u₂, u₃, u) at g))
-      (λ u₄. never-got refl (rw (u₁, u₂, u₃, u₄) at h)))))
+      (λ u₄. never_got refl (rw (u₁, u₂, u₃, u₄) at h)))))
 
 line_longer : (l f r : Str) (e : Entry) → frame l ≡ some f → entry_of f ≡ some e → shown_line l ≡ some r → length r ≤ length l + slack e
 unfolding shown_line shown_line_by shown_frame shown_by

@@ -14,7 +14,7 @@ use Rattle.text.specs.Test.{◌and◌, if◌then◌else◌}
 use Rattle.text.specs.String.{Str, same, joined}
 use Rattle.text.specs.Frame.{got, unread, ◌>>=◌, ret, byte, part, string, string_bytes}
 use Rattle.text.proofs.Tests.{by, and_l, and_r, same→≡, ≡→same}
-use Rattle.text.proofs.Codec.{never-got, then_got, got_move, Took, took_both, took_none, byte_took, string_took, Gives, then_gives, first_byte, byte_gives, string_gives}
+use Rattle.text.proofs.Codec.{never_got, then_got, got_move, Took, took_both, took_none, byte_took, string_took, Gives, then_gives, first_byte, byte_gives, string_gives}
 use Rattle.path_read.specs.Text.{escaped}
 use Rattle.path_read.specs.TextReader.{literal, item, value, read_text}
 use Rattle.path.specs.Bytes.{path}
@@ -34,7 +34,7 @@ unfolding value if◌then◌else◌ ◌>>=◌ ret
 value_few zero s at v t e =
     by (eqb (get_or s at 0) 93)
     (λ u. got_move (λ x q. length x ≤ 0) (rw u at e) (omega arith))
-    (λ u. never-got refl (rw u at e))
+    (λ u. never_got refl (rw u at e))
 value_few (suc n) s at v t e =
     by (eqb (get_or s at 0) 93)
     (λ u. got_move (λ x q. length x ≤ suc n) (rw u at e) (omega arith))
@@ -74,7 +74,7 @@ module _ (P : Str → Type 0) where
       by (leb (length a.0) max_string)
       (λ u. got_move (λ d z. (b : Str) × Took f at b z × ((s : Str) (k : ℕ) (more : Str) → drop k s ≡ d ++ more → Gives (packed_string s k) s b more)) (rw u at a.3)
       (string_bytes a.0, string_took f at a.0 a.1 a.2, packed_gives a.0 (leb-true _ _ u)))
-      (λ u. never-got refl (rw u at a.3))
+      (λ u. never_got refl (rw u at a.3))
 
 -- ---- words
 
@@ -114,7 +114,7 @@ module _ (P : Str → Type 0) (n x y : ℕ) (xs ys : Str) (d : x ≡ y → ⊥) 
       (λ u. by (stands_at (y ∷ ys) s at)
       (λ v. got_move (λ c q. (w : Str) × Took s at w q × ((f : Str) (k : ℕ) (more : Str) → drop k f ≡ c ++ more → Gives (shown_code n (x ∷ xs) (y ∷ ys) f k) f w more)) (rw (u, v) at e)
       (y ∷ ys, stands_took (y ∷ ys) s at v, λ f k more i. second f k more i))
-      (λ v. never-got refl (rw (u, v) at e)))
+      (λ v. never_got refl (rw (u, v) at e)))
     where
       first : (f : Str) (k : ℕ) (more : Str) → drop k f ≡ n ∷ more → Gives (shown_code n (x ∷ xs) (y ∷ ys) f k) f (x ∷ xs) more
       first f k more i = unfold shown_code ◌>>=◌ ret in then_gives (byte f k) _ f n _ more more (byte_gives f k n more i) (λ p j. (p, rw (eq-eqb n n refl), j))
@@ -149,7 +149,7 @@ module _ (P : Str → Type 0) (n x y : ℕ) (xs ys : Str) (d : x ≡ y → ⊥) 
       (λ u. by (eqb a.0 (n + 1))
       (λ v. got_move (λ c q. (b : Str) × Took f at b q × ((s : Str) (k : ℕ) (more : Str) → drop k s ≡ c ++ more → Gives (packed_code n (x ∷ xs) (y ∷ ys) s k) s b more)) (rw (u, v) at a.3)
       (a.0 ∷ [], byte_took f at a.0 a.1 a.2, λ s k more i. let g = gives_second s k more i in (g.0, g.1 ∙ ap (λ (c : ℕ). got (c ∷ []) g.0) (sym (eqb-true a.0 (n + 1) v)), g.2)))
-      (λ v. never-got refl (rw (u, v) at a.3)))
+      (λ v. never_got refl (rw (u, v) at a.3)))
 
 -- ---- bytes that stand for themselves
 
@@ -161,8 +161,8 @@ module _ (P : Str → Type 0) (c : ℕ) where
       (λ u. by (eqb (get_or s at 0) c)
       (λ v. got_move (λ d q. (w : Str) × Took s at w q × ((f : Str) (k : ℕ) (more : Str) → drop k f ≡ d ++ more → Gives (got (c ∷ []) k) f w more)) (rw (u, v) at e)
       (c ∷ [], rw (sym (eqb-true (get_or s at 0) c v)) (one_took s at (ltb-true _ _ u)), λ f k more i. (k, refl, i)))
-      (λ v. never-got refl (rw (u, v) at e)))
-      (λ u. never-got refl (rw u at e))
+      (λ v. never_got refl (rw (u, v) at e)))
+      (λ u. never_got refl (rw u at e))
 
   plain_gives : (s : Str) (k : ℕ) (more : Str) → drop k s ≡ c ∷ more → Gives (packed_plain c s k) s [] more
   unfolding packed_plain ◌and◌ if◌then◌else◌
@@ -191,7 +191,7 @@ module _ (f g : Str → Option Str) (inverse : (s b : Str) → f s ≡ some b �
   rest_back : (s : Str) (at : ℕ) (o : Option Str) (b : Str) (t : ℕ) → f (drop at s) ≡ o → rest o (length s) ≡ got b t → ((b : Str) → g b ≡ some (drop at s) → 0 < length b)
       → (w : Str) × Took s at w t × ((z : Str) (k : ℕ) → drop k z ≡ b → Gives (if ltb k (length z) then rest (g (drop k z)) (length z) else unread) z w [])
   unfolding rest
-  rest_back s at none b t e h n = never-got refl h
+  rest_back s at none b t e h n = never_got refl h
   rest_back s at (some c) b t e h n =
       got_move (λ d q. (w : Str) × Took s at w q × ((z : Str) (k : ℕ) → drop k z ≡ d → Gives (if ltb k (length z) then rest (g (drop k z)) (length z) else unread) z w [])) h
       (drop at s, all_took s at, λ z k i. rest_gives (drop at s) c (inverse (drop at s) c e) z k i (n c (inverse (drop at s) c e)))
@@ -212,11 +212,11 @@ module _ (P : Str → Type 0) where
   path_packed s at b t z l e =
       by (ltb at (length s))
       (λ u. rest_back bytes_for text_for read_write s at (bytes_for (drop at s)) b t refl (rw u at e) (λ c i. some_long text_for no_text c (drop at s) i))
-      (λ u. never-got refl (rw u at e))
+      (λ u. never_got refl (rw u at e))
 
   pub path_shown : BackLast P shown_path packed_path
   unfolding packed_path shown_path of_rest if◌then◌else◌
   path_shown s at b t z l e =
       by (ltb at (length s))
       (λ u. rest_back text_for bytes_for write_read s at (text_for (drop at s)) b t refl (rw u at e) (λ c i. some_long bytes_for no_bytes c (drop at s) i))
-      (λ u. never-got refl (rw u at e))
+      (λ u. never_got refl (rw u at e))

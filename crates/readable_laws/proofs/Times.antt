@@ -13,7 +13,7 @@ use Rattle.text.specs.Test.{if◌then◌else◌}
 use Rattle.text.specs.String.{Str, joined}
 use Rattle.text.specs.Frame.{got}
 use Rattle.text.proofs.Tests.{by}
-use Rattle.text.proofs.Codec.{never-got, got_move, Took, Gives}
+use Rattle.text.proofs.Codec.{never_got, got_move, Took, Gives}
 use Rattle.table_line.specs.Lines.{lines, onto, frame}
 use Rattle.readable_parts.specs.Parts.{rest, alone, hex_digit, hex_pair, hex_text, shown_time, packed_time}
 use Rattle.readable_parts.proofs.Digits.{hex_length}
@@ -68,7 +68,7 @@ alone_text x f e =
 
 rest_some : (o : Option Str) (t : ℕ) (b : Str) (u : ℕ) → rest o t ≡ got b u → (o ≡ some b) × (t ≡ u)
 unfolding rest
-rest_some none t b u e = never-got refl e
+rest_some none t b u e = never_got refl e
 rest_some (some c) t b u e = let i : c ≡ b = cc in let j : t ≡ u = cc in (ap some i, j)
 
 pub small_drop : (k : ℕ) (s : Str) → Small s → Small (drop k s)
@@ -102,7 +102,7 @@ module _ (P : Str → Type 0) where
       let x : drop at s ≡ hex_text b = alone_text (drop at s) b r.0 in
       let n : length b ≡ 8 = (let y = hex_length b in let v = length-drop at s in let w = ap length x in let q = eqb-true (length s - at) 16 u in omega arith) in
       (hex_text b, rw (r.1, x) at (all_took s at), λ f k i. shown_time_lem f k b n i))
-      (λ u. never-got refl (rw u at e))
+      (λ u. never_got refl (rw u at e))
 
 pub time_shown : BackLast Small shown_time packed_time
 unfolding shown_time if◌then◌else◌
@@ -110,4 +110,4 @@ time_shown f at w t z l e =
     by (eqb (length f - at) 8)
     (λ u. got_move (λ d q. (b : Str) × Took f at b q × ((s : Str) (k : ℕ) → drop k s ≡ d → Gives (packed_time s k) s b [])) (rw u at e)
     (drop at f, all_took f at, λ s k i. packed_time_lem s k (drop at f) (small_drop at f z) (length-drop at f ∙ eqb-true _ _ u) i))
-    (λ u. never-got refl (rw u at e))
+    (λ u. never_got refl (rw u at e))

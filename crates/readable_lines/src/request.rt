@@ -6,8 +6,8 @@ ghost use Rattle.readable_lines.specs.Request.{shown_request, packed_request};
 ghost use Rattle.readable_lines.specs.Steps.{max_made_frame, Fills};
 
 use crate::form;
-use request_log::Heading;
 use path_read::reader::Stored;
+use request_log::Heading;
 
 // Whether the frame holds a good request.
 fn is_good(f: &[u8]) -> bool

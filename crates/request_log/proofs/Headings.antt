@@ -13,7 +13,7 @@ use Rattle.text.specs.String.{Str}
 use Rattle.text.specs.Refusal.{◌when◌else◌, clear}
 use Rattle.text.specs.Frame.{Parsed, got, unread, and_then, ◌>>=◌, ret, byte, part, string}
 use Rattle.text.proofs.Frames.{byte_got, byte_unread}
-use Rattle.text.proofs.Codec.{never-got, then_got, got_move}
+use Rattle.text.proofs.Codec.{never_got, then_got, got_move}
 use Rattle.text.proofs.Tests.{by, clash, and_l, and_r, and_false}
 use Rattle.path.specs.Path.{Path}
 use Rattle.path.specs.Bytes.{path}
@@ -115,7 +115,7 @@ module _ (f : List ℕ) where
 
   pub heading_at : (h : Head) (t : ℕ) → heading f 0 ≡ got h t → HeadAt f (head_refusal h) (2 + length h.user) t
   heading_at h t e =
-      by (ltb 0 (length f)) (λ u. from_heading (ltb-true _ _ u) h t e) (λ u. never-got (no_mode f (omega (arith, ltb-false 0 (length f) u))) e)
+      by (ltb 0 (length f)) (λ u. from_heading (ltb-true _ _ u) h t e) (λ u. never_got (no_mode f (omega (arith, ltb-false 0 (length f) u))) e)
 
   told : (x : Parsed Head) → heading f 0 ≡ x → (n o p : ℕ) → At n o p ≡ headed x → HeadAt f n o p
   unfolding headed

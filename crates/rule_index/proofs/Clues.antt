@@ -44,7 +44,7 @@ value_key [] m = absurd (Memᴰ.not-nil m)
 value_key (k ∷ ks) (Memᴰ.head p) = (k, Memᴰ.head refl, p)
 value_key (k ∷ ks) (Memᴰ.tail m) = let r = value_key ks m in (r.0, Memᴰ.tail r.1, r.2)
 
-key_value : {ks : List Key} {k : Key} → k ∈ ks → k.value ∈ values_of ks
+key_value : {k : Key} {ks : List Key} → k ∈ ks → k.value ∈ values_of ks
 unfolding values_of
 key_value (Memᴰ.head p) = Memᴰ.head (λ i. (p i).value)
 key_value (Memᴰ.tail m) = Memᴰ.tail (key_value m)

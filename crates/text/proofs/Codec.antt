@@ -5,13 +5,13 @@ use Rattle.text.specs.Frame.{Parsed, got, unread, and_then, Reader, ◌>>=◌, r
 use Rattle.text.proofs.Tests.{by}
 use Rattle.text.proofs.Frames.{byte_got, byte_unread, string_got, string_none, string_unread}
 
-pub never-got {ℓ} : {X : Type ℓ} {A : Type 0} {o : Parsed A} {a : A} {t : ℕ} → o ≡ unread → o ≡ got a t → X
-never-got p q = let z : ◌≡◌ {A = ℕ} 0 1 = cc in absurd (omega arith)
+pub never_got {ℓ} : {X : Type ℓ} {A : Type 0} {o : Parsed A} {a : A} {t : ℕ} → o ≡ unread → o ≡ got a t → X
+never_got p q = let z : ◌≡◌ {A = ℕ} 0 1 = cc in absurd (omega arith)
 
 -- the first of two readings, where both read
 pub then_got : {A B : Type 0} (x : Parsed A) (k : A → ℕ → Parsed B) {b : B} {t : ℕ} → and_then x k ≡ got b t → (a : A) × (p : ℕ) × (x ≡ got a p) × (k a p ≡ got b t)
 then_got (got a p) k e = (a, p, refl, e)
-then_got unread k e = never-got refl e
+then_got unread k e = never_got refl e
 
 -- a fact about what was read goes along with it
 pub got_move : {A : Type 0} (P : A → ℕ → Type 0) {a b : A} {s t : ℕ} → got a s ≡ got b t → P a s → P b t
@@ -39,7 +39,7 @@ byte_took f at n t e =
     (λ u. let h : at < length f = ltb-true _ _ u in
     got_move (λ m q. Took f at (m ∷ []) q) (sym (byte_got f at h) ∙ e)
     (record { same = rw add-one (drop-cons f at 0 h); fits = omega arith }))
-    (λ u. never-got (byte_unread f at (ltb-false _ _ u)) e)
+    (λ u. never_got (byte_unread f at (ltb-false _ _ u)) e)
 
 module _ (f : List ℕ) (at n : ℕ) (h : at < length f) (m : n ≤ length f - (at + 1)) (e : drop at f ≡ n ∷ drop (at + 1) f) where
   found : Took f at (string_bytes (part f (at + 1) (at + 1 + n))) (at + 1 + n)
@@ -57,8 +57,8 @@ string_took f at s t e =
     (λ v. let m : get_or f at 0 ≤ length f - (at + 1) = leb-true _ _ v in
     got_move (λ z q. Took f at (string_bytes z) q) (sym (string_got f at h m) ∙ e)
     (found f at (get_or f at 0) h m (rw add-one (drop-cons f at 0 h))))
-    (λ v. never-got (string_unread f at h (leb-false _ _ v)) e))
-    (λ u. never-got (string_none f at (ltb-false _ _ u)) e)
+    (λ v. never_got (string_unread f at h (leb-false _ _ v)) e))
+    (λ u. never_got (string_none f at (ltb-false _ _ u)) e)
 
 times_zero : {A : Type 0} (r : Reader A) (f : List ℕ) (at : ℕ) → times 0 r f at ≡ got [] at
 unfolding times ret

@@ -48,10 +48,10 @@ word_inj true false e = cc
 word_inj false true e = cc
 word_inj false false e = refl
 
-word-mixed {ℓ} : {X : Type ℓ} (b : Bool) (n : Numbered) → word b ≡ MIXED n → X
+word_mixed {ℓ} : {X : Type ℓ} (b : Bool) (n : Numbered) → word b ≡ MIXED n → X
 unfolding word
-word-mixed true n e = let z : ◌≡◌ {A = ℕ} 0 1 = cc in absurd (omega arith)
-word-mixed false n e = let z : ◌≡◌ {A = ℕ} 0 1 = cc in absurd (omega arith)
+word_mixed true n e = let z : ◌≡◌ {A = ℕ} 0 1 = cc in absurd (omega arith)
+word_mixed false n e = let z : ◌≡◌ {A = ℕ} 0 1 = cc in absurd (omega arith)
 
 module _ (t : Table) (q : Request) (ok : Orderly t) (kq : key_twice q.path ≡ false) where
   -- a rule that matches a path matches every path beneath it
@@ -120,7 +120,7 @@ module _ (t : Table) (q : Request) (ok : Orderly t) (rb : (r : Rule) → r ∈ t
     where
       to : (o : Option Numbered) → Chosen earlier (opposes t q) t.rules o → answer (permits t q) o ≡ word b → Everywhere t q b
       to none k h d x c i = uniform t q ok kq k d x c i ∙ word_inj _ _ h
-      to (some n) w h d x c i = word-mixed b n (sym h)
+      to (some n) w h d x c i = word_mixed b n (sym h)
 
       from : Everywhere t q b → (o : Option Numbered) → Chosen earlier (opposes t q) t.rules o → answer (permits t q) o ≡ word b
       from e none k = ap word (e q.path qb (covers_refl q.path) kq)

@@ -77,11 +77,11 @@ verdict_unique t q ok o h = go (decider t q) (verdict t q) o h
 
 -- ---- the tree verdict
 
-mixed-all {ℓ} : {X : Type ℓ} {n : Numbered} → MIXED n ≡ ALL → X
-mixed-all e = let z : ◌≡◌ {A = ℕ} 0 1 = cc in absurd (omega arith)
+mixed_all {ℓ} : {X : Type ℓ} {n : Numbered} → MIXED n ≡ ALL → X
+mixed_all e = let z : ◌≡◌ {A = ℕ} 0 1 = cc in absurd (omega arith)
 
-mixed-none {ℓ} : {X : Type ℓ} {n : Numbered} → MIXED n ≡ NONE → X
-mixed-none e = let z : ◌≡◌ {A = ℕ} 0 1 = cc in absurd (omega arith)
+mixed_none {ℓ} : {X : Type ℓ} {n : Numbered} → MIXED n ≡ NONE → X
+mixed_none e = let z : ◌≡◌ {A = ℕ} 0 1 = cc in absurd (omega arith)
 
 -- an orderly table and a request, whose paths are of bytes and have no key twice in an element
 module _ (t : Table) (q : Request) (ok : Orderly t) (rb : (r : Rule) → r ∈ t.rules → of_bytes r.path ≡ true)
@@ -106,8 +106,8 @@ module _ (t : Table) (q : Request) (ok : Orderly t) (rb : (r : Rule) → r ∈ t
   tree_unique ALL h = tree_verdict_lem.every.1 (h.every.0 refl)
   tree_unique NONE h = tree_verdict_lem.never.1 (h.never.0 refl)
   tree_unique (MIXED m) h =
-      let x : ¬ Everywhere t q true = λ e. mixed-all (h.every.1 e) in
-      let y : ¬ Everywhere t q false = λ e. mixed-none (h.never.1 e) in
+      let x : ¬ Everywhere t q true = λ e. mixed_all (h.every.1 e) in
+      let y : ¬ Everywhere t q false = λ e. mixed_none (h.never.1 e) in
       let a = tree_verdict_lem.mixed x y in
       let b = h.mixed x y in
       a.1 ∙ ap MIXED (best_unique earlier_order (opposes t q) t ok a.0 b.0 a.2 b.2) ∙ sym b.1

@@ -45,6 +45,7 @@ module _ {A : Type 0} where
     module _ (turned : (x y : A) → alike x y ≡ true → alike y x ≡ true) where
       -- two members that are alike are one
       pub twice→ : (xs : List A) {x y : A} → twice alike xs ≡ false → x ∈ xs → y ∈ xs → alike x y ≡ true → x ≡ y
+      twice→ [] {x = x} {y = y} d m _ e = elim m [ ]
       twice→ (z ∷ zs) d (Memᴰ.head p) (Memᴰ.head q) e = p ∙ sym q
       twice→ (z ∷ zs) {x} {y} d (Memᴰ.head p) (Memᴰ.tail n) e = clash (ap (λ (w : A). alike w y) (sym p) ∙ e) (first_alone z zs d n)
       twice→ (z ∷ zs) {x} {y} d (Memᴰ.tail m) (Memᴰ.head q) e = clash (ap (λ (w : A). alike w x) (sym q) ∙ turned x y e) (first_alone z zs d m)

@@ -1,6 +1,7 @@
 -- `take_group` equals its definition.
 use native.Mathlib.Omega.{arith}
 use mathlib.Core.Path.{refl, sym, ◌∙◌}
+use Prim.Native.Nat.{◌<◌}
 use Rattle.limits.specs.Limits.{max_groups}
 use Rattle.text.specs.Refusal.{clear}
 use Rattle.text.proofs.Frames.{string_ends}
@@ -34,7 +35,7 @@ slice_bounds-name-count c =
     (string_ends _ _ _ c.string_end-e.ensures _ c.in-At.is).1
 
 pub slice_bounds-name-start : goal.slice_bounds-name-start
-slice_bounds-name-start c = sub_name c
+slice_bounds-name-start c = (string_ends _ _ _ c.string_end-e.ensures _ c.in-At.is).1
 
 pub slice_bounds-name-end : goal.slice_bounds-name-end
 slice_bounds-name-end c =
@@ -51,7 +52,7 @@ returns-then-number c =
     }
 
 pub overflow_add-from : goal.overflow_add-from
-overflow_add-from c = omega (arith, (c).requires.room)
+overflow_add-from c = omega (arith, c.requires.room)
 
 pub overflow_add-to : goal.overflow_add-to
 overflow_add-to c =
@@ -60,23 +61,23 @@ overflow_add-to c =
 pub insert-requires : goal.insert-requires
 insert-requires c =
     let h = string_ends _ _ _ c.string_end-e.ensures _ c.in-At.is in
-    let l = (below clear max_groups (c).args.n _ _ _ _ _ _ c.is_unsized.ensures c.number-number.ensures c.if-number.false) in
+    let l = (let it : c.args.n < max_groups = below clear max_groups c.args.n _ _ _ _ _ _ c.is_unsized.ensures c.number-number.ensures c.if-number.false in it) in
     (c.find-s.ensures.placed.fits, omega arith, omega (arith, h.1, h.2, c.requires.room), omega (arith, h.1, h.2, c.requires.room))
 
 pub overflow_add-starts : goal.overflow_add-starts
-overflow_add-starts c = omega (arith, (c).requires.room)
+overflow_add-starts c = omega (arith, c.requires.room)
 
 pub overflow_cast-starts : goal.overflow_cast-starts
-overflow_cast-starts c = omega (arith, (c).requires.room)
+overflow_cast-starts c = omega (arith, c.requires.room)
 
 pub offset_bounds-starts-n : goal.offset_bounds-starts-n
-offset_bounds-starts-n c = let h = (below clear max_groups (c).args.n _ _ _ _ _ _ c.is_unsized.ensures c.number-number.ensures c.if-number.false) in omega arith
+offset_bounds-starts-n c = let h = (let it : c.args.n < max_groups = below clear max_groups c.args.n _ _ _ _ _ _ c.is_unsized.ensures c.number-number.ensures c.if-number.false in it) in omega arith
 
 pub bounds-starts-n : goal.bounds-starts-n
-bounds-starts-n c = (below clear max_groups (c).args.n _ _ _ _ _ _ c.is_unsized.ensures c.number-number.ensures c.if-number.false)
+bounds-starts-n c = (let it : c.args.n < max_groups = below clear max_groups c.args.n _ _ _ _ _ _ c.is_unsized.ensures c.number-number.ensures c.if-number.false in it)
 
 pub overflow_cast-hints : goal.overflow_cast-hints
-overflow_cast-hints c = let h = (below clear max_groups (c).args.n _ _ _ _ _ _ c.is_unsized.ensures c.number-number.ensures c.if-number.false) in omega arith
+overflow_cast-hints c = let h = (let it : c.args.n < max_groups = below clear max_groups c.args.n _ _ _ _ _ _ c.is_unsized.ensures c.number-number.ensures c.if-number.false in it) in omega arith
 
 pub returns : goal.returns
 returns c =
@@ -89,7 +90,7 @@ returns c =
       group_kept = λ x. group_kept _ c.requires.kind _ c.string_end-e.ensures
           (record { kind = c.args.last; groups = []; members = []; rules = [] }) _ refl _ c.in-At.is
           c.if-end-f.false _ c.is_out_of_order.ensures _ _ _
-          (few at-if3) c.requires.room c.args.names.now
+          ((let it : c.args.n < max_groups = below clear max_groups c.args.n _ _ _ _ _ _ c.is_unsized.ensures c.number-number.ensures c.if-number.false in it)) c.requires.room c.args.names.now
           (omega arith) c.requires.named _ _ _ _ c.number-number.ensures c.if-number.false
           c.find-s.ensures _ c.insert.ensures;
     }

@@ -2,7 +2,7 @@
 use native.Mathlib.Omega.{arith}
 use mathlib.Core.Path.{sym, ◌∙◌}
 use Rattle.text.proofs.Frames.{string_ends}
-use Rattle.table_keep.proofs.Members.{member_short, member_half, member_long, member_four, number_told, member_graded, member_room, set_room, member_kept}
+use Rattle.table_keep.proofs.Members.{member_short, member_half, member_long, Read, member_four, number_told, Judged, member_graded, member_room, set_room, member_kept}
 use Rattle.table_keep.proofs.take_member.Goals as goal
 
 pub returns-in_default : goal.returns-in_default
@@ -30,7 +30,7 @@ returns-then-end-f c =
 pub returns-then-is_out_of_order : goal.returns-then-is_out_of_order
 returns-then-is_out_of_order c =
     record {
-      value = λ b w g m. member_four ((record {
+      value = λ b w g m. member_four ((let it : Read = record {
         old = c.args.old.now;
         f = c.args.f.now;
         starts = c.args.groups.now;
@@ -46,12 +46,12 @@ returns-then-is_out_of_order c =
         group = string_ends _ _ _ c.string_end-a.ensures _ c.in-At.is;
         user = string_ends _ _ _ c.string_end-z.ensures _ c.in-At-z.is;
         whole = c.if-end-f.false;
-      })) (sym c.is_out_of_order.ensures ∙ c.if-is_out_of_order.true) b w;
+      } in it)) (sym c.is_out_of_order.ensures ∙ c.if-is_out_of_order.true) b w;
       member_kept = λ x. absurd (omega arith);
     }
 
 pub overflow_add-from : goal.overflow_add-from
-overflow_add-from c = let h = ((record {
+overflow_add-from c = let h = ((let it : Read = record {
   old = c.args.old.now;
   f = c.args.f.now;
   starts = c.args.groups.now;
@@ -67,10 +67,10 @@ overflow_add-from c = let h = ((record {
   group = string_ends _ _ _ c.string_end-a.ensures _ c.in-At.is;
   user = string_ends _ _ _ c.string_end-z.ensures _ c.in-At-z.is;
   whole = c.if-end-f.false;
-})).user in omega (arith, h.1, h.2)
+} in it)).user in omega (arith, h.1, h.2)
 
 pub slice_bounds-group-count : goal.slice_bounds-group-count
-slice_bounds-group-count c = ((record {
+slice_bounds-group-count c = ((let it : Read = record {
   old = c.args.old.now;
   f = c.args.f.now;
   starts = c.args.groups.now;
@@ -86,10 +86,10 @@ slice_bounds-group-count c = ((record {
   group = string_ends _ _ _ c.string_end-a.ensures _ c.in-At.is;
   user = string_ends _ _ _ c.string_end-z.ensures _ c.in-At-z.is;
   whole = c.if-end-f.false;
-})).group.1
+} in it)).group.1
 
 pub slice_bounds-group-start : goal.slice_bounds-group-start
-slice_bounds-group-start c = ((record {
+slice_bounds-group-start c = ((let it : Read = record {
   old = c.args.old.now;
   f = c.args.f.now;
   starts = c.args.groups.now;
@@ -105,10 +105,10 @@ slice_bounds-group-start c = ((record {
   group = string_ends _ _ _ c.string_end-a.ensures _ c.in-At.is;
   user = string_ends _ _ _ c.string_end-z.ensures _ c.in-At-z.is;
   whole = c.if-end-f.false;
-})).group.1
+} in it)).group.1
 
 pub slice_bounds-group-end : goal.slice_bounds-group-end
-slice_bounds-group-end c = ((record {
+slice_bounds-group-end c = ((let it : Read = record {
   old = c.args.old.now;
   f = c.args.f.now;
   starts = c.args.groups.now;
@@ -124,10 +124,10 @@ slice_bounds-group-end c = ((record {
   group = string_ends _ _ _ c.string_end-a.ensures _ c.in-At.is;
   user = string_ends _ _ _ c.string_end-z.ensures _ c.in-At-z.is;
   whole = c.if-end-f.false;
-})).group.2
+} in it)).group.2
 
 pub slice_bounds-user-count : goal.slice_bounds-user-count
-slice_bounds-user-count c = ((record {
+slice_bounds-user-count c = ((let it : Read = record {
   old = c.args.old.now;
   f = c.args.f.now;
   starts = c.args.groups.now;
@@ -143,10 +143,10 @@ slice_bounds-user-count c = ((record {
   group = string_ends _ _ _ c.string_end-a.ensures _ c.in-At.is;
   user = string_ends _ _ _ c.string_end-z.ensures _ c.in-At-z.is;
   whole = c.if-end-f.false;
-})).user.1
+} in it)).user.1
 
 pub slice_bounds-user-start : goal.slice_bounds-user-start
-slice_bounds-user-start c = ((record {
+slice_bounds-user-start c = ((let it : Read = record {
   old = c.args.old.now;
   f = c.args.f.now;
   starts = c.args.groups.now;
@@ -162,10 +162,10 @@ slice_bounds-user-start c = ((record {
   group = string_ends _ _ _ c.string_end-a.ensures _ c.in-At.is;
   user = string_ends _ _ _ c.string_end-z.ensures _ c.in-At-z.is;
   whole = c.if-end-f.false;
-})).user.1
+} in it)).user.1
 
 pub slice_bounds-user-end : goal.slice_bounds-user-end
-slice_bounds-user-end c = ((record {
+slice_bounds-user-end c = ((let it : Read = record {
   old = c.args.old.now;
   f = c.args.f.now;
   starts = c.args.groups.now;
@@ -181,12 +181,12 @@ slice_bounds-user-end c = ((record {
   group = string_ends _ _ _ c.string_end-a.ensures _ c.in-At.is;
   user = string_ends _ _ _ c.string_end-z.ensures _ c.in-At-z.is;
   whole = c.if-end-f.false;
-})).user.2
+} in it)).user.2
 
 pub slice_bounds-key-count : goal.slice_bounds-key-count
 slice_bounds-key-count c = omega (
   arith,
-  ((record {
+  ((let it : Read = record {
     old = c.args.old.now;
     f = c.args.f.now;
     starts = c.args.groups.now;
@@ -202,13 +202,13 @@ slice_bounds-key-count c = omega (
     group = string_ends _ _ _ c.string_end-a.ensures _ c.in-At.is;
     user = string_ends _ _ _ c.string_end-z.ensures _ c.in-At-z.is;
     whole = c.if-end-f.false;
-  })).user.1,
+  } in it)).user.1,
 )
 
 pub slice_bounds-key-start : goal.slice_bounds-key-start
 slice_bounds-key-start c = omega (
   arith,
-  ((record {
+  ((let it : Read = record {
     old = c.args.old.now;
     f = c.args.f.now;
     starts = c.args.groups.now;
@@ -224,11 +224,11 @@ slice_bounds-key-start c = omega (
     group = string_ends _ _ _ c.string_end-a.ensures _ c.in-At.is;
     user = string_ends _ _ _ c.string_end-z.ensures _ c.in-At-z.is;
     whole = c.if-end-f.false;
-  })).user.1,
+  } in it)).user.1,
 )
 
 pub slice_bounds-key-end : goal.slice_bounds-key-end
-slice_bounds-key-end c = ((record {
+slice_bounds-key-end c = ((let it : Read = record {
   old = c.args.old.now;
   f = c.args.f.now;
   starts = c.args.groups.now;
@@ -244,7 +244,7 @@ slice_bounds-key-end c = ((record {
   group = string_ends _ _ _ c.string_end-a.ensures _ c.in-At.is;
   user = string_ends _ _ _ c.string_end-z.ensures _ c.in-At-z.is;
   whole = c.if-end-f.false;
-})).user.2
+} in it)).user.2
 
 pub find-s-requires : goal.find-s-requires
 find-s-requires c =
@@ -253,8 +253,24 @@ find-s-requires c =
 pub returns-then-number : goal.returns-then-number
 returns-then-number c =
     record {
-      value = member_graded ((record {
-        read = read at-if1;
+      value = member_graded ((let it : Judged = record {
+        read = (let it : Read = record {
+          old = c.args.old.now;
+          f = c.args.f.now;
+          starts = c.args.groups.now;
+          names = c.args.names.now;
+          count = c.args.count;
+          users = c.args.users.now;
+          owners = c.args.owners.now;
+          keys = c.args.keys.now;
+          n = c.args.n;
+          ready = c.requires;
+          middle = c.in-At.middle;
+          end = c.in-At-z.end;
+          group = string_ends _ _ _ c.string_end-a.ensures _ c.in-At.is;
+          user = string_ends _ _ _ c.string_end-z.ensures _ c.in-At-z.is;
+          whole = c.if-end-f.false;
+        } in it);
         last = _;
         ordered = sym c.is_out_of_order.ensures ∙ c.if-is_out_of_order.false;
         owner = c.number_of-g.result.0;
@@ -264,16 +280,48 @@ returns-then-number c =
         found = c.find-s.result;
         found_is = c.find-s.ensures;
         number = c.number-number.result;
-        number_is = number_told (read at-if1) _ _ _ _ _ c.number_of-g.result.0 c.find-s.result
+        number_is = number_told ((let it : Read = record {
+          old = c.args.old.now;
+          f = c.args.f.now;
+          starts = c.args.groups.now;
+          names = c.args.names.now;
+          count = c.args.count;
+          users = c.args.users.now;
+          owners = c.args.owners.now;
+          keys = c.args.keys.now;
+          n = c.args.n;
+          ready = c.requires;
+          middle = c.in-At.middle;
+          end = c.in-At-z.end;
+          group = string_ends _ _ _ c.string_end-a.ensures _ c.in-At.is;
+          user = string_ends _ _ _ c.string_end-z.ensures _ c.in-At-z.is;
+          whole = c.if-end-f.false;
+        } in it)) _ _ _ _ _ c.number_of-g.result.0 c.find-s.result
             c.is_unsized.ensures c.is_unsized-2.ensures
             c.all_print.ensures c.all_print-2.ensures c.number-number.ensures;
-      }));
+      } in it));
       member_kept = λ x. absurd (c.if-number.true x);
     }
 
 pub overflow_add-users : goal.overflow_add-users
-overflow_add-users c = let r = ((record {
-  read = read at-if1;
+overflow_add-users c = let r = ((let it : Judged = record {
+  read = (let it : Read = record {
+    old = c.args.old.now;
+    f = c.args.f.now;
+    starts = c.args.groups.now;
+    names = c.args.names.now;
+    count = c.args.count;
+    users = c.args.users.now;
+    owners = c.args.owners.now;
+    keys = c.args.keys.now;
+    n = c.args.n;
+    ready = c.requires;
+    middle = c.in-At.middle;
+    end = c.in-At-z.end;
+    group = string_ends _ _ _ c.string_end-a.ensures _ c.in-At.is;
+    user = string_ends _ _ _ c.string_end-z.ensures _ c.in-At-z.is;
+    whole = c.if-end-f.false;
+  } in it);
   last = _;
   ordered = sym c.is_out_of_order.ensures ∙ c.if-is_out_of_order.false;
   owner = c.number_of-g.result.0;
@@ -283,14 +331,46 @@ overflow_add-users c = let r = ((record {
   found = c.find-s.result;
   found_is = c.find-s.ensures;
   number = c.number-number.result;
-  number_is = number_told (read at-if1) _ _ _ _ _ c.number_of-g.result.0 c.find-s.result
+  number_is = number_told ((let it : Read = record {
+    old = c.args.old.now;
+    f = c.args.f.now;
+    starts = c.args.groups.now;
+    names = c.args.names.now;
+    count = c.args.count;
+    users = c.args.users.now;
+    owners = c.args.owners.now;
+    keys = c.args.keys.now;
+    n = c.args.n;
+    ready = c.requires;
+    middle = c.in-At.middle;
+    end = c.in-At-z.end;
+    group = string_ends _ _ _ c.string_end-a.ensures _ c.in-At.is;
+    user = string_ends _ _ _ c.string_end-z.ensures _ c.in-At-z.is;
+    whole = c.if-end-f.false;
+  } in it)) _ _ _ _ _ c.number_of-g.result.0 c.find-s.result
       c.is_unsized.ensures c.is_unsized-2.ensures
       c.all_print.ensures c.all_print-2.ensures c.number-number.ensures;
-})).read in omega (arith, r.user.1, r.user.2, r.ready.room)
+} in it)).read in omega (arith, r.user.1, r.user.2, r.ready.room)
 
 pub overflow_cast-users : goal.overflow_cast-users
-overflow_cast-users c = let r = ((record {
-  read = read at-if1;
+overflow_cast-users c = let r = ((let it : Judged = record {
+  read = (let it : Read = record {
+    old = c.args.old.now;
+    f = c.args.f.now;
+    starts = c.args.groups.now;
+    names = c.args.names.now;
+    count = c.args.count;
+    users = c.args.users.now;
+    owners = c.args.owners.now;
+    keys = c.args.keys.now;
+    n = c.args.n;
+    ready = c.requires;
+    middle = c.in-At.middle;
+    end = c.in-At-z.end;
+    group = string_ends _ _ _ c.string_end-a.ensures _ c.in-At.is;
+    user = string_ends _ _ _ c.string_end-z.ensures _ c.in-At-z.is;
+    whole = c.if-end-f.false;
+  } in it);
   last = _;
   ordered = sym c.is_out_of_order.ensures ∙ c.if-is_out_of_order.false;
   owner = c.number_of-g.result.0;
@@ -300,16 +380,48 @@ overflow_cast-users c = let r = ((record {
   found = c.find-s.result;
   found_is = c.find-s.ensures;
   number = c.number-number.result;
-  number_is = number_told (read at-if1) _ _ _ _ _ c.number_of-g.result.0 c.find-s.result
+  number_is = number_told ((let it : Read = record {
+    old = c.args.old.now;
+    f = c.args.f.now;
+    starts = c.args.groups.now;
+    names = c.args.names.now;
+    count = c.args.count;
+    users = c.args.users.now;
+    owners = c.args.owners.now;
+    keys = c.args.keys.now;
+    n = c.args.n;
+    ready = c.requires;
+    middle = c.in-At.middle;
+    end = c.in-At-z.end;
+    group = string_ends _ _ _ c.string_end-a.ensures _ c.in-At.is;
+    user = string_ends _ _ _ c.string_end-z.ensures _ c.in-At-z.is;
+    whole = c.if-end-f.false;
+  } in it)) _ _ _ _ _ c.number_of-g.result.0 c.find-s.result
       c.is_unsized.ensures c.is_unsized-2.ensures
       c.all_print.ensures c.all_print-2.ensures c.number-number.ensures;
-})).read in omega (arith, r.user.1, r.user.2, r.ready.room)
+} in it)).read in omega (arith, r.user.1, r.user.2, r.ready.room)
 
 pub offset_bounds-users-n : goal.offset_bounds-users-n
 offset_bounds-users-n c = omega (
   arith,
-  member_room ((record {
-    read = read at-if1;
+  member_room ((let it : Judged = record {
+    read = (let it : Read = record {
+      old = c.args.old.now;
+      f = c.args.f.now;
+      starts = c.args.groups.now;
+      names = c.args.names.now;
+      count = c.args.count;
+      users = c.args.users.now;
+      owners = c.args.owners.now;
+      keys = c.args.keys.now;
+      n = c.args.n;
+      ready = c.requires;
+      middle = c.in-At.middle;
+      end = c.in-At-z.end;
+      group = string_ends _ _ _ c.string_end-a.ensures _ c.in-At.is;
+      user = string_ends _ _ _ c.string_end-z.ensures _ c.in-At-z.is;
+      whole = c.if-end-f.false;
+    } in it);
     last = _;
     ordered = sym c.is_out_of_order.ensures ∙ c.if-is_out_of_order.false;
     owner = c.number_of-g.result.0;
@@ -319,15 +431,47 @@ offset_bounds-users-n c = omega (
     found = c.find-s.result;
     found_is = c.find-s.ensures;
     number = c.number-number.result;
-    number_is = number_told (read at-if1) _ _ _ _ _ c.number_of-g.result.0 c.find-s.result
+    number_is = number_told ((let it : Read = record {
+      old = c.args.old.now;
+      f = c.args.f.now;
+      starts = c.args.groups.now;
+      names = c.args.names.now;
+      count = c.args.count;
+      users = c.args.users.now;
+      owners = c.args.owners.now;
+      keys = c.args.keys.now;
+      n = c.args.n;
+      ready = c.requires;
+      middle = c.in-At.middle;
+      end = c.in-At-z.end;
+      group = string_ends _ _ _ c.string_end-a.ensures _ c.in-At.is;
+      user = string_ends _ _ _ c.string_end-z.ensures _ c.in-At-z.is;
+      whole = c.if-end-f.false;
+    } in it)) _ _ _ _ _ c.number_of-g.result.0 c.find-s.result
         c.is_unsized.ensures c.is_unsized-2.ensures
         c.all_print.ensures c.all_print-2.ensures c.number-number.ensures;
-  })) c.if-number.false,
+  } in it)) c.if-number.false,
 )
 
 pub bounds-users-n : goal.bounds-users-n
-bounds-users-n c = member_room ((record {
-  read = read at-if1;
+bounds-users-n c = member_room ((let it : Judged = record {
+  read = (let it : Read = record {
+    old = c.args.old.now;
+    f = c.args.f.now;
+    starts = c.args.groups.now;
+    names = c.args.names.now;
+    count = c.args.count;
+    users = c.args.users.now;
+    owners = c.args.owners.now;
+    keys = c.args.keys.now;
+    n = c.args.n;
+    ready = c.requires;
+    middle = c.in-At.middle;
+    end = c.in-At-z.end;
+    group = string_ends _ _ _ c.string_end-a.ensures _ c.in-At.is;
+    user = string_ends _ _ _ c.string_end-z.ensures _ c.in-At-z.is;
+    whole = c.if-end-f.false;
+  } in it);
   last = _;
   ordered = sym c.is_out_of_order.ensures ∙ c.if-is_out_of_order.false;
   owner = c.number_of-g.result.0;
@@ -337,14 +481,46 @@ bounds-users-n c = member_room ((record {
   found = c.find-s.result;
   found_is = c.find-s.ensures;
   number = c.number-number.result;
-  number_is = number_told (read at-if1) _ _ _ _ _ c.number_of-g.result.0 c.find-s.result
+  number_is = number_told ((let it : Read = record {
+    old = c.args.old.now;
+    f = c.args.f.now;
+    starts = c.args.groups.now;
+    names = c.args.names.now;
+    count = c.args.count;
+    users = c.args.users.now;
+    owners = c.args.owners.now;
+    keys = c.args.keys.now;
+    n = c.args.n;
+    ready = c.requires;
+    middle = c.in-At.middle;
+    end = c.in-At-z.end;
+    group = string_ends _ _ _ c.string_end-a.ensures _ c.in-At.is;
+    user = string_ends _ _ _ c.string_end-z.ensures _ c.in-At-z.is;
+    whole = c.if-end-f.false;
+  } in it)) _ _ _ _ _ c.number_of-g.result.0 c.find-s.result
       c.is_unsized.ensures c.is_unsized-2.ensures
       c.all_print.ensures c.all_print-2.ensures c.number-number.ensures;
-})) c.if-number.false
+} in it)) c.if-number.false
 
 pub bounds-owners-n : goal.bounds-owners-n
-bounds-owners-n c = member_room ((record {
-  read = read at-if1;
+bounds-owners-n c = member_room ((let it : Judged = record {
+  read = (let it : Read = record {
+    old = c.args.old.now;
+    f = c.args.f.now;
+    starts = c.args.groups.now;
+    names = c.args.names.now;
+    count = c.args.count;
+    users = c.args.users.now;
+    owners = c.args.owners.now;
+    keys = c.args.keys.now;
+    n = c.args.n;
+    ready = c.requires;
+    middle = c.in-At.middle;
+    end = c.in-At-z.end;
+    group = string_ends _ _ _ c.string_end-a.ensures _ c.in-At.is;
+    user = string_ends _ _ _ c.string_end-z.ensures _ c.in-At-z.is;
+    whole = c.if-end-f.false;
+  } in it);
   last = _;
   ordered = sym c.is_out_of_order.ensures ∙ c.if-is_out_of_order.false;
   owner = c.number_of-g.result.0;
@@ -354,16 +530,48 @@ bounds-owners-n c = member_room ((record {
   found = c.find-s.result;
   found_is = c.find-s.ensures;
   number = c.number-number.result;
-  number_is = number_told (read at-if1) _ _ _ _ _ c.number_of-g.result.0 c.find-s.result
+  number_is = number_told ((let it : Read = record {
+    old = c.args.old.now;
+    f = c.args.f.now;
+    starts = c.args.groups.now;
+    names = c.args.names.now;
+    count = c.args.count;
+    users = c.args.users.now;
+    owners = c.args.owners.now;
+    keys = c.args.keys.now;
+    n = c.args.n;
+    ready = c.requires;
+    middle = c.in-At.middle;
+    end = c.in-At-z.end;
+    group = string_ends _ _ _ c.string_end-a.ensures _ c.in-At.is;
+    user = string_ends _ _ _ c.string_end-z.ensures _ c.in-At-z.is;
+    whole = c.if-end-f.false;
+  } in it)) _ _ _ _ _ c.number_of-g.result.0 c.find-s.result
       c.is_unsized.ensures c.is_unsized-2.ensures
       c.all_print.ensures c.all_print-2.ensures c.number-number.ensures;
-})) c.if-number.false
+} in it)) c.if-number.false
 
 pub overflow_add-begin : goal.overflow_add-begin
 overflow_add-begin c = omega (
   arith,
-  ((record {
-    read = read at-if1;
+  ((let it : Judged = record {
+    read = (let it : Read = record {
+      old = c.args.old.now;
+      f = c.args.f.now;
+      starts = c.args.groups.now;
+      names = c.args.names.now;
+      count = c.args.count;
+      users = c.args.users.now;
+      owners = c.args.owners.now;
+      keys = c.args.keys.now;
+      n = c.args.n;
+      ready = c.requires;
+      middle = c.in-At.middle;
+      end = c.in-At-z.end;
+      group = string_ends _ _ _ c.string_end-a.ensures _ c.in-At.is;
+      user = string_ends _ _ _ c.string_end-z.ensures _ c.in-At-z.is;
+      whole = c.if-end-f.false;
+    } in it);
     last = _;
     ordered = sym c.is_out_of_order.ensures ∙ c.if-is_out_of_order.false;
     owner = c.number_of-g.result.0;
@@ -373,15 +581,47 @@ overflow_add-begin c = omega (
     found = c.find-s.result;
     found_is = c.find-s.ensures;
     number = c.number-number.result;
-    number_is = number_told (read at-if1) _ _ _ _ _ c.number_of-g.result.0 c.find-s.result
+    number_is = number_told ((let it : Read = record {
+      old = c.args.old.now;
+      f = c.args.f.now;
+      starts = c.args.groups.now;
+      names = c.args.names.now;
+      count = c.args.count;
+      users = c.args.users.now;
+      owners = c.args.owners.now;
+      keys = c.args.keys.now;
+      n = c.args.n;
+      ready = c.requires;
+      middle = c.in-At.middle;
+      end = c.in-At-z.end;
+      group = string_ends _ _ _ c.string_end-a.ensures _ c.in-At.is;
+      user = string_ends _ _ _ c.string_end-z.ensures _ c.in-At-z.is;
+      whole = c.if-end-f.false;
+    } in it)) _ _ _ _ _ c.number_of-g.result.0 c.find-s.result
         c.is_unsized.ensures c.is_unsized-2.ensures
         c.all_print.ensures c.all_print-2.ensures c.number-number.ensures;
-  })).read.ready.room,
+  } in it)).read.ready.room,
 )
 
 pub overflow_add-to : goal.overflow_add-to
-overflow_add-to c = let r = ((record {
-  read = read at-if1;
+overflow_add-to c = let r = ((let it : Judged = record {
+  read = (let it : Read = record {
+    old = c.args.old.now;
+    f = c.args.f.now;
+    starts = c.args.groups.now;
+    names = c.args.names.now;
+    count = c.args.count;
+    users = c.args.users.now;
+    owners = c.args.owners.now;
+    keys = c.args.keys.now;
+    n = c.args.n;
+    ready = c.requires;
+    middle = c.in-At.middle;
+    end = c.in-At-z.end;
+    group = string_ends _ _ _ c.string_end-a.ensures _ c.in-At.is;
+    user = string_ends _ _ _ c.string_end-z.ensures _ c.in-At-z.is;
+    whole = c.if-end-f.false;
+  } in it);
   last = _;
   ordered = sym c.is_out_of_order.ensures ∙ c.if-is_out_of_order.false;
   owner = c.number_of-g.result.0;
@@ -391,15 +631,47 @@ overflow_add-to c = let r = ((record {
   found = c.find-s.result;
   found_is = c.find-s.ensures;
   number = c.number-number.result;
-  number_is = number_told (read at-if1) _ _ _ _ _ c.number_of-g.result.0 c.find-s.result
+  number_is = number_told ((let it : Read = record {
+    old = c.args.old.now;
+    f = c.args.f.now;
+    starts = c.args.groups.now;
+    names = c.args.names.now;
+    count = c.args.count;
+    users = c.args.users.now;
+    owners = c.args.owners.now;
+    keys = c.args.keys.now;
+    n = c.args.n;
+    ready = c.requires;
+    middle = c.in-At.middle;
+    end = c.in-At-z.end;
+    group = string_ends _ _ _ c.string_end-a.ensures _ c.in-At.is;
+    user = string_ends _ _ _ c.string_end-z.ensures _ c.in-At-z.is;
+    whole = c.if-end-f.false;
+  } in it)) _ _ _ _ _ c.number_of-g.result.0 c.find-s.result
       c.is_unsized.ensures c.is_unsized-2.ensures
       c.all_print.ensures c.all_print-2.ensures c.number-number.ensures;
-})).read in omega (arith, r.user.1, r.user.2, r.ready.room)
+} in it)).read in omega (arith, r.user.1, r.user.2, r.ready.room)
 
 pub add-requires : goal.add-requires
 add-requires c =
-    let r = ((record {
-      read = read at-if1;
+    let r = ((let it : Judged = record {
+      read = (let it : Read = record {
+        old = c.args.old.now;
+        f = c.args.f.now;
+        starts = c.args.groups.now;
+        names = c.args.names.now;
+        count = c.args.count;
+        users = c.args.users.now;
+        owners = c.args.owners.now;
+        keys = c.args.keys.now;
+        n = c.args.n;
+        ready = c.requires;
+        middle = c.in-At.middle;
+        end = c.in-At-z.end;
+        group = string_ends _ _ _ c.string_end-a.ensures _ c.in-At.is;
+        user = string_ends _ _ _ c.string_end-z.ensures _ c.in-At-z.is;
+        whole = c.if-end-f.false;
+      } in it);
       last = _;
       ordered = sym c.is_out_of_order.ensures ∙ c.if-is_out_of_order.false;
       owner = c.number_of-g.result.0;
@@ -409,12 +681,44 @@ add-requires c =
       found = c.find-s.result;
       found_is = c.find-s.ensures;
       number = c.number-number.result;
-      number_is = number_told (read at-if1) _ _ _ _ _ c.number_of-g.result.0 c.find-s.result
+      number_is = number_told ((let it : Read = record {
+        old = c.args.old.now;
+        f = c.args.f.now;
+        starts = c.args.groups.now;
+        names = c.args.names.now;
+        count = c.args.count;
+        users = c.args.users.now;
+        owners = c.args.owners.now;
+        keys = c.args.keys.now;
+        n = c.args.n;
+        ready = c.requires;
+        middle = c.in-At.middle;
+        end = c.in-At-z.end;
+        group = string_ends _ _ _ c.string_end-a.ensures _ c.in-At.is;
+        user = string_ends _ _ _ c.string_end-z.ensures _ c.in-At-z.is;
+        whole = c.if-end-f.false;
+      } in it)) _ _ _ _ _ c.number_of-g.result.0 c.find-s.result
           c.is_unsized.ensures c.is_unsized-2.ensures
           c.all_print.ensures c.all_print-2.ensures c.number-number.ensures;
-    })).read in
-    let h = set_room ((record {
-      read = read at-if1;
+    } in it)).read in
+    let h = set_room ((let it : Judged = record {
+      read = (let it : Read = record {
+        old = c.args.old.now;
+        f = c.args.f.now;
+        starts = c.args.groups.now;
+        names = c.args.names.now;
+        count = c.args.count;
+        users = c.args.users.now;
+        owners = c.args.owners.now;
+        keys = c.args.keys.now;
+        n = c.args.n;
+        ready = c.requires;
+        middle = c.in-At.middle;
+        end = c.in-At-z.end;
+        group = string_ends _ _ _ c.string_end-a.ensures _ c.in-At.is;
+        user = string_ends _ _ _ c.string_end-z.ensures _ c.in-At-z.is;
+        whole = c.if-end-f.false;
+      } in it);
       last = _;
       ordered = sym c.is_out_of_order.ensures ∙ c.if-is_out_of_order.false;
       owner = c.number_of-g.result.0;
@@ -424,10 +728,26 @@ add-requires c =
       found = c.find-s.result;
       found_is = c.find-s.ensures;
       number = c.number-number.result;
-      number_is = number_told (read at-if1) _ _ _ _ _ c.number_of-g.result.0 c.find-s.result
+      number_is = number_told ((let it : Read = record {
+        old = c.args.old.now;
+        f = c.args.f.now;
+        starts = c.args.groups.now;
+        names = c.args.names.now;
+        count = c.args.count;
+        users = c.args.users.now;
+        owners = c.args.owners.now;
+        keys = c.args.keys.now;
+        n = c.args.n;
+        ready = c.requires;
+        middle = c.in-At.middle;
+        end = c.in-At-z.end;
+        group = string_ends _ _ _ c.string_end-a.ensures _ c.in-At.is;
+        user = string_ends _ _ _ c.string_end-z.ensures _ c.in-At-z.is;
+        whole = c.if-end-f.false;
+      } in it)) _ _ _ _ _ c.number_of-g.result.0 c.find-s.result
           c.is_unsized.ensures c.is_unsized-2.ensures
           c.all_print.ensures c.all_print-2.ensures c.number-number.ensures;
-    })) c.if-number.false in (
+    } in it)) c.if-number.false in (
       h.0,
       h.1,
       omega arith,
@@ -440,8 +760,24 @@ add-requires c =
 pub returns : goal.returns
 returns c =
     record {
-      value = λ b w g m. sym c.if-number.false ∙ member_graded ((record {
-        read = read at-if1;
+      value = λ b w g m. sym c.if-number.false ∙ member_graded ((let it : Judged = record {
+        read = (let it : Read = record {
+          old = c.args.old.now;
+          f = c.args.f.now;
+          starts = c.args.groups.now;
+          names = c.args.names.now;
+          count = c.args.count;
+          users = c.args.users.now;
+          owners = c.args.owners.now;
+          keys = c.args.keys.now;
+          n = c.args.n;
+          ready = c.requires;
+          middle = c.in-At.middle;
+          end = c.in-At-z.end;
+          group = string_ends _ _ _ c.string_end-a.ensures _ c.in-At.is;
+          user = string_ends _ _ _ c.string_end-z.ensures _ c.in-At-z.is;
+          whole = c.if-end-f.false;
+        } in it);
         last = _;
         ordered = sym c.is_out_of_order.ensures ∙ c.if-is_out_of_order.false;
         owner = c.number_of-g.result.0;
@@ -451,12 +787,44 @@ returns c =
         found = c.find-s.result;
         found_is = c.find-s.ensures;
         number = c.number-number.result;
-        number_is = number_told (read at-if1) _ _ _ _ _ c.number_of-g.result.0 c.find-s.result
+        number_is = number_told ((let it : Read = record {
+          old = c.args.old.now;
+          f = c.args.f.now;
+          starts = c.args.groups.now;
+          names = c.args.names.now;
+          count = c.args.count;
+          users = c.args.users.now;
+          owners = c.args.owners.now;
+          keys = c.args.keys.now;
+          n = c.args.n;
+          ready = c.requires;
+          middle = c.in-At.middle;
+          end = c.in-At-z.end;
+          group = string_ends _ _ _ c.string_end-a.ensures _ c.in-At.is;
+          user = string_ends _ _ _ c.string_end-z.ensures _ c.in-At-z.is;
+          whole = c.if-end-f.false;
+        } in it)) _ _ _ _ _ c.number_of-g.result.0 c.find-s.result
             c.is_unsized.ensures c.is_unsized-2.ensures
             c.all_print.ensures c.all_print-2.ensures c.number-number.ensures;
-      })) b w g m;
-      member_kept = λ x. member_kept ((record {
-        read = read at-if1;
+      } in it)) b w g m;
+      member_kept = λ x. member_kept ((let it : Judged = record {
+        read = (let it : Read = record {
+          old = c.args.old.now;
+          f = c.args.f.now;
+          starts = c.args.groups.now;
+          names = c.args.names.now;
+          count = c.args.count;
+          users = c.args.users.now;
+          owners = c.args.owners.now;
+          keys = c.args.keys.now;
+          n = c.args.n;
+          ready = c.requires;
+          middle = c.in-At.middle;
+          end = c.in-At-z.end;
+          group = string_ends _ _ _ c.string_end-a.ensures _ c.in-At.is;
+          user = string_ends _ _ _ c.string_end-z.ensures _ c.in-At-z.is;
+          whole = c.if-end-f.false;
+        } in it);
         last = _;
         ordered = sym c.is_out_of_order.ensures ∙ c.if-is_out_of_order.false;
         owner = c.number_of-g.result.0;
@@ -466,8 +834,24 @@ returns c =
         found = c.find-s.result;
         found_is = c.find-s.ensures;
         number = c.number-number.result;
-        number_is = number_told (read at-if1) _ _ _ _ _ c.number_of-g.result.0 c.find-s.result
+        number_is = number_told ((let it : Read = record {
+          old = c.args.old.now;
+          f = c.args.f.now;
+          starts = c.args.groups.now;
+          names = c.args.names.now;
+          count = c.args.count;
+          users = c.args.users.now;
+          owners = c.args.owners.now;
+          keys = c.args.keys.now;
+          n = c.args.n;
+          ready = c.requires;
+          middle = c.in-At.middle;
+          end = c.in-At-z.end;
+          group = string_ends _ _ _ c.string_end-a.ensures _ c.in-At.is;
+          user = string_ends _ _ _ c.string_end-z.ensures _ c.in-At-z.is;
+          whole = c.if-end-f.false;
+        } in it)) _ _ _ _ _ c.number_of-g.result.0 c.find-s.result
             c.is_unsized.ensures c.is_unsized-2.ensures
             c.all_print.ensures c.all_print-2.ensures c.number-number.ensures;
-      })) c.if-number.false _ c.add.ensures;
+      } in it)) c.if-number.false _ c.add.ensures;
     }

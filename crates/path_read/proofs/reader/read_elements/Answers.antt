@@ -38,7 +38,7 @@ read_element-e-requires c =
 
 pub shape_of-out-in_default : goal.shape_of-out-in_default
 shape_of-out-in_default c =
-    omega (arith, c.read_element-e.auto.1.1.0, storing_long _ _ _ _ _ _ _ _ c.loop-left.invariant.0)
+    omega (arith, c.read_element-e.auto.out, storing_long _ _ _ _ _ _ _ _ c.loop-left.invariant.0)
 
 pub returns-in_default : goal.returns-in_default
 returns-in_default c =

@@ -25,7 +25,7 @@ overflow_cast-out c =
 
 pub bounds-out-to : goal.bounds-out-to
 bounds-out-to c =
-    omega (arith, room_byte _ _ _ _ _ _ c.requires (omega arith) (omega arith), c.read_plain-v.auto.1.1.0)
+    omega (arith, room_byte _ _ _ _ _ _ c.requires (omega arith) (omega arith), c.read_plain-v.auto.out)
 
 pub returns : goal.returns
 returns c =

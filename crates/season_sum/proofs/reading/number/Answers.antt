@@ -1,0 +1,45 @@
+use borrow.Author.Tests.{not-true, not-false}
+use native.Mathlib.Omega.{arith}
+use mathlib.Core.Path.{refl, sym, ◌∙◌}
+use Prim.Native.Nat.{◌-◌}
+use Rattle.season_sum.specs.Steps.{bad}
+use Rattle.season_sum.proofs.Numbers.{continued, number_none, number_ends, number_stops, number_more}
+use Rattle.season_sum.proofs.reading.number.Goals as goal
+
+pub loop-i-init : goal.loop-i-init
+loop-i-init c = (omega arith, refl)
+
+pub returns-then-b-eq10 : goal.returns-then-b-eq10
+returns-then-b-eq10 c =
+    number_ends _ _ _ c.loop-i-test.true _ _ c.loop-i.invariant.0 c.loop-i.invariant.1 c.if-b-eq10.true
+
+pub returns-then-not-is_next : goal.returns-then-not-is_next
+returns-then-not-is_next c =
+    bad (c.loop-i.invariant.1 ∙ number_stops _ _ _ c.loop-i-test.true
+    c.if-b-eq10.false (sym c.is_next.ensures ∙ not-true _ c.if-not-is_next.true-raw))
+
+pub overflow_mul-value : goal.overflow_mul-value
+overflow_mul-value c =
+    let h = continued _ _ (sym c.is_next.ensures ∙ not-false _ c.if-not-is_next.false-raw) in omega (arith, h.1)
+
+pub overflow_sub-value : goal.overflow_sub-value
+overflow_sub-value c =
+    let h = continued _ _ (sym c.is_next.ensures ∙ not-false _ c.if-not-is_next.false-raw) in omega (arith, h.0.low)
+
+pub overflow_cast-value : goal.overflow_cast-value
+overflow_cast-value c =
+    let h = continued _ _ (sym c.is_next.ensures ∙ not-false _ c.if-not-is_next.false-raw) in omega (arith, h.0.high)
+
+pub overflow_add-value : goal.overflow_add-value
+overflow_add-value c =
+    let h = continued _ _ (sym c.is_next.ensures ∙ not-false _ c.if-not-is_next.false-raw) in omega (arith, h.1)
+
+pub loop-i-preserved : goal.loop-i-preserved
+loop-i-preserved c = (
+  omega arith,
+  c.loop-i.invariant.1 ∙ number_more _ _ _ c.loop-i-test.true
+      c.if-b-eq10.false (sym c.is_next.ensures ∙ not-false _ c.if-not-is_next.false-raw),
+)
+
+pub returns : goal.returns
+returns c = bad (c.loop-i.invariant.1 ∙ number_none _ _ _ c.loop-i-test.false)
