@@ -108,7 +108,7 @@ slips cli_probe/src/lib.rt the probes say nothing of a user who is not named: in
 reports cli_season/src/sums.rt the last report is left out: in run s/while i < words/while i + 1 < words/
 reports cli_season/src/sums.rt a report that cannot be read is passed over: in add s/        return false;/        return true;/
 reports cli_season/src/sums.rt a report that is refused is passed over: in add s/    false$/    true/
-reports cli_season/src/sums.rt a longer text is cut to the longest report: s/TEXT_ROOM: usize = REPORT_ROOM + 1/TEXT_ROOM: usize = REPORT_ROOM/
+reports cli_season/src/sums.rt a longer text is cut to the longest report: s/TEXT_ROOM: usize = MAX_REPORT + 1/TEXT_ROOM: usize = MAX_REPORT/
 reports cli_season/src/sums.rt refusals on standard output: in refuse s/Stream::Error/Stream::Output/
 reports cli_season/src/sums.rt a refused report is not marked: in refuse s/cli_show::marks::refusal(console);//
 reports cli_season/src/sums.rt the line of a refused report is not shown: in add s/quote(.*);//
