@@ -167,8 +167,8 @@ def split_args(text):
 
 
 class Function:
-    def __init__(self, crate, path, entry):
-        self.crate, self.path, self.entry = crate, path, entry
+    def __init__(self, crate, path, entry, stem=""):
+        self.crate, self.path, self.entry, self.stem = crate, path, entry, stem
         self.steps, self.fields = {}, {}
         for place in entry["places"]:
             if place[2] and place[2][0]:
@@ -215,6 +215,17 @@ class Function:
                 return self.needs[b + old[len(a) :]]
         return None
 
+    def lent(self, key):
+        """The fact on a lent buffer's length that the step states: where the call that had the buffer has it."""
+        places = {place[0]: place for place in self.entry["places"]}
+        at = next((p for p in self.entry["places"] if p[2] and norm(p[2][0]) == key), None)
+        name = re.sub(r"\d+$", "", key)
+        while at:
+            at = places.get(at[1])
+            if at and at[3]:
+                return f"{at[2][1]}.auto.{name}" if name in self.entry["params"].get(at[3], []) else None
+        return None
+
     def hand(self, what):
         self.hands.append(what)
 
@@ -224,6 +235,14 @@ class Function:
         if not segments:
             return m.group(1)
         first, rest = segments[0], segments[1:]
+        if norm(first) not in self.steps and norm(first) not in self.known and re.sub(r"\d+$", "", norm(first)) in self.steps:
+            first = re.sub(r"\d+$", "", first)
+            segments = [first] + rest
+        if self.stem and first == "requires" and rest:
+            if rest[0] == "0":
+                return ".".join([m.group(1), "decreases"] + rest[1:])
+            rest = rest[1:]
+            segments = [first] + rest
         key = norm(first)
         if key in self.known and rest and rest[0] == "given":
             return ".".join([m.group(1), "type_inv", self.known[key]] + rest[1:])
@@ -232,6 +251,8 @@ class Function:
                 return ".".join([m.group(1), *self.matched[key][old]] + rest[len(old) :])
         if key in self.steps:
             new = self.steps[key]
+            if rest == ["given"] and self.lent(key):
+                return f"{m.group(1)}.{self.lent(key)}"
             if "given" in rest[:1]:
                 self.hand(f"given of {first}")
             out = [m.group(1), new]
@@ -289,6 +310,7 @@ class Function:
             if re.search(r"(?<![^\s(\[{,;])" + re.escape(a) + r"(?![^\s)\]},;])", text):
                 self.hand(f"bare place {a}")
         text = re.sub(r"(?<![^\s(\[{,;])(c)((?:\.[^\s(){}\[\],;.]+)+)", self.chain, text)
+        text = re.sub(r"not-(true|false) _\s+(c(?:\.[^\s(){}\[\],;.]+)+\.\1)-raw", r"\2", text)
         text = re.sub(r"[ \t]+\n", "\n", text)
         return re.sub(r"=\s*\n\s*\n", "=\n", text)
 
@@ -303,6 +325,123 @@ class Function:
         return dict(zip(patterns, slots))
 
 
+def cited(answers, bodies, answered=None, f=None):
+    """An answer that cites another answer by its old name has that answer's term instead, unless both goals have the same record."""
+    at = dict(zip(f.order, [b for _, b in f.entry["asked_at"]])) if f else {}
+    for _ in range(3):
+        for name, (args, value) in bodies.items():
+            pattern = r"(?<![\w.'-])" + re.escape(name) + r"(?P<args>" + "".join(r"\s+" + NAME for _ in args) + r")(?![\w.'-])"
+
+            def inside(m):
+                term = value
+                for a, b in zip(args, m.group("args").split()):
+                    if a != b:
+                        term = re.sub(r"(?<![^\s(\[{,;])" + re.escape(a) + r"(?=[\s.)\]},;]|$)", b, term)
+                return "(" + term.strip() + ")"
+
+            for i, (c, n, x) in enumerate(answers):
+                head = re.search(r"^" + re.escape(n) + r"(?:[ ]+[^\s=]+)*\s*=", x, re.M)
+                alike = answered and name != "returns" and at.get(answered.get(name)) == at.get(n) and n in at
+                if head and not alike:
+                    answers[i] = (c, n, x[: head.end()] + re.sub(pattern, inside, x[head.end() :]))
+    return answers
+
+
+def parameters():
+    """For each function, by crate, module and name: the names of its parameters."""
+    found = {}
+    for p in glob.glob("crates/*/src/**/*.rt", recursive=True):
+        crate, inner = p.split("/")[1], "/".join(p.split("/")[3:])[:-3]
+        module = "" if inner in ("lib", "main") else inner.replace("/", "::") + "::"
+        text = re.sub(r"(?m)//.*$", "", open(p, encoding="utf-8").read())
+        for m in re.finditer(r"\bfn (\w+)\s*\(([^)]*)\)", text):
+            found[f"{crate}::{module}{m.group(1)}"] = re.findall(r"(?:^|,)\s*(?:mut\s+)?(\w+)\s*:", m.group(2))
+    return found
+
+
+def turn_cycle(crate, folder, names):
+    """The proof of functions that call each other: one pair of files for all of them."""
+    path = os.path.relpath(folder, f"crates/{crate}/proofs").replace("/", ".")
+    module = ".".join(path.split(".")[:-1])
+    start = f"Rattle-{crate}-proofs.{path}.Lts-"
+    members = {k[len(start) :]: names[k] for k in names if k.startswith(start)}
+    functions = {m: Function(crate, (module + "." if module else "") + m, e, e["stem"]) for m, e in members.items()}
+    params = parameters()
+    text = open(os.path.join(folder, "Proof.antt"), encoding="utf-8").read()
+    uses, header, measures, invariants, answers, others, hands, bodies = [], [], [], [], [], [], [], {}
+    for comment, body in items(text):
+        if body.startswith("use "):
+            if comment:
+                header += comment
+            uses.append(body)
+            continue
+        sig = re.match(r"(?:(?:pub|abbrev|unfoldable)\s+)*(" + NAME + r")\s*:\s*(.*)", body, re.S)
+        if not sig:
+            others.append((comment, body))
+            continue
+        name, rest = sig.group(1), sig.group(2)
+        if re.match(r"\{M", rest):
+            inline = [a for a in re.findall(r"\(λ c(?: κs)?\. (?!search rules)[^\n]*", rest)]
+            if inline:
+                hands.append(f"inline: {inline}")
+            continue
+        if re.match(r"(ℕ → In|ℕ → \S+\.Claims)", rest) or ("→ Type 0) → Type 0" in rest and name.endswith("need")):
+            continue
+        measure = re.match(r"Measures [^\n]*\n" + re.escape(name) + r" κs a = (.*)", rest, re.S)
+        if measure:
+            who = next(m for m in members if norm(m) == norm(name.split("-", 1)[1]))
+            ps = params[f"{crate}::{module.replace('.', '::') + '::' if module else ''}{who}"]
+            value = re.sub(r"(?<![^\s(])a((?:\.1)*)\.0(?![\w])", lambda m: "l." + ps[m.group(1).count("1")], measure.group(1))
+            measures.append((comment, f"abbrev pub decreases-{who} : goal.decreases-{who}\ndecreases-{who} l = {value}"))
+            continue
+        kind = re.match(r"(\S+)-lts\.(invariant|decreases)[-_](\S+)\s*\n", rest)
+        if kind:
+            who = next(m for m in members if norm(m) == norm(kind.group(1)))
+            f, entry = functions[who], members[who]
+            loops = {norm(n[0]): (n, v, ch) for (n, v), ch in zip(entry["loops"], entry["changed"])}
+            loop = loops.get(norm(kind.group(3)))
+            eq = re.search(r"^" + re.escape(name) + r"((?:\s+[^\s=]+)*)\s*=\s?(.*)", rest[kind.end() :], re.S | re.M)
+            unfolding = rest[kind.end() :][: eq.start()]
+            table = f.loop_args(loop, eq.group(1).split())
+            new, value = f"{kind.group(2)}-{f.stem}{loop[0][1]}", eq.group(2)
+            if table:
+                value = re.sub(r"(?<![^\s(){}\[\],;])" + NAME, lambda m: table.get(m.group(0), m.group(0)), value)
+            invariants.append((comment, f"abbrev pub {new} : goal.{new}\n{unfolding}{new} l = {value}"))
+            continue
+        need = re.match(r"\S+need (\S+)-lts\.Need-(\S+)([^\n]*)\n", rest)
+        if need:
+            who = next(m for m in members if norm(m) == norm(need.group(1)))
+            f = functions[who]
+            new = f.need(norm(need.group(2)))
+            tail = rest[need.end() :]
+            if not new:
+                f.hand(f"goal {who} {need.group(2)}")
+                new = "UNKNOWN-" + need.group(2)
+            new = f.stem + new
+            tail = re.sub(r"^" + re.escape(name) + r"((?:[ ]+[^\s=]+)*)\s*=", lambda m: new + "".join(" " + a for a in m.group(1).split() if a != "κs") + " =", tail, flags=re.M)
+            tail = f.expression(tail)
+            eq = re.search(r"^" + re.escape(new) + r"((?:[ ]+[^\s=]+)*)\s*=(.*)", tail, re.M | re.S)
+            if eq:
+                bodies[name] = (eq.group(1).split(), eq.group(2))
+            several = f.clauses_of(norm(need.group(2)))
+            if several:
+                tail = as_record(tail, new, several)
+            answers.append((comment, new, f"pub {new} : goal.{new}\n" + tail))
+            continue
+        others.append((comment, body))
+    answers = cited(answers, bodies)
+    keep = [u for u in uses if not re.search(r"\.(Tie|Lts-\w+|Reads|Kinds|PlainCycle)\b|\{statement\}|borrow\.Author\.Rules", u)]
+    helper = "\n\n".join("\n".join(c + [b]) for c, b in others if b)
+    if "rules" in " ".join(b for _, _, b in answers) + helper:
+        keep.append("use Rattle.std.proofs.Common.{rules}")
+    top = "\n".join(header)
+    write(folder, "Invariants.antt", top, keep, f"use Rattle.{crate}.proofs.{path}.Given as goal", "\n\n".join("\n".join(c + [b]) for c, b in measures + invariants))
+    write(folder, "Answers.antt", "", keep, f"use Rattle.{crate}.proofs.{path}.Goals as goal", (helper + "\n\n" if helper else "") + "\n\n".join("\n".join(c + [b]) for c, _, b in answers))
+    os.remove(os.path.join(folder, "Proof.antt"))
+    for h in hands + [h for f in functions.values() for h in f.hands]:
+        print(f"hand: {folder}: {h}")
+
+
 def turn(crate, folder, entry):
     path = os.path.relpath(folder, f"crates/{crate}/proofs").replace("/", ".")
     f = Function(crate, path, entry)
@@ -311,7 +450,7 @@ def turn(crate, folder, entry):
         camel = "".join(w[0].upper() + w[1:] for w in name.split("-"))
         text = re.sub(r"(?<![\w'-])" + re.escape(name) + r"(?![\w'-])", camel, text)
     loops = {norm(names[0]): (names, vars_, changed) for (names, vars_), changed in zip(entry["loops"], entry["changed"])}
-    uses, header, invariants, answers, others, spec = [], [], [], [], [], None
+    uses, header, invariants, answers, others, spec, bodies = [], [], [], [], [], None, {}
     answered = {}
     parts = items(text)
     placed = r"(?:(?:pub|abbrev|unfoldable)\s+)*(" + NAME + r")\s*:\s*(?:\(c : )?tie\.(?!Need|invariant|decreases)"
@@ -356,6 +495,9 @@ def turn(crate, folder, entry):
             answered[name] = new
             tail = re.sub(r"^" + re.escape(name) + r"((?:[ ]+[^\s=]+)*)\s*=", lambda m: new + "".join(" " + a for a in m.group(1).split() if a != "κs") + " =", tail, flags=re.M)
             tail = f.expression(tail)
+            eq = re.search(r"^" + re.escape(new) + r"((?:[ ]+[^\s=]+)*)\s*=(.*)", tail, re.M | re.S)
+            if eq:
+                bodies[name] = (eq.group(1).split(), eq.group(2))
             several = f.clauses_of(norm(need.group(1)))
             if several:
                 tail = as_record(tail, new, several)
@@ -387,6 +529,7 @@ def turn(crate, folder, entry):
             for other in places:
                 places[other] = re.sub(pattern, lambda m: value, places[other])
             answers = [(a, b, re.sub(pattern, lambda m: value, t)) for a, b, t in answers]
+    answers = cited(answers, bodies, answered, f)
     for old, new in answered.items():
         if old != new and old != "returns":
             answers = [(a, b, re.sub(r"(?<![\w.'-])" + re.escape(old) + r"(?= c(?![\w'-]))", new, t)) for a, b, t in answers]
@@ -507,6 +650,9 @@ def main():
         if only and path not in only:
             continue
         entry = names.get(f"Rattle-{crate}-proofs.{path}.Lts")
+        if entry is None and any(k.startswith(f"Rattle-{crate}-proofs.{path}.Lts-") for k in names):
+            turn_cycle(crate, folder, names)
+            continue
         if entry is None:
             print(f"hand: {folder}: no entry")
             continue

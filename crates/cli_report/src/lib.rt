@@ -6,9 +6,8 @@ mod progress;
 
 ghost use Rattle.std.specs.Prelude.{true, ◌≡◌, ◌≤◌, length};
 ghost use Rattle.limits.specs.Sizes.{max_heading, max_log_frame};
-ghost use Rattle.text.specs.HexTable.{HexTable};
 ghost use Rattle.season_count.specs.Counts.{UpTo};
-ghost use Rattle.season_count.specs.Loaded.{Sound, Ready};
+ghost use Rattle.season_count.specs.Loaded.{Sound, Remembered};
 ghost use Rattle.cli_report.specs.Counted.{NothingCounted, CountedRead, CountedOn};
 
 use cli_console::input;
@@ -17,7 +16,6 @@ use cli_show::Stream;
 use cli_show::console::Console;
 use season_count::lines::Ended;
 use table_load::Loaded;
-use text_hash::Seed;
 
 // How many of the first `to` bytes of a part are counted at once: its whole lines; or all, where it is the last part or no line ends in it.
 fn lines_end(part: &[u8], to: usize) -> usize
@@ -57,26 +55,21 @@ fn count_parts(
     starts: &[u16],
     holders: &[u8],
     n: usize,
-    keys: &[u64],
-    first: &[u16],
-    heads: &[u16],
-    links: &[u16],
-    seed: Seed,
     part: &mut [u8],
-    hex: &[u8; 256],
     line: &mut [u8],
     key: &mut [u8],
+    on: &mut [u8],
     counts: &mut [u64; limits::MAX_RULES],
     grid: &mut [[u64; 3]; 2],
 ) -> bool
     requires { Sound f.now users.now owners.now m starts.now holders.now n
-        × Ready seed f.now users.now m starts.now n keys.now first.now heads.now links.now × (max_heading ≤ length key.old)
-        × (max_log_frame ≤ length line.old) × UpTo 0 counts.old grid.old × HexTable hex.now }
+        × Remembered f.now users.now owners.now m starts.now holders.now n key.old 0 on.old × (max_heading ≤ length key.old)
+        × (max_log_frame ≤ length line.old) × UpTo 0 counts.old grid.old }
     ensures { result ≡ true → CountedRead f.now users.now owners.now m starts.now holders.now n
         counts.old grid.old counts.new grid.new }
 {
     let mut all = 0;
-    let mut last = season_count::heading::nobody();
+    let mut len = 0;
     let mut from = 0;
     let mut to = 0;
     // each part but the last has a line, so there are no more of them
@@ -97,26 +90,25 @@ fn count_parts(
             starts,
             holders,
             n,
-            keys,
-            first,
-            heads,
-            links,
-            seed,
             &part[..from],
             all,
-            hex,
             line,
             key,
-            last,
+            len,
+            on,
             counts,
             grid,
         );
-        let Ended::Lines { all: lines, asked } = e else {
+        let Ended::Lines {
+            all: lines,
+            len: head,
+        } = e
+        else {
             refuse(console, &part[..from], all, e);
             return false;
         };
         all = lines;
-        last = asked;
+        len = head;
         if to < part.len() {
             return true;
         }
@@ -148,17 +140,9 @@ fn count_file(
         return false;
     };
     let mut part = [0u8; cli_parts::ROOM];
-    let hex = text::byte::hex_table();
     let mut line = [0u8; limits::MAX_LOG_FRAME];
     let mut key = [0u8; limits::MAX_HEADING];
-    let mut keys = [0u64; limits::MAX_RULES];
-    let mut first = [0u16; rule_index::keys::BUCKETS];
-    let mut heads = [0u16; member_index::PLACES];
-    let mut links = [0u16; limits::MAX_MEMBERS];
-    let seed = text_hash::factors::start();
-    season_count::ready::make_ready(
-        f, users, m, starts, n, seed, &mut keys, &mut first, &mut heads, &mut links,
-    );
+    let mut on = [0u8; limits::MAX_RULES];
     count_parts(
         console,
         argument,
@@ -170,15 +154,10 @@ fn count_file(
         starts,
         holders,
         n,
-        &keys,
-        &first,
-        &heads,
-        &links,
-        seed,
         &mut part,
-        &hex,
         &mut line,
         &mut key,
+        &mut on,
         counts,
         grid,
     )
@@ -240,7 +219,7 @@ pub fn count(
 
 // Prints the report.
 fn print(console: &mut Console, counts: &[u64; limits::MAX_RULES], grid: [[u64; 3]; 2]) {
-    let mut out = [0u8; season_call::written::REPORT_ROOM];
+    let mut out = [0u8; limits::REPORT_LINES * season_call::written::LINE_ROOM];
     let n = season_call::written::write(counts, grid, &mut out);
     cli_show::first(console, &out, n);
 }

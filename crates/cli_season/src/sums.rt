@@ -5,11 +5,13 @@ ghost use Rattle.limits.specs.Sizes.{report_lines};
 use cli_console::input;
 use cli_show::console::Console;
 use cli_show::{Stream, WORD_ROOM};
-use season_call::written::REPORT_ROOM;
 use season_sum::Outcome;
 
-// Room for any report, and a byte more, so that a longer text is told from it.
-const TEXT_ROOM: usize = REPORT_ROOM + 1;
+// Room for the longest report.
+const MAX_REPORT: usize = limits::REPORT_LINES * season_sum::writing::MAX_FIGURE_LINE;
+
+// And for a byte more, so that a longer text is told from it.
+const TEXT_ROOM: usize = MAX_REPORT + 1;
 
 // As many bytes as a word has.
 const MAX_NAME: usize = WORD_ROOM;
@@ -104,7 +106,7 @@ pub fn run(console: &mut Console, words: usize) {
         }
         i += 1;
     }
-    let mut out = [0u8; REPORT_ROOM];
-    let n = season::writing::write(&sums, &mut out, 0);
+    let mut out = [0u8; MAX_REPORT];
+    let n = season_sum::writing::write(&sums, &mut out);
     cli_show::first(console, &out, n);
 }

@@ -32,8 +32,7 @@ pub fn write(console: &mut Console, digits: &[u8])
     requires { length digits.now ≤ 65536 }
 {
     let mut bytes = [0u8; MAX_BYTES];
-    let hex = text::byte::hex_table();
-    let l = table_line::read_line(digits, 0, &hex, &mut bytes, 0);
+    let l = table_line::read_line(digits, 0, &mut bytes, 0);
     match l {
         Line::Frame { len, next } => {
             write_bytes(console, &bytes[..cli_console::input::within(len, &bytes)]);

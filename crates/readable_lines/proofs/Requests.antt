@@ -20,7 +20,7 @@ use Rattle.request_log.specs.Request.{good_request}
 use Rattle.request_log.specs.Heading.{Head, heading, head_refusal, headed}
 use Rattle.request_log.specs.declared.Heading.{Heading}
 use Rattle.request_log.specs.declared.Heading.TheVariants as headings
-use Rattle.request_log.proofs.Headings.{no_heading_lem, bad_heading, bad_path, good_path_lem}
+use Rattle.request_log.proofs.Headings.{no_heading, bad_heading, bad_path, good_path_lem}
 use Rattle.path_read.specs.declared.reader.Stored.{Stored}
 use Rattle.path_read.specs.declared.reader.Stored.TheVariants.{To}
 use Rattle.readable_parts.specs.Parts.{shown, packed}
@@ -47,7 +47,7 @@ headed_at unread n o p e = let z : ◌≡◌ {A = ℕ} 0 1 = cc in absurd (omega
 module _ (f : Str) {r : Heading} (e : r ≡ headed (heading f 0)) where
   pub good_unread : r ≡ headings.Unread → false ≡ not (absent (good_request f))
   unfolding absent
-  good_unread g = rw (no_heading_lem f (headed_unread (heading f 0) (sym e ∙ g)))
+  good_unread g = rw (no_heading f (headed_unread (heading f 0) (sym e ∙ g)))
 
   module _ {n o p : ℕ} (g : r ≡ headings.At n o p) where
     pub good_refused : (n ≡ clear → ⊥) → false ≡ not (absent (good_request f))

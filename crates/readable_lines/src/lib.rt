@@ -34,8 +34,7 @@ fn show_line(log: bool, text: &[u8], from: usize, out: &mut [u8]) -> Stored
     ensures { Lays (shown_line_by (shown_for log)) text.now from out.old out.new result }
 {
     let mut frame = [0u8; limits::MAX_TABLE_BYTES];
-    let hex = text::byte::hex_table();
-    let l = table_line::read_line(text, from, &hex, &mut frame, 0);
+    let l = table_line::read_line(text, from, &mut frame, 0);
     let Line::Frame { len, next } = l else {
         return Stored::Unread;
     };

@@ -34,8 +34,7 @@ fn time(s: &[u8], at: usize, out: &mut [u8], to: usize) -> Stored
     // the digits with an LF, a hex line
     let mut digits = [b'\n'; 17];
     text::fill::copy(&s[at..], &mut digits, 0);
-    let hex = text::byte::hex_table();
-    let l = table_line::read_line(&digits, 0, &hex, out, to);
+    let l = table_line::read_line(&digits, 0, out, to);
     let Line::Frame { len, next } = l else {
         return Stored::Unread;
     };

@@ -210,9 +210,9 @@ module _ (f : List ℕ) where
   unfolding request_body heading ◌>>=◌ ret
   body_is = after_mode (byte f 0)
 
-  pub no_heading_lem : heading f 0 ≡ unread → good_request f ≡ none
+  pub no_heading : heading f 0 ≡ unread → good_request f ≡ none
   unfolding good_request framed_request whole unrefused
-  no_heading_lem e = rw (body_is, e)
+  no_heading e = rw (body_is, e)
 
   module _ (h : Head) (t : ℕ) (e : heading f 0 ≡ got h t) where
     -- by what the path reads as
@@ -264,7 +264,7 @@ pub good_parts : (f : List ℕ) (q : Request) → good_request f ≡ some q → 
 good_parts f q e = go (heading f 0) refl
   where
     go : (x : Parsed Head) → heading f 0 ≡ x → Good f q
-    go unread i = none_some (no_heading_lem f i) e
+    go unread i = none_some (no_heading f i) e
     go (got h t) i =
         by (eqb (head_refusal h) clear)
         (λ c. let c' : head_refusal h ≡ clear = eqb-true _ _ c in

@@ -2,4 +2,3 @@ pub mod Report
 pub mod Calls
 pub mod Total
 pub mod Parts
-pub mod Figures

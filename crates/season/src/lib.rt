@@ -2,8 +2,6 @@
 
 // The season report: how often each rule of a table decided over a log, and a grid of modes against outcomes.
 
-pub mod writing;
-
 // The answer of the report.
 #[derive(Clone, Copy)]
 pub enum Reported {

@@ -3,8 +3,8 @@ use Prim.Native.Nat.{ℕ, zero, suc, ◌≤◌}
 use native.Mathlib.Omega.{arith}
 use mathlib.Core.Path.{◌≡◌, refl, ap, subst}
 use mathlib.Core.List.{List, [], ◌++◌}
-use lib.ListN.{take, get_or, replicate}
-use Rattle.limits.specs.Limits.{max_rules, max_members}
+use lib.ListN.{length, take, get_or, replicate}
+use Rattle.limits.specs.Limits.{max_rules}
 use Rattle.text.specs.Test.{only}
 use Rattle.text.specs.String.{Str, joined}
 use Rattle.table.specs.Text.{check, table_of}
@@ -20,16 +20,11 @@ use Rattle.table.specs.Table.{Table}
 use Rattle.verdict_call.proofs.Holding.{safe, holding}
 use Rattle.request_log.specs.Log.{check_log, log_of}
 use Rattle.season.specs.Report.{count, for_each, rule_count, rule_counts, cell, row, grid, figures, figure_line, report}
-use Rattle.season.specs.Figures.{report_text}
 use Rattle.season.specs.Calls.{first_fault, fault, report_of, answered, stored, season_answer, season_lent}
 use Rattle.season.specs.declared.Reported.{Reported}
 use Rattle.season.specs.declared.Reported.TheVariants.{Refused}
 use Rattle.season_count.specs.Counts.{cell_of, UpTo}
-use Rattle.text_hash.specs.declared.Seed.{Seed}
-use Rattle.member_index.specs.Index.{Unlinked}
-use Rattle.rule_index.proofs.Zeros.{zeros_low}
-use Rattle.season_count.specs.Loaded.{no_heading, Sound, Is, Remembered}
-use Rattle.season_count.specs.declared.heading.Asked.{Asked}
+use Rattle.season_count.specs.Loaded.{Sound, Is, Remembered}
 use Rattle.season_count.specs.Counting.{CountsOf, Counts-lines}
 use Rattle.season_count.specs.declared.lines.Ended.{Ended}
 use Rattle.season_count.specs.declared.lines.Ended.TheVariants as ended
@@ -41,7 +36,7 @@ use Rattle.season_call.specs.Written.{cells_in, hands_out, left_in}
 
 module _ {text buf : List ℕ} {u : ℕ} {c : Counts} {groups users owners starts holders : List ℕ} (K : Kept text buf u c groups users owners starts holders) where
   pub sound : Sound (take u buf) users owners c.members starts holders c.rules
-  sound = record { members = count_requires K; few = K.holds.few.1; rules = safe K }
+  sound = record { members = count_requires K; rules = safe K }
 
   pub is_table : Is (take u buf) users owners c.members starts holders c.rules (table_of text)
   is_table = record { holding = holding K; groups = grouped K }
@@ -49,11 +44,11 @@ module _ {text buf : List ℕ} {u : ℕ} {c : Counts} {groups users owners start
 -- ---- a whole log
 
 module _ (f users owners : List ℕ) (m : ℕ) (starts holders : List ℕ) (n : ℕ) (log : Str) (counts : List ℕ) (cells : List (List ℕ))
-    (seed : Seed) (key counts' : List ℕ) (cells' : List (List ℕ)) where
-  pub whole_log : (e : Ended) → Counts-lines seed f users owners m starts holders n log 0 counts cells key counts' cells' e
+    (key on counts' : List ℕ) (cells' : List (List ℕ)) where
+  pub whole_log : (e : Ended) → Counts-lines f users owners m starts holders n log 0 counts cells key on counts' cells' e
       → CountsLog f users owners m starts holders n log counts cells counts' cells' e
   unfolding Counts-lines CountsLog check_log log_of
-  whole_log (ended.Lines all asked) L = record { accepted = L.accepted; counts_are = λ t is c. L.counts_are t is [] c }
+  whole_log (ended.Lines all len) L = record { accepted = L.accepted; counts_are = λ t is c. L.counts_are t is [] c }
   whole_log (ended.Refused number line) L = L
 
 module _ (f users owners : List ℕ) (m : ℕ) (starts holders : List ℕ) (n : ℕ) (log : Str) (counts : List ℕ) (cells : List (List ℕ))
@@ -62,9 +57,9 @@ module _ (f users owners : List ℕ) (m : ℕ) (starts holders : List ℕ) (n : 
   unfolding CountsLog
   log_refused number line i = subst (λ (x : Ended). CountsLog f users owners m starts holders n log counts cells counts' cells' x) i C
 
-  pub log_counted : (all : ℕ) (asked : Asked) → e ≡ ended.Lines all asked → CountedLog f users owners m starts holders n log counts cells counts' cells'
+  pub log_counted : (all len : ℕ) → e ≡ ended.Lines all len → CountedLog f users owners m starts holders n log counts cells counts' cells'
   unfolding CountsLog
-  log_counted all asked i = subst (λ (x : Ended). CountsLog f users owners m starts holders n log counts cells counts' cells' x) i C
+  log_counted all len i = subst (λ (x : Ended). CountsLog f users owners m starts holders n log counts cells counts' cells' x) i C
 
 -- ---- the call
 
@@ -73,8 +68,8 @@ module _ (t : Table) (qs : List Request) (counts : List ℕ) (cells : List (List
   unfolding figures grid row
   figures_are = rw (c.rules, c.rows)
 
-  pub report_is : report t qs ≡ report_text (counts ++ cells_in cells)
-  unfolding report report_text
+  pub report_is : report t qs ≡ joined figure_line (counts ++ cells_in cells)
+  unfolding report
   report_is = ap (joined figure_line) figures_are
 
 module _ (table log out : Str) where
@@ -98,13 +93,15 @@ module _ (l : Loaded) (n k : ℕ) (e : l ≡ loaded.Refused n k) where
   unfolding refused_by
   refused_as = rw e
 
-pub nothing_remembered : (seed : Seed) (f users owners : List ℕ) (m : ℕ) (key : List ℕ) (a : Asked) → a ≡ no_heading → Remembered seed f users owners m key a
-nothing_remembered seed f users owners m key a e = rw e (record { within = omega arith; head = λ l. absurd (omega arith) })
+pub nothing_remembered : (f users owners : List ℕ) (m : ℕ) (starts holders : List ℕ) (n : ℕ) (key on : List ℕ) → n ≤ length on → Remembered f users owners m starts holders n key 0 on
+nothing_remembered f users owners m starts holders n key on h = record { within = omega arith; marks = h; head = λ l. absurd (omega arith) }
 
 -- ---- before the first line
 
-pub unlinked : Unlinked (replicate max_members 0)
-unlinked b l = omega (arith, zeros_low max_members b)
+zeros_low : (n i : ℕ) → get_or (replicate n 0) i 0 ≤ 0
+zeros_low zero i = omega arith
+zeros_low (suc n) zero = omega arith
+zeros_low (suc n) (suc i) = zeros_low n i
 
 row_low : (c : ℕ) → get_or (replicate 3 0) c 0 ≤ 0
 row_low c = zeros_low 3 c

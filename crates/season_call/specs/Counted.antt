@@ -16,6 +16,6 @@ pub record CountedLog (f users owners : List ℕ) (m : ℕ) (starts holders : Li
   pub counts_are : (t : Table) → Is f users owners m starts holders n t → CountsOf t [] counts cells → CountsOf t (log_of log) counts' cells'
 
 unfoldable pub CountsLog : List ℕ → List ℕ → List ℕ → ℕ → List ℕ → List ℕ → ℕ → Str → List ℕ → List (List ℕ) → List ℕ → List (List ℕ) → Ended → Type 0
-CountsLog f users owners m starts holders n log counts cells counts' cells' (Lines all asked) =
+CountsLog f users owners m starts holders n log counts cells counts' cells' (Lines all len) =
     CountedLog f users owners m starts holders n log counts cells counts' cells'
 CountsLog f users owners m starts holders n log counts cells counts' cells' (Refused number line) = check_log log ≡ checked.Refused number line

@@ -1,17 +1,29 @@
 -- What the programs that make the text of a report answer.
-use Rattle.std.specs.Prelude.{ℕ, List, [], ◌++◌, get_or}
+use Rattle.std.specs.Prelude.{ℕ, ◌*◌, ◌≤◌, List, [], ◌∷◌, length}
+use Rattle.text.specs.String.{joined}
+use Rattle.text_make.specs.Added.{Added}
 use Rattle.table.specs.declared.Checked.TheVariants.{Accepted}
-use Rattle.season.specs.Figures.{report_text}
+use Rattle.season.specs.Report.{figure_line}
 use Rattle.season.specs.Calls.{answered, stored}
 use Rattle.season.specs.declared.Reported.{Reported}
+use Rattle.season_count.specs.Counts.{cell_of}
 
--- the cells of the two rows
+-- room for the line of any number of 64 bits
+abbrev pub line_room : ℕ
+line_room = 21
+
+-- these figures were written, a line for each
+pub record FiguresWritten (d figures d' : List ℕ) (end : ℕ) : Type 0 where
+  pub added : Added d 0 (joined figure_line figures) d' end
+  pub short : end ≤ length figures * line_room
+
+-- the six cells, row after row
 abbrev pub cells_in : List (List ℕ) → List ℕ
-cells_in g = get_or g 0 [] ++ get_or g 1 []
+cells_in g = cell_of g 0 0 ∷ cell_of g 0 1 ∷ cell_of g 0 2 ∷ cell_of g 1 0 ∷ cell_of g 1 1 ∷ cell_of g 1 2 ∷ []
 
 -- the text of these figures, where it fits
 abbrev pub hands_out : List ℕ → List ℕ → Reported
-hands_out figures out = answered Accepted (report_text figures) out
+hands_out figures out = answered Accepted (joined figure_line figures) out
 
 abbrev pub left_in : List ℕ → List ℕ → List ℕ
-left_in figures out = stored Accepted (report_text figures) out
+left_in figures out = stored Accepted (joined figure_line figures) out

@@ -44,21 +44,12 @@ fn count_log(
     ensures { CountsLog f.now users.now owners.now m starts.now holders.now n
         log.now counts.old grid.old counts.new grid.new result }
 {
-    let hex = text::byte::hex_table();
     let mut line = [0u8; limits::MAX_LOG_FRAME];
     let mut key = [0u8; limits::MAX_HEADING];
-    let mut keys = [0u64; limits::MAX_RULES];
-    let mut first = [0u16; rule_index::keys::BUCKETS];
-    let mut heads = [0u16; member_index::PLACES];
-    let mut links = [0u16; limits::MAX_MEMBERS];
-    let seed = text_hash::factors::start();
-    season_count::ready::make_ready(
-        f, users, m, starts, n, seed, &mut keys, &mut first, &mut heads, &mut links,
-    );
-    let nobody = season_count::heading::nobody();
+    let mut on = [0u8; limits::MAX_RULES];
     season_count::lines::count_lines(
-        f, users, owners, m, starts, holders, n, &keys, &first, &heads, &links, seed, log, 0, &hex,
-        &mut line, &mut key, nobody, counts, grid,
+        f, users, owners, m, starts, holders, n, log, 0, &mut line, &mut key, 0, &mut on, counts,
+        grid,
     )
 }
 

@@ -1,6 +1,5 @@
 pub mod Raising
 pub mod Runs
-pub mod Deciding
 pub mod Judging
 pub mod Windows
 pub mod Lining

@@ -8,7 +8,6 @@ use lib.ListN.{length, take, drop, get_or, length-drop}
 use lib.Seq.{get_or-take}
 use Rattle.limits.specs.Sizes.{max_log_frame}
 use Rattle.text.specs.String.{Str}
-use Rattle.text_hash.specs.declared.Seed.{Seed}
 use Rattle.text.specs.Fill.{put}
 use Rattle.text.proofs.Filling.{put_length, put_take}
 use Rattle.table_line.specs.Lines.{lines}
@@ -20,23 +19,21 @@ use Rattle.request_log.specs.Request.{good_request, request_of}
 use Rattle.season_count.specs.Counts.{raised_by, cell_raised_by}
 use Rattle.season_count.specs.Loaded.{Answers, Judges}
 use Rattle.season_count.specs.Counting.{Reaches, BadLine, CountedLine}
-use Rattle.season_count.specs.declared.heading.Asked.{Asked}
 use Rattle.season_count.specs.declared.heading.Judged.{Judged}
 use Rattle.season_count.specs.declared.heading.Judged.TheVariants.{Bad, Answer}
 use Rattle.season_count.proofs.Raising.{rules_raised, cell_raised_lem, still_low}
-use Rattle.season_count.proofs.Windows.{line_room, next_within, first_line_lem, request_frame}
+use Rattle.season_count.proofs.Windows.{line_room_lem, next_within, first_line_lem, request_frame}
 
 -- ---- what `judge` tells
 
-module _ (seed : Seed) (f users owners : List ℕ) (m : ℕ) (starts holders : List ℕ) (n : ℕ) (frame key : List ℕ) (j : Judged)
-    (J : Judges seed f users owners m starts holders n frame key j) where
+module _ (f users owners : List ℕ) (m : ℕ) (starts holders : List ℕ) (n : ℕ) (frame key on : List ℕ) (j : Judged) (J : Judges f users owners m starts holders n frame key on j) where
   pub judged_bad : j ≡ Bad → good_request frame ≡ none
   unfolding Judges
-  judged_bad e = subst (λ (x : Judged). Judges seed f users owners m starts holders n frame key x) e J
+  judged_bad e = subst (λ (x : Judged). Judges f users owners m starts holders n frame key on x) e J
 
-  pub judged_answer : (asked : Asked) (a : PathAnswer) → j ≡ Answer asked a → Answers seed f users owners m starts holders n frame key asked a
+  pub judged_answer : (len : ℕ) (a : PathAnswer) → j ≡ Answer len a → Answers f users owners m starts holders n frame key len on a
   unfolding Judges
-  judged_answer asked a e = subst (λ (x : Judged). Judges seed f users owners m starts holders n frame key x) e J
+  judged_answer len a e = subst (λ (x : Judged). Judges f users owners m starts holders n frame key on x) e J
 
 -- ---- the line, decoded
 
@@ -47,7 +44,7 @@ module _ (text : Str) (from to : ℕ) (h : from < length text) (r : Reaches from
 
   fits : 0 + length decoded ≤ length line
   fits =
-      omega (arith, digits_half (drop from (take to text)), length-drop from (take to text), line_room text from to h r (length line) room)
+      omega (arith, digits_half (drop from (take to text)), length-drop from (take to text), line_room_lem text from to h r (length line) room)
 
   pub line_long : length line' ≡ length line
   line_long = ap length w ∙ put_length line 0 decoded fits
@@ -73,13 +70,13 @@ module _ (text : Str) (from to : ℕ) (h : from < length text) (r : Reaches from
     pub first_of : get_or line' 0 0 ≡ get_or (take len line') 0 0
     first_of = sym (get_or-take len line' 0 0 g.some')
 
-    module _ (seed : Seed) (f users owners : List ℕ) (m : ℕ) (starts holders : List ℕ) (n : ℕ) (key : List ℕ) (asked : Asked) (a : PathAnswer)
-        (A : Answers seed f users owners m starts holders n (take len line') key asked a) where
+    module _ (f users owners : List ℕ) (m : ℕ) (starts holders : List ℕ) (n : ℕ) (key : List ℕ) (path : ℕ) (on : List ℕ) (a : PathAnswer)
+        (A : Answers f users owners m starts holders n (take len line') key path on a) where
       pub mode_fits : (1 ≤ get_or line' 0 0) × (get_or line' 0 0 ≤ 2)
       mode_fits = rw first_of A.mode
 
       pub counted_line : (counts counts' : List ℕ) (cells cells' : List (List ℕ)) → counts' ≡ raised_by counts a → cells' ≡ cell_raised_by cells (get_or line' 0 0) a
-          → CountedLine seed f users owners m starts holders n text from counts cells next key asked counts' cells'
+          → CountedLine f users owners m starts holders n text from counts cells next key path on counts' cells'
       counted_line counts counts' cells cells' c d =
           let goes = g.goes in
           record {

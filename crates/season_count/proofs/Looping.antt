@@ -11,7 +11,6 @@ use lib.Seq.{drop-length}
 use Rattle.limits.specs.Limits.{max_log_lines}
 use Rattle.text.specs.Test.{if◌then◌else◌, absent}
 use Rattle.text.specs.String.{Str}
-use Rattle.text_hash.specs.declared.Seed.{Seed}
 use Rattle.table_line.specs.Lines.{lines}
 use Rattle.table_line.proofs.FirstLine.{lines_cons}
 use Rattle.table.specs.Table.{Table}
@@ -22,7 +21,6 @@ use Rattle.request_log.specs.Log.{judge_log, before, requests_of}
 use Rattle.season_count.specs.Counts.{UpTo}
 use Rattle.season_count.specs.Loaded.{Is, Remembered}
 use Rattle.season_count.specs.Counting.{CountsOf, BadLine, CountedLine, CountedLines, Counts-line}
-use Rattle.season_count.specs.declared.heading.Asked.{Asked}
 use Rattle.season_count.specs.declared.lines.Step.{Step}
 use Rattle.season_count.specs.declared.lines.Step.TheVariants.{To, Bad}
 
@@ -67,19 +65,19 @@ no_lines = refl
 
 -- ---- what the loop keeps
 
-module _ (seed : Seed) (f users owners : List ℕ) (m : ℕ) (starts holders : List ℕ) (n : ℕ) (text : Str) (first : ℕ) (counts : List ℕ) (cells : List (List ℕ)) where
+module _ (f users owners : List ℕ) (m : ℕ) (starts holders : List ℕ) (n : ℕ) (text : Str) (first : ℕ) (counts : List ℕ) (cells : List (List ℕ)) where
   -- what is said of a step, by its answer
-  module _ (from : ℕ) (key counts' : List ℕ) (cells' : List (List ℕ)) (s : Step)
-      (S : Counts-line seed f users owners m starts holders n text from counts cells key counts' cells' s) where
+  module _ (from : ℕ) (key on counts' : List ℕ) (cells' : List (List ℕ)) (s : Step)
+      (S : Counts-line f users owners m starts holders n text from counts cells key on counts' cells' s) where
     pub step_bad : s ≡ Bad → BadLine text from
     unfolding Counts-line
-    step_bad e = subst (λ (x : Step). Counts-line seed f users owners m starts holders n text from counts cells key counts' cells' x) e S
+    step_bad e = subst (λ (x : Step). Counts-line f users owners m starts holders n text from counts cells key on counts' cells' x) e S
 
-    pub step_to : (next : ℕ) (asked : Asked) → s ≡ To next asked → CountedLine seed f users owners m starts holders n text from counts cells next key asked counts' cells'
+    pub step_to : (next len : ℕ) → s ≡ To next len → CountedLine f users owners m starts holders n text from counts cells next key len on counts' cells'
     unfolding Counts-line
-    step_to next asked e = subst (λ (x : Step). Counts-line seed f users owners m starts holders n text from counts cells key counts' cells' x) e S
+    step_to next len e = subst (λ (x : Step). Counts-line f users owners m starts holders n text from counts cells key on counts' cells' x) e S
 
-  pub record Going (all from : ℕ) (key : List ℕ) (asked : Asked) (counts' : List ℕ) (cells' : List (List ℕ)) : Type 0 where
+  pub record Going (all from : ℕ) (key : List ℕ) (len : ℕ) (on counts' : List ℕ) (cells' : List (List ℕ)) : Type 0 where
     pub done : List Str
     pub split : lines text ≡ done ++ lines (drop from text)
     pub judged : judge_log (first + 1) (lines text) ≡ judge_log (all + 1) (lines (drop from text))
@@ -87,12 +85,12 @@ module _ (seed : Seed) (f users owners : List ℕ) (m : ℕ) (starts holders : L
     pub few : all ≤ max_log_lines
     pub within : from ≤ length text
     pub low : UpTo all counts' cells'
-    pub kept : Remembered seed f users owners m key asked
+    pub kept : Remembered f users owners m starts holders n key len on
     pub counts_are : (t : Table) → Is f users owners m starts holders n t → (qs : List Request) → CountsOf t qs counts cells
         → CountsOf t (qs ++ requests_of done) counts' cells'
 
-  pub going_starts : {key : List ℕ} {asked : Asked} → first ≤ max_log_lines → UpTo first counts cells → Remembered seed f users owners m key asked
-      → Going first 0 key asked counts cells
+  pub going_starts : {key : List ℕ} {len : ℕ} {on : List ℕ} → first ≤ max_log_lines → UpTo first counts cells → Remembered f users owners m starts holders n key len on
+      → Going first 0 key len on counts cells
   going_starts few low kept =
       record {
         done = [];
@@ -106,7 +104,7 @@ module _ (seed : Seed) (f users owners : List ℕ) (m : ℕ) (starts holders : L
         counts_are = λ t is qs c. rw (requests_none, append-nil qs) c;
       }
 
-  module _ {all from : ℕ} {key : List ℕ} {asked : Asked} {counts' : List ℕ} {cells' : List (List ℕ)} (G : Going all from key asked counts' cells') where
+  module _ {all from : ℕ} {key : List ℕ} {len : ℕ} {on counts' : List ℕ} {cells' : List (List ℕ)} (G : Going all from key len on counts' cells') where
     pub going_over : from < length text → max_log_lines ≤ all → judge_log (first + 1) (lines text) ≡ Refused 50 0
     going_over h l =
         let c = lines_cons (drop from text) (omega (arith, length-drop from text)) in
@@ -115,8 +113,8 @@ module _ (seed : Seed) (f users owners : List ℕ) (m : ℕ) (starts holders : L
     pub going_bad : all < max_log_lines → BadLine text from → judge_log (first + 1) (lines text) ≡ Refused 51 (all + 1)
     going_bad l b = G.judged ∙ ap (judge_log (all + 1)) b.first ∙ judge_bad (all + 1) b.line b.others (omega arith) b.bad
 
-    pub going_on : all < max_log_lines → {next : ℕ} {key'' : List ℕ} {asked'' : Asked} {counts'' : List ℕ} {cells'' : List (List ℕ)}
-        → CountedLine seed f users owners m starts holders n text from counts' cells' next key'' asked'' counts'' cells'' → Going (all + 1) next key'' asked'' counts'' cells''
+    pub going_on : all < max_log_lines → {next : ℕ} {key'' : List ℕ} {len'' : ℕ} {on'' counts'' : List ℕ} {cells'' : List (List ℕ)}
+        → CountedLine f users owners m starts holders n text from counts' cells' next key'' len'' on'' counts'' cells'' → Going (all + 1) next key'' len'' on'' counts'' cells''
     going_on l {next} S =
         record {
           done = G.done ++ (S.line ∷ []);
@@ -132,7 +130,7 @@ module _ (seed : Seed) (f users owners : List ℕ) (m : ℕ) (starts holders : L
               (S.counts_are t is (qs ++ requests_of G.done) (G.counts_are t is qs c));
         }
 
-    pub going_ends : length text ≤ from → CountedLines seed f users owners m starts holders n text first counts cells all key asked counts' cells'
+    pub going_ends : length text ≤ from → CountedLines f users owners m starts holders n text first counts cells all key len on counts' cells'
     going_ends h =
         let w = G.within in
         let e : from ≡ length text = omega arith in

@@ -19,15 +19,12 @@ use Rattle.text.proofs.Filling.{put_length}
 use Rattle.text.proofs.Tests.{and_l, and_r, same→≡}
 use Rattle.text_affix.specs.Affix.{begins}
 use Rattle.table_membership.specs.Set.{set_in}
-use Rattle.text_hash.specs.Mix.{place_of}
-use Rattle.text_hash.specs.declared.Seed.{Seed}
-use Rattle.member_index.specs.Index.{places}
+use Rattle.verdict_concern.specs.Concern.{Applying}
 use Rattle.request_log.specs.Request.{good_request}
 use Rattle.request_log.specs.Heading.{head_bytes, head_refusal}
 use Rattle.request_log.proofs.Headings.{head_in, HeadAt}
 use Rattle.request_log.proofs.Lengths.{heading_there, heading_length, heading_front, short_heading}
-use Rattle.season_count.specs.Loaded.{no_heading, Knows, Remembered, Headed}
-use Rattle.season_count.specs.declared.heading.Asked.{Asked}
+use Rattle.season_count.specs.Loaded.{Remembered, Headed}
 
 begins_front : (p v : Str) → begins p v ≡ true → v ≡ p ++ drop (length p) v
 unfolding begins
@@ -47,27 +44,28 @@ module _ {frame : List ℕ} {number o p : ℕ} (a : HeadAt frame number o p) (c 
   pub key_long : (key key' : List ℕ) → max_heading ≤ length key → key' ≡ put key 0 (take p frame) → length key' ≡ length key
   key_long key key' r w = ap length w ∙ put_length key 0 (take p frame) (key_room key r)
 
-module _ {seed : Seed} {f users owners : List ℕ} {m : ℕ} where
+module _ {f users owners : List ℕ} {m : ℕ} {starts holders : List ℕ} {n : ℕ} where
   -- the frame has no good heading, and none is remembered any more
-  pub forgotten : (key : List ℕ) (frame : List ℕ) (r : Asked) → r ≡ no_heading → good_request frame ≡ none → Headed seed f users owners m frame key r
-  forgotten key frame r z e =
-      rw z (record { kept = record { within = omega arith; head = λ l. absurd (omega arith) }; bad = λ z. e; good = λ l. absurd (omega arith) })
+  pub forgotten : {key on : List ℕ} {len : ℕ} → Remembered f users owners m starts holders n key len on → (frame : List ℕ) → good_request frame ≡ none
+      → Headed f users owners m starts holders n frame key on 0
+  forgotten k frame e =
+      record { kept = record { within = omega arith; marks = k.marks; head = λ l. absurd (omega arith) }; bad = λ z. e; good = λ l. absurd (omega arith) }
 
   -- the frame has the heading that is remembered
-  module _ {key : List ℕ} {a : Asked} (k : Remembered seed f users owners m key a) (frame : List ℕ)
-      (e : (ltb 0 (length (take a.path key)) and begins (take a.path key) frame) ≡ true) where
-    front_long : length (take a.path key) ≡ a.path
-    front_long = length-take-le a.path key k.within
+  module _ {key on : List ℕ} {len : ℕ} (k : Remembered f users owners m starts holders n key len on) (frame : List ℕ)
+      (e : (ltb 0 (length (take len key)) and begins (take len key) frame) ≡ true) where
+    front_long : length (take len key) ≡ len
+    front_long = length-take-le len key k.within
 
-    some_front : 0 < a.path
-    some_front = omega (arith, front_long, ltb-true 0 (length (take a.path key)) (and_l _ _ e))
+    some_front : 0 < len
+    some_front = omega (arith, front_long, ltb-true 0 (length (take len key)) (and_l _ _ e))
 
-    pub again : Headed seed f users owners m frame key a
+    pub again : Headed f users owners m starts holders n frame key on len
     again =
         let h = k.head some_front in
-        let b : frame ≡ head_bytes h.0 ++ drop (length (take a.path key)) frame =
-        begins_front (take a.path key) frame (and_r _ _ e) ∙ ap (λ (s : Str). s ++ drop (length (take a.path key)) frame) h.1 in
-        let l : length (head_bytes h.0) ≡ a.path = sym (ap length h.1) ∙ front_long in
+        let b : frame ≡ head_bytes h.0 ++ drop (length (take len key)) frame =
+        begins_front (take len key) frame (and_r _ _ e) ∙ ap (λ (s : Str). s ++ drop (length (take len key)) frame) h.1 in
+        let l : length (head_bytes h.0) ≡ len = sym (ap length h.1) ∙ front_long in
         let z = some_front in
         record {
           kept = k;
@@ -76,19 +74,20 @@ module _ {seed : Seed} {f users owners : List ℕ} {m : ℕ} where
         }
 
 -- the other heading is remembered now
-module _ (seed : Seed) (f users owners : List ℕ) (m : ℕ) {frame : List ℕ} {number o p : ℕ} (a : HeadAt frame number o p) (c : number ≡ clear) where
-  pub turned : (key key' : List ℕ) → key' ≡ put key 0 (take p frame) → (set place mode : ℕ) → set ≡ set_in (part frame 2 o) f users owners m 0 0
-      → place ≡ place_of seed places (part frame 2 o) → mode ≡ get_or frame 0 0
-      → Headed seed f users owners m frame key' (record { path = p; set = set; place = place; mode = mode })
+module _ (f users owners : List ℕ) (m : ℕ) (starts holders : List ℕ) (n : ℕ) {frame : List ℕ} {number o p : ℕ} (a : HeadAt frame number o p) (c : number ≡ clear) where
+  pub turned : (key key' on' : List ℕ) → n ≤ length on' → key' ≡ put key 0 (take p frame) → (set : ℕ)
+      → set ≡ set_in (part frame 2 o) f users owners m 0 0
+      → Applying f starts holders n set (part frame 2 o) (get_or frame 0 0) (part frame (o + 1) p) on'
+      → Headed f users owners m starts holders n frame key' on' p
   unfolding put
-  turned key key' w set place mode es ep em =
+  turned key key' on' l w set s g =
       let t : length (take p frame) ≡ p = length-take-le p frame a.within in
       let x : take p key' ≡ take p frame = ap (take p) w ∙ take_at (take p frame) _ p t in
       let y : p ≤ length key' = omega (arith, ap length w, length-append (take p frame) (drop (0 + length (take p frame)) key)) in
-      let known : Knows seed f users owners m (head_in frame o p) (record { path = p; set = set; place = place; mode = mode }) = record { set = es; place = ep; mode = em } in
+      let on-is = rw s at g in
       let z = a.origin_ends in
       record {
-        kept = record { within = y; head = λ q. (head_in frame o p, x ∙ heading_front frame (head_in frame o p) p a.reads, good_head a c, known) };
+        kept = record { within = y; marks = l; head = λ q. (head_in frame o p, x ∙ heading_front frame (head_in frame o p) p a.reads, good_head a c, on-is) };
         bad = λ q. absurd (omega arith);
-        good = λ q. (head_in frame o p, a.reads, good_head a c, known);
+        good = λ q. (head_in frame o p, a.reads, good_head a c, on-is);
       }

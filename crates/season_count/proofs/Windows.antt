@@ -154,8 +154,8 @@ module _ (text : Str) (from to : ℕ) (h : from < length text) (r : Reaches from
   pub from_within : from ≤ length (take to text)
   from_within = omega (arith, from_below)
 
-  pub line_room : (room : ℕ) → max_log_frame ≤ room → 0 + (length (take to text) - from) / 2 ≤ room
-  line_room room m = let n = r.near in omega (arith, part_long)
+  pub line_room_lem : (room : ℕ) → max_log_frame ≤ room → 0 + (length (take to text) - from) / 2 ≤ room
+  line_room_lem room m = let n = r.near in omega (arith, part_long)
 
   split : drop from text ≡ drop from (take to text) ++ drop to text
   split = ap (drop from) (sym (take-append-drop to text)) ∙ drop-append-le from (take to text) (drop to text) from_within

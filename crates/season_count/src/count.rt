@@ -1,6 +1,6 @@
 // The counts of a report: one for each rule, and a grid of two rows and three columns.
 ghost use Rattle.std.specs.Prelude.{◌≡◌, get_or};
-ghost use Prim.Native.Nat.{◌-◌, ◌≤◌, ◌<◌};
+ghost use Prim.Native.Nat.{◌≤◌, ◌<◌};
 ghost use Rattle.limits.specs.Limits.{max_rules, max_log_lines};
 ghost use Rattle.season_count.specs.Counts.{raised, cell_of, raised_by, column_of, cell_raised_by, Placed};
 
@@ -44,22 +44,12 @@ fn column(a: PathAnswer) -> usize
     }
 }
 
-fn row(mode: u8) -> usize
-    requires { (1 ≤ mode) × (mode ≤ 2) }
-    ensures { result ≡ mode - 1 }
-{
-    if mode == table::MODE_READ {
-        return 0;
-    }
-    1
-}
-
 // One cell is raised, in the row of the mode.
 pub fn count_cell(grid: &mut [[u64; 3]; 2], mode: u8, a: PathAnswer)
     requires { (1 ≤ mode) × (mode ≤ 2) × ((r c : Prim.Native.Nat.ℕ) → cell_of grid.old r c ≤ max_log_lines) }
     ensures { grid.new ≡ cell_raised_by grid.old mode a }
 {
-    let i = row(mode);
-    let j = column(a);
-    grid[i][j] += 1;
+    let row = mode as usize - 1;
+    let place = column(a);
+    grid[row][place] += 1;
 }

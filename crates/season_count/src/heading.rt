@@ -1,44 +1,20 @@
-// The answer to the request of a frame. f, `users`, `owners`, `starts` and `holders` are those of a loaded table; `keys` and `first` are the index of its rules
-// by the seed, `heads` and `links` that of its members. Lines of one heading come in runs: the heading of the line before is remembered in `key`, and who asks.
+// The answer to the request of a frame. f, `users`, `owners`, `starts` and `holders` are those of a loaded table. Lines of one heading come in
+// runs: the heading of the line before is remembered in `key`, and which rules concern it in `on`.
 ghost use Rattle.std.specs.Prelude.{◌≡◌, ◌≤◌, length, ltb};
 ghost use Rattle.limits.specs.Sizes.{max_heading};
 ghost use Rattle.text.specs.Test.{◌and◌};
 ghost use Rattle.text_affix.specs.Affix.{begins};
-ghost use Rattle.season_count.specs.Loaded.{no_heading, Sound, Ready, Remembered, Headed, Judges};
+ghost use Rattle.season_count.specs.Loaded.{Sound, Remembered, Headed, Judges};
 
 use request_log::Heading;
-use rule_index::scan::Asker;
-use text_hash::Seed;
 use verdict_request::PathAnswer;
-
-// A heading: how many bytes it has, which is where the path starts (0 where there is none); the set of the user's groups, the place of his name, and the
-// mode.
-#[derive(Clone, Copy)]
-pub struct Asked {
-    pub path: usize,
-    pub set: u64,
-    pub place: usize,
-    pub mode: u32,
-}
-
-// None.
-pub fn nobody() -> Asked
-    ensures { result ≡ no_heading }
-{
-    Asked {
-        path: 0,
-        set: 0,
-        place: 0,
-        mode: 0,
-    }
-}
 
 #[derive(Clone, Copy)]
 pub enum Judged {
     // The frame holds no good request.
     Bad,
-    // Its heading, and the answer.
-    Answer { asked: Asked, answer: PathAnswer },
+    // Its heading has so many bytes, and this is the answer.
+    Answer { len: usize, answer: PathAnswer },
 }
 
 // Whether there is a heading that is remembered, and the frame starts with it.
@@ -51,7 +27,7 @@ fn is_remembered(frame: &[u8], key: &[u8]) -> bool
     text_affix::starts_with(key, frame)
 }
 
-// The heading of the frame, where it is good. `last` is that of the line before.
+// Where the path of the frame starts, after a good heading; else 0.
 fn turn_to(
     f: &[u8],
     users: &[u16],
@@ -60,24 +36,19 @@ fn turn_to(
     starts: &[u16],
     holders: &[u8],
     n: usize,
-    keys: &[u64],
-    first: &[u16],
-    heads: &[u16],
-    links: &[u16],
-    seed: Seed,
     frame: &[u8],
     key: &mut [u8],
-    last: Asked,
-) -> Asked
+    len: usize,
+    on: &mut [u8],
+) -> usize
     requires { Sound f.now users.now owners.now m starts.now holders.now n
-        × Ready seed f.now users.now m starts.now n keys.now first.now heads.now links.now
-        × Remembered seed f.now users.now owners.now m key.old last × (max_heading ≤ length key.old) }
-    ensures headed { Headed seed f.now users.now owners.now m frame.now key.new result }
+        × Remembered f.now users.now owners.now m starts.now holders.now n key.old len on.old × (max_heading ≤ length key.old) }
+    ensures headed { Headed f.now users.now owners.now m starts.now holders.now n
+        frame.now key.new on.new result }
     ensures key_len_unchanged { length key.new ≡ length key.old }
 {
-    let len = last.path;
     if is_remembered(frame, &key[..len]) {
-        return last;
+        return len;
     }
     let h = request_log::read_heading(frame);
     let Heading::At {
@@ -86,21 +57,27 @@ fn turn_to(
         path,
     } = h
     else {
-        return nobody();
+        return 0;
     };
     if number != limits::CLEAR {
-        return nobody();
+        return 0;
     }
+    let start = origin + 1;
     let user = &frame[2..origin];
-    let place = text_hash::place(seed, member_index::PLACES, user);
-    let set = member_index::memberships(f, users, owners, m, heads, links, seed, place, user);
+    let set = table_membership::memberships(f, users, owners, m, user);
+    verdict_concern::mark(
+        f,
+        starts,
+        holders,
+        n,
+        set,
+        user,
+        frame[0] as u32,
+        &frame[start..path],
+        on,
+    );
     text::fill::copy(&frame[..path], key, 0);
-    Asked {
-        path: path,
-        set: set,
-        place: place,
-        mode: frame[0] as u32,
-    }
+    path
 }
 
 // The answer to the request of the frame.
@@ -112,26 +89,18 @@ pub fn judge(
     starts: &[u16],
     holders: &[u8],
     n: usize,
-    keys: &[u64],
-    first: &[u16],
-    heads: &[u16],
-    links: &[u16],
-    seed: Seed,
     frame: &[u8],
     key: &mut [u8],
-    last: Asked,
+    len: usize,
+    on: &mut [u8],
 ) -> Judged
     requires { Sound f.now users.now owners.now m starts.now holders.now n
-        × Ready seed f.now users.now m starts.now n keys.now first.now heads.now links.now
-        × Remembered seed f.now users.now owners.now m key.old last × (max_heading ≤ length key.old) }
-    ensures judges { Judges seed f.now users.now owners.now m starts.now holders.now n
-        frame.now key.new result }
+        × Remembered f.now users.now owners.now m starts.now holders.now n key.old len on.old × (max_heading ≤ length key.old) }
+    ensures judges { Judges f.now users.now owners.now m starts.now holders.now n
+        frame.now key.new on.new result }
     ensures key_len_unchanged { length key.new ≡ length key.old }
 {
-    let asked = turn_to(
-        f, users, owners, m, starts, holders, n, keys, first, heads, links, seed, frame, key, last,
-    );
-    let path = asked.path;
+    let path = turn_to(f, users, owners, m, starts, holders, n, frame, key, len, on);
     if path == 0 {
         return Judged::Bad;
     }
@@ -139,31 +108,10 @@ pub fn judge(
         return Judged::Bad;
     }
     let k = frame[path] as usize;
-    let o = table_place::str_end(frame, 1);
-    let origin = o + 1;
-    let who = Asker {
-        set: asked.set,
-        place: asked.place,
-        mode: asked.mode,
-    };
-    let b = rule_index::find::find(
-        f,
-        starts,
-        holders,
-        n,
-        keys,
-        first,
-        seed,
-        who,
-        &frame[2..o],
-        &frame[origin..path],
-        frame,
-        path + 1,
-        k,
-    );
+    let b = verdict_judge::decide::decide(f, starts, on, n, frame, path + 1, k);
     let answer = verdict_request::answer::decided(f, b);
     Judged::Answer {
-        asked: asked,
+        len: path,
         answer: answer,
     }
 }

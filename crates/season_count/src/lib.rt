@@ -4,4 +4,3 @@
 pub mod count;
 pub mod heading;
 pub mod lines;
-pub mod ready;

@@ -2,27 +2,25 @@
 ghost use Rattle.std.specs.Prelude.{◌≡◌, ◌≤◌, ◌<◌, length};
 ghost use Rattle.limits.specs.Limits.{max_log_lines};
 ghost use Rattle.limits.specs.Sizes.{max_heading, max_log_frame};
-ghost use Rattle.text.specs.HexTable.{HexTable};
 ghost use Rattle.season_count.specs.Counts.{UpTo};
-ghost use Rattle.season_count.specs.Loaded.{Sound, Ready, Remembered};
+ghost use Rattle.season_count.specs.Loaded.{Sound, Remembered};
 ghost use Rattle.season_count.specs.Counting.{Reaches, Counts-line, Counts-lines};
 
-use crate::heading::{Asked, Judged};
+use crate::heading::Judged;
 use table_line::Line;
-use text_hash::Seed;
 
 #[derive(Clone, Copy)]
 pub enum Step {
-    // The line was counted; the next one starts at `next`.
-    To { next: usize, asked: Asked },
+    // The line was counted; the next one starts at `next`, and the heading has `len` bytes.
+    To { next: usize, len: usize },
     // It is bad.
     Bad,
 }
 
 #[derive(Clone, Copy)]
 pub enum Ended {
-    // All lines were counted, and there are so many now.
-    Lines { all: usize, asked: Asked },
+    // All lines were counted, and there are so many now; the heading of the last has `len` bytes.
+    Lines { all: usize, len: usize },
     Refused { number: u8, line: usize },
 }
 
@@ -37,7 +35,7 @@ fn reach(from: usize, end: usize) -> usize
     from + limits::MAX_LOG_LINE
 }
 
-// Counts the line of the text that starts at `from`, and is decoded into `line` by the table `hex`. The others are those of `heading::judge`.
+// Counts the line of the text that starts at `from`, and is decoded into `line`. The others are those of `heading::judge`.
 fn count_line(
     f: &[u8],
     users: &[u16],
@@ -46,30 +44,24 @@ fn count_line(
     starts: &[u16],
     holders: &[u8],
     n: usize,
-    keys: &[u64],
-    first: &[u16],
-    heads: &[u16],
-    links: &[u16],
-    seed: Seed,
     text: &[u8],
     from: usize,
-    hex: &[u8; 256],
     line: &mut [u8],
     key: &mut [u8],
-    last: Asked,
+    len: usize,
+    on: &mut [u8],
     counts: &mut [u64; limits::MAX_RULES],
     grid: &mut [[u64; 3]; 2],
 ) -> Step
     requires { Sound f.now users.now owners.now m starts.now holders.now n
-        × Ready seed f.now users.now m starts.now n keys.now first.now heads.now links.now
-        × Remembered seed f.now users.now owners.now m key.old last × (max_heading ≤ length key.old)
-        × (max_log_frame ≤ length line.old) × UpTo max_log_lines counts.old grid.old × (from < length text.now) × HexTable hex.now }
-    ensures counts_line { Counts-line seed f.now users.now owners.now m starts.now holders.now n
-        text.now from counts.old grid.old key.new counts.new grid.new result }
+        × Remembered f.now users.now owners.now m starts.now holders.now n key.old len on.old × (max_heading ≤ length key.old)
+        × (max_log_frame ≤ length line.old) × UpTo max_log_lines counts.old grid.old × (from < length text.now) }
+    ensures counts_line { Counts-line f.now users.now owners.now m starts.now holders.now n
+        text.now from counts.old grid.old key.new on.new counts.new grid.new result }
     ensures key_len_unchanged { (length key.new ≡ length key.old) × (length line.new ≡ length line.old) }
 {
     let to = reach(from, text.len());
-    let l = table_line::read_line(&text[..to], from, hex, line, 0);
+    let l = table_line::read_line(&text[..to], from, line, 0);
     let Line::Frame { len: size, next } = l else {
         return Step::Bad;
     };
@@ -81,25 +73,19 @@ fn count_line(
         starts,
         holders,
         n,
-        keys,
-        first,
-        heads,
-        links,
-        seed,
         &line[..size],
         key,
-        last,
+        len,
+        on,
     );
-    match j {
-        Judged::Bad => Step::Bad,
-        Judged::Answer { asked, answer } => {
-            crate::count::count_rule(counts, answer);
-            crate::count::count_cell(grid, line[0], answer);
-            Step::To {
-                next: next,
-                asked: asked,
-            }
-        }
+    let Judged::Answer { len: path, answer } = j else {
+        return Step::Bad;
+    };
+    crate::count::count_rule(counts, answer);
+    crate::count::count_cell(grid, line[0], answer);
+    Step::To {
+        next: next,
+        len: path,
     }
 }
 
@@ -112,31 +98,25 @@ pub fn count_lines(
     starts: &[u16],
     holders: &[u8],
     n: usize,
-    keys: &[u64],
-    first: &[u16],
-    heads: &[u16],
-    links: &[u16],
-    seed: Seed,
     text: &[u8],
     before: usize,
-    hex: &[u8; 256],
     line: &mut [u8],
     key: &mut [u8],
-    last: Asked,
+    len: usize,
+    on: &mut [u8],
     counts: &mut [u64; limits::MAX_RULES],
     grid: &mut [[u64; 3]; 2],
 ) -> Ended
     requires { Sound f.now users.now owners.now m starts.now holders.now n
-        × Ready seed f.now users.now m starts.now n keys.now first.now heads.now links.now
-        × Remembered seed f.now users.now owners.now m key.old last × (max_heading ≤ length key.old)
-        × (max_log_frame ≤ length line.old) × UpTo before counts.old grid.old × (before ≤ max_log_lines) × HexTable hex.now }
-    ensures counts_lines { Counts-lines seed f.now users.now owners.now m starts.now holders.now n
-        text.now before counts.old grid.old key.new counts.new grid.new result }
+        × Remembered f.now users.now owners.now m starts.now holders.now n key.old len on.old × (max_heading ≤ length key.old)
+        × (max_log_frame ≤ length line.old) × UpTo before counts.old grid.old × (before ≤ max_log_lines) }
+    ensures counts_lines { Counts-lines f.now users.now owners.now m starts.now holders.now n
+        text.now before counts.old grid.old key.new on.new counts.new grid.new result }
     ensures key_len_unchanged { (length key.new ≡ length key.old) × (length line.new ≡ length line.old) }
 {
     let mut all = before;
     let mut from = 0;
-    let mut head = last;
+    let mut head = len;
     while from < text.len() {
         if limits::MAX_LOG_LINES <= all {
             return Ended::Refused {
@@ -145,21 +125,20 @@ pub fn count_lines(
             };
         }
         let s = count_line(
-            f, users, owners, m, starts, holders, n, keys, first, heads, links, seed, text, from,
-            hex, line, key, head, counts, grid,
+            f, users, owners, m, starts, holders, n, text, from, line, key, head, on, counts, grid,
         );
         all += 1;
-        let Step::To { next, asked } = s else {
+        let Step::To { next, len: path } = s else {
             return Ended::Refused {
                 number: 51,
                 line: all,
             };
         };
-        head = asked;
+        head = path;
         from = next;
     }
     Ended::Lines {
         all: all,
-        asked: head,
+        len: head,
     }
 }

@@ -12,7 +12,7 @@ use Rattle.text.specs.Test.{if◌then◌else◌}
 use Rattle.text.specs.String.{Str, joined}
 use Rattle.text.proofs.Tests.{by}
 use Rattle.season.specs.Report.{figure_line}
-use Rattle.season.specs.Figures.{report_text}
+use Rattle.season_sum.specs.Figures.{report_text}
 use Rattle.season_sum.specs.Reading.{fits, figure_of, onward, reading, figures_of}
 use Rattle.season_sum.specs.Adding.{adding, sums_of, where_good, after_report, sums_after}
 use Rattle.season_sum.specs.Laws.{AllFit, ReadsBack, OnlyReports, AddsUp}

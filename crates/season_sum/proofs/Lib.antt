@@ -4,3 +4,4 @@ pub mod Sums
 pub mod Laws
 pub mod Spelled
 pub mod Reports
+pub mod Written

@@ -3,7 +3,7 @@ use Rattle.std.specs.Prelude.{ℕ, ◌+◌, ◌^◌, ◌<◌, ◌≡◌, List, l
 use Rattle.limits.specs.Sizes.{report_lines}
 use Rattle.text.specs.Test.{◌∈◌}
 use Rattle.text.specs.String.{Str}
-use Rattle.season.specs.Figures.{report_text}
+use Rattle.season_sum.specs.Figures.{report_text}
 use Rattle.season_sum.specs.Reading.{reading, figures_of}
 use Rattle.season_sum.specs.Adding.{adding, after_report, sums_after}
 use Rattle.season_sum.specs.declared.Outcome.TheVariants.{Good}

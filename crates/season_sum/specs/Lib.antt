@@ -1,3 +1,4 @@
+pub mod Figures
 pub mod Reading
 pub mod Adding
 pub mod Laws

@@ -1,8 +1,9 @@
 #![tactic(auto)]
 
-// The sum of season reports: a report's text read, and its figures added to others.
+// The sum of season reports: a report's text read, its figures added to others, and figures written as a report.
 pub mod adding;
 pub mod reading;
+pub mod writing;
 
 pub const MAX_U64: u64 = 18446744073709551615;
 

@@ -10,7 +10,6 @@ use lib.ListN.{length, drop, get_or, set, length-drop}
 use lib.Seq.{drop-cons}
 use Rattle.text.specs.Test.{◌and◌, if◌then◌else◌}
 use Rattle.text.specs.Byte.{is_hex, hex_value, is_digit, within}
-use Rattle.text.specs.HexTable.{HexTable}
 use Rattle.text.specs.Fill.{put}
 use Rattle.text.proofs.Tests.{by, and_right, clash}
 use Rattle.text.proofs.Filling.{Pending, fill_start, fill_set, fill_byte, fill_done}
@@ -42,45 +41,18 @@ two s i h =
     let b : i + 2 ≡ suc (suc i) = omega arith in
     rw (a, b, drop-cons s i 0 (omega arith), drop-cons s (suc i) 0 (omega arith))
 
--- two bytes of a text at i, whose values are looked up in a table
-pub record Looked : Type 0 where
-  pub text : List ℕ
-  pub table : List ℕ
-  pub i : ℕ
-  pub more : i + 1 < length text
-  pub values : HexTable table
-  pub first : get_or text i 0 < 256
-  pub second : get_or text (i + 1) 0 < 256
-
-module _ (k : Looked) where
-  abbrev pub high : ℕ
-  high = get_or k.table (get_or k.text k.i 0) 0
-
-  abbrev pub low : ℕ
-  low = get_or k.table (get_or k.text (k.i + 1) 0) 0
-
-  tested : (t : Bool) → (ltb 15 high || ltb 15 low) ≡ t → (is_hex (get_or k.text k.i 0) and is_hex (get_or k.text (k.i + 1) 0)) ≡ not t
-  tested t g =
-      both_hex (get_or k.text k.i 0) (get_or k.text (k.i + 1) 0)
-      ∙ rw (← k.values.value (get_or k.text k.i 0) k.first, ← k.values.value (get_or k.text (k.i + 1) 0) k.second, g)
-
-  module _ (g : (ltb 15 high || ltb 15 low) ≡ false) where
-    pub digits_turn : digits (drop k.i k.text) ≡ (high * 16 + low) ∷ digits (drop (k.i + 2) k.text)
-    unfolding digits if◌then◌else◌
-    digits_turn =
-        rw (
-          two k.text k.i k.more,
-          tested false g,
-          k.values.value (get_or k.text k.i 0) k.first,
-          k.values.value (get_or k.text (k.i + 1) 0) k.second,
-        )
-
-    pub value_fits : (high ≤ 15) × (low ≤ 15)
-    value_fits = by (ltb 15 high) (λ t. clash refl (rw t at g)) (λ t. (ltb-false 15 high t, ltb-false 15 low (rw t at g)))
-
-  pub digits_stop : (ltb 15 high || ltb 15 low) ≡ true → digits (drop k.i k.text) ≡ []
+module _ (s : List ℕ) (i hi lo : ℕ) (h : i + 1 < length s) (e : hi ≡ hex_value (get_or s i 0)) (f : lo ≡ hex_value (get_or s (i + 1) 0)) where
+  pub digits_turn : (ltb 15 hi || ltb 15 lo) ≡ false → digits (drop i s) ≡ (hi * 16 + lo) ∷ digits (drop (i + 2) s)
   unfolding digits if◌then◌else◌
-  digits_stop g = rw (two k.text k.i k.more, tested true g)
+  digits_turn g =
+      let t : (is_hex (get_or s i 0) and is_hex (get_or s (i + 1) 0)) ≡ true = both_hex (get_or s i 0) (get_or s (i + 1) 0) ∙ rw (← e, ← f, g) in
+      rw (two s i h, t, e, f)
+
+  pub digits_stop : (ltb 15 hi || ltb 15 lo) ≡ true → digits (drop i s) ≡ []
+  unfolding digits if◌then◌else◌
+  digits_stop g =
+      let t : (is_hex (get_or s i 0) and is_hex (get_or s (i + 1) 0)) ≡ false = both_hex (get_or s i 0) (get_or s (i + 1) 0) ∙ rw (← e, ← f, g) in
+      rw (two s i h, t)
 
 short : (s : List ℕ) → length s ≤ 1 → digits s ≡ []
 unfolding digits
@@ -113,3 +85,6 @@ module _ (d : List ℕ) (at : ℕ) (w out : List ℕ) (k : ℕ) (r : List ℕ) w
 
   pub decode_done : at ≤ k → Pending d at w out k r → r ≡ [] → (k - at ≡ length w) × (out ≡ put d at w)
   decode_done h g e = let i = fill_done d at w out k (rw e at g) in (omega (arith, i.0), i.1)
+
+pub value_fits : (hi lo x y : ℕ) → hi ≡ x → lo ≡ y → (ltb 15 hi || ltb 15 lo) ≡ false → (hi ≤ 15) × (lo ≤ 15)
+value_fits hi lo x y p q e = by (ltb 15 hi) (λ t. clash refl (rw t at e)) (λ t. (ltb-false 15 hi t, ltb-false 15 lo (rw t at e)))

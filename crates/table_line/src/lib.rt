@@ -3,7 +3,6 @@
 // Hex lines: checked and decoded in one pass.
 ghost use Rattle.std.specs.Prelude.{◌≡◌, ◌+◌, ◌-◌, ◌/◌, ◌≤◌, length, drop};
 ghost use Rattle.text.specs.Fill.{put};
-ghost use Rattle.text.specs.HexTable.{HexTable};
 ghost use Rattle.table_line.specs.Lines.{lines};
 ghost use Rattle.table_line.specs.Decoding.{digits, first_line};
 
@@ -16,18 +15,16 @@ pub enum Line {
 }
 
 // Decodes the pairs of digits from `from` on into out from `at` on, and answers how many they are.
-// Their values are looked up in `hex`, which `text::byte::hex_table` makes.
-fn decode(text: &[u8], from: usize, hex: &[u8; 256], out: &mut [u8], at: usize) -> usize
-    requires hex_table { HexTable hex.now }
-    requires from_in_bounds { (from ≤ length text.now) × (at + (length text.now - from) / 2 ≤ length out.old) }
+fn decode(text: &[u8], from: usize, out: &mut [u8], at: usize) -> usize
+    requires { (from ≤ length text.now) × (at + (length text.now - from) / 2 ≤ length out.old) }
     ensures value { result ≡ length (digits (drop from text.now)) }
     ensures out_after { out.new ≡ put out.old at (digits (drop from text.now)) }
 {
     let mut i = from;
     let mut k = at;
     while i + 1 < text.len() {
-        let high = hex[text[i] as usize];
-        let low = hex[text[i + 1] as usize];
+        let high = text::byte::hex_value(text[i]);
+        let low = text::byte::hex_value(text[i + 1]);
         if (15 < high) | (15 < low) {
             return k - at;
         }
@@ -39,13 +36,12 @@ fn decode(text: &[u8], from: usize, hex: &[u8; 256], out: &mut [u8], at: usize) 
 }
 
 // The line that starts at `from`. Its digits are decoded into out from `at` on.
-pub fn read_line(text: &[u8], from: usize, hex: &[u8; 256], out: &mut [u8], at: usize) -> Line
-    requires hex_table { HexTable hex.now }
-    requires from_in_bounds { (from ≤ length text.now) × (at + (length text.now - from) / 2 ≤ length out.old) }
+pub fn read_line(text: &[u8], from: usize, out: &mut [u8], at: usize) -> Line
+    requires { (from ≤ length text.now) × (at + (length text.now - from) / 2 ≤ length out.old) }
     ensures value { result ≡ first_line from (lines (drop from text.now)) }
     ensures out_after { out.new ≡ put out.old at (digits (drop from text.now)) }
 {
-    let len = decode(text, from, hex, out, at);
+    let len = decode(text, from, out, at);
     let end = from + 2 * len;
     if text.len() <= end {
         return Line::Bad;

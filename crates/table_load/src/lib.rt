@@ -45,7 +45,6 @@ pub fn load(
     if text.len() == 0 {
         return Loaded::Refused { number: 4, line: 1 };
     }
-    let hex = text::byte::hex_table();
     // the group names, by hash and sorted; the sets of members and of ids
     let mut hints = [0u8; table_keep::HINT_PLACES];
     let mut names = [0u32; limits::MAX_GROUPS];
@@ -61,7 +60,7 @@ pub fn load(
     let mut used = 0;
     let mut line = 1;
     while from < text.len() {
-        let l = table_line::read_line(text, from, &hex, buf, used);
+        let l = table_line::read_line(text, from, buf, used);
         let Line::Frame { len, next } = l else {
             return Loaded::Refused {
                 number: 2,

@@ -36,8 +36,7 @@ fn write_hex(console: &mut Console, line: &[u8], out: &mut [u8])
     requires { length line.now ≤ 65536 }
 {
     let mut bytes = [0u8; MAX_BYTES];
-    let hex = text::byte::hex_table();
-    table_line::read_line(line, 0, &hex, &mut bytes, 0);
+    table_line::read_line(line, 0, &mut bytes, 0);
     write(console, &bytes[0..line.len() / 2], out);
 }
 

@@ -5,11 +5,11 @@ use Rattle.table_line.proofs.read_line.Goals as goal
 
 pub overflow_mul-end : goal.overflow_mul-end
 overflow_mul-end c =
-    omega (arith, room c.args.text.now c.args.from _ c.decode-len.ensures.value c.requires.from_in_bounds.0)
+    omega (arith, room c.args.text.now c.args.from _ c.decode-len.ensures.value c.requires.0)
 
 pub overflow_add-end : goal.overflow_add-end
 overflow_add-end c =
-    omega (arith, room c.args.text.now c.args.from _ c.decode-len.ensures.value c.requires.from_in_bounds.0)
+    omega (arith, room c.args.text.now c.args.from _ c.decode-len.ensures.value c.requires.0)
 
 pub returns-then-text-end : goal.returns-then-text-end
 returns-then-text-end c =

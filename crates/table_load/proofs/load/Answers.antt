@@ -32,8 +32,7 @@ loop-from-init c = (
 )
 
 pub read_line-l-requires : goal.read_line-l-requires
-read_line-l-requires c =
-    record { hex_table = c.hex_table-hex.ensures; from_in_bounds = line_room c.loop-from.invariant.0 }
+read_line-l-requires c = line_room c.loop-from.invariant.0
 
 pub returns-in_default : goal.returns-in_default
 unfolding Outcome
@@ -66,10 +65,6 @@ pub bounds-buf-used : goal.bounds-buf-used
 bounds-buf-used c =
     let h = row_fits c.loop-from.invariant.0 _ c.read_line-l.ensures.value _ _ c.in-Frame.is _
     c.read_line-l.ensures.out_after in omega (arith, h.0, h.1)
-
-pub after-c-requires : goal.after-c-requires
-after-c-requires c =
-    c.loop-from.invariant.0.held.holds.few
 
 pub overflow_add-line : goal.overflow_add-line
 overflow_add-line c =

@@ -1,4 +1,4 @@
-use borrow.Author.Tests.{not-true, not-false, ltb-true}
+use borrow.Author.Tests.{ltb-true}
 use native.Mathlib.Omega.{arith}
 use mathlib.Core.Path.{sym, ◌∙◌}
 use Prim.Native.Nat.{◌-◌}
@@ -10,14 +10,14 @@ loop-i-init c = adding_start _ _
 
 pub returns-then-not-is_sum : goal.returns-then-not-is_sum
 returns-then-not-is_sum c =
-    adding_stops _ _ _ _ c.loop-i.invariant (omega arith) (omega arith) (sym c.is_sum.ensures ∙ not-true _ c.if-not-is_sum.true-raw)
+    adding_stops _ _ _ _ c.loop-i.invariant (omega arith) (omega arith) (sym c.is_sum.ensures ∙ c.if-not-is_sum.true)
 
 pub overflow_add-sums : goal.overflow_add-sums
-overflow_add-sums c = record { fits = ltb-true _ _ (sym c.is_sum.ensures ∙ not-false _ c.if-not-is_sum.false-raw) }
+overflow_add-sums c = record { fits = ltb-true _ _ (sym c.is_sum.ensures ∙ c.if-not-is_sum.false) }
 
 pub loop-i-preserved : goal.loop-i-preserved
 loop-i-preserved c =
-    adding_more _ _ _ _ c.loop-i.invariant (omega arith) (omega arith) (sym c.is_sum.ensures ∙ not-false _ c.if-not-is_sum.false-raw)
+    adding_more _ _ _ _ c.loop-i.invariant (omega arith) (omega arith) (sym c.is_sum.ensures ∙ c.if-not-is_sum.false)
 
 pub returns : goal.returns
 returns c = adding_done _ _ _ _ c.loop-i.invariant (omega arith)

@@ -1,4 +1,3 @@
-use borrow.Author.Tests.{not-true, not-false}
 use native.Mathlib.Omega.{arith}
 use mathlib.Core.Path.{refl, sym, ◌∙◌}
 use Prim.Native.Nat.{◌-◌}
@@ -16,29 +15,29 @@ returns-then-b-eq10 c =
 pub returns-then-not-is_next : goal.returns-then-not-is_next
 returns-then-not-is_next c =
     bad (c.loop-i.invariant.1 ∙ number_stops _ _ _ c.loop-i-test.true
-    c.if-b-eq10.false (sym c.is_next.ensures ∙ not-true _ c.if-not-is_next.true-raw))
+    c.if-b-eq10.false (sym c.is_next.ensures ∙ c.if-not-is_next.true))
 
 pub overflow_mul-value : goal.overflow_mul-value
 overflow_mul-value c =
-    let h = continued _ _ (sym c.is_next.ensures ∙ not-false _ c.if-not-is_next.false-raw) in omega (arith, h.1)
+    let h = continued _ _ (sym c.is_next.ensures ∙ c.if-not-is_next.false) in omega (arith, h.1)
 
 pub overflow_sub-value : goal.overflow_sub-value
 overflow_sub-value c =
-    let h = continued _ _ (sym c.is_next.ensures ∙ not-false _ c.if-not-is_next.false-raw) in omega (arith, h.0.low)
+    let h = continued _ _ (sym c.is_next.ensures ∙ c.if-not-is_next.false) in omega (arith, h.0.low)
 
 pub overflow_cast-value : goal.overflow_cast-value
 overflow_cast-value c =
-    let h = continued _ _ (sym c.is_next.ensures ∙ not-false _ c.if-not-is_next.false-raw) in omega (arith, h.0.high)
+    let h = continued _ _ (sym c.is_next.ensures ∙ c.if-not-is_next.false) in omega (arith, h.0.high)
 
 pub overflow_add-value : goal.overflow_add-value
 overflow_add-value c =
-    let h = continued _ _ (sym c.is_next.ensures ∙ not-false _ c.if-not-is_next.false-raw) in omega (arith, h.1)
+    let h = continued _ _ (sym c.is_next.ensures ∙ c.if-not-is_next.false) in omega (arith, h.1)
 
 pub loop-i-preserved : goal.loop-i-preserved
 loop-i-preserved c = (
   omega arith,
   c.loop-i.invariant.1 ∙ number_more _ _ _ c.loop-i-test.true
-      c.if-b-eq10.false (sym c.is_next.ensures ∙ not-false _ c.if-not-is_next.false-raw),
+      c.if-b-eq10.false (sym c.is_next.ensures ∙ c.if-not-is_next.false),
 )
 
 pub returns : goal.returns
