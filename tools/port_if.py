@@ -9,9 +9,9 @@ always open. Ours (crates/text/specs/Test.antt) opens only where a proof asks fo
 import glob
 import re
 
-TOKEN = re.compile(r"(?<![\w'◌])if(?![\w'◌])")
+TOKEN = re.compile(r"(?<![\w'◌-])if(?![\w'◌-])")
 # in a program: a test of a clause has its `then` before any brace or semicolon, and one of code has not
-CLAUSE = re.compile(r"(?<![\w'◌])if(?![\w'◌])(?=[^{};]*(?<![\w'◌])then(?![\w'◌]))")
+CLAUSE = re.compile(r"(?<![\w'◌-])if(?![\w'◌-])(?=[^{};]*(?<![\w'◌])then(?![\w'◌]))")
 COMMENT = {".antt": re.compile(r"(?:^|(?<=\s))--(?=\s|$)[^\n]*", re.M), ".rt": re.compile(r"//[^\n]*")}
 
 
