@@ -117,6 +117,7 @@ unfolding machine_end machine_step machine_next
 keeps_live [] promise.none m = refl
 keeps_live (Start ∷ cs) (promise.start t) m = keeps_live cs t (machine_step offered_check Start m) ∙ if_live _ _ m m.live refl refl
 keeps_live (Upload text ∷ cs) (promise.upload t) m = keeps_live cs t (machine_step offered_check (Upload text) m) ∙ if_live _ _ m m.live refl refl
+keeps_live (Finalize ∷ cs) t m = elim t [ ]
 keeps_live (Close ∷ cs) (promise.close t) m = keeps_live cs t (machine_step offered_check Close m) ∙ if_live _ _ m m.live refl refl
 
 -- an accepted step

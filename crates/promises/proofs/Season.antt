@@ -134,6 +134,7 @@ bad l = absent (request_of l)
 -- the lines count from k + 1
 judged_bad : (k n : ℕ) (ls : List Str) → k + n < max_log_lines → First bad n ls → judge_log (k + 1) ls ≡ Refused 51 (k + n + 1)
 unfolding judge_log if◌then◌else◌
+judged_bad k n [] h x = elim x [ ]
 judged_bad k n (l ∷ ls) h (here e) = rw (le-ltb max_log_lines (k + 1) (omega arith), e) (ap (Refused 51) (omega arith))
 judged_bad k n (l ∷ ls) h (later {n = m} e f) =
     rw (le-ltb max_log_lines (k + 1) (omega arith), e) (judged_bad (k + 1) m ls (omega arith) f ∙ ap (Refused 51) (omega arith))
