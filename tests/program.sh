@@ -30,14 +30,12 @@ mkdir -p target/bin
 {
     printf '#!/bin/sh\necho %s\ncase ${1:-} in\n' "$said"
     printf 'read) cat ;;\n'
-    printf 'refused) printf 10 >&9 ;;\n'
-    printf 'complained) printf 20 >&9 ;;\n'
-    printf 'both) printf 120 >&9 ;;\n'
-    printf 'broken) printf 12 >&9 ;;\n'
-    printf 'killed) printf 0 >&9; kill -SEGV $$ ;;\n'
-    printf 'failed) printf 0 >&9; exit 1 ;;\n'
+    printf 'refused) exit 1 ;;\n'
+    printf 'complained) exit 2 ;;\n'
+    printf 'broken) exit 4 ;;\n'
+    printf 'killed) kill -SEGV $$ ;;\n'
+    printf 'failed) exit 101 ;;\n'
     printf 'esac\n'
-    printf 'case ${1:-} in refused | complained | both | broken) ;; *) printf 0 >&9 ;; esac\n'
 } >target/bin/cli
 chmod +x target/bin/cli
 RT
@@ -189,10 +187,9 @@ done
 [ "$(cd "$work/links" && PATH=$work/links:$PATH burgee)" = 'eight another' ] || { echo 'not by a link in the PATH'; status=1; }
 [ "$(cd "$here/bin" && sh burgee)" = 'eight another' ] || { echo 'not from its own folder'; status=1; }
 
-# The exit status is that of the marks; that of a program that does not end well is 3.
+# The exit status is the program's; that of a program that does not end well is 3.
 expect 1 'eight another' 20 refused
 expect 2 'eight another' 20 complained
-expect 2 'eight another' 20 both
 expect 3 'eight another' 20 broken
 complained_of 'did not end as it should'
 expect 3 'eight another' 20 killed

@@ -110,8 +110,8 @@ for name in "$work/rotation/" "$work/rotation" "$work/none/file" "$file/none" "$
     same "a file named $name"
 done
 for name in "$special"/*; do # bin/burgee looks at them too
-    target/burgee/program pack "$work/readable" "$name" 2>"$work/complaint" 9>"$work/written"
-    [ "$(cat "$work/written")" = 20 ] || fail "pack $name: no complaint by the program"
+    target/burgee/program pack "$work/readable" "$name" >"$work/written" 2>"$work/complaint"
+    [ $? -eq 2 ] || fail "pack $name: no complaint by the program"
 done
 for step in start finalize close "upload $table"; do # a pipe would be waited for
     read -ra words <<<"$step"

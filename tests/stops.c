@@ -9,7 +9,7 @@
  * killed before and after each of its system calls; with each of them failing by ENOSPC, EIO, EINTR, or moving one byte, and then the next write
  * failing, as on a full disk; and under limits on the size of a file. After each run
  *   - FILE is as OLD or as NEW, byte for byte: as NEW where it was renamed to, else as OLD;
- *   - where success was told (marks on descriptor 9), it is as NEW, and no call failed that has to do with it; else something was complained of;
+ *   - where success was told (by the exit status), it is as NEW, and no call failed that has to do with it; else something was complained of;
  *   - where anything was answered (written to standard output), likewise;
  *   - nothing else is left in FILE's folder, unless the program was killed.
  * Where nothing stops it, the new file is flushed after its last byte and before it is renamed, and a folder is flushed afterwards.
@@ -40,7 +40,7 @@ struct plan {
     long at;
     int error;
     int ignores;
-    int is_plain; /* with this program's own standard descriptors and marks */
+    int is_plain; /* with this program's own standard descriptors */
 };
 
 /* What was seen of a run. */
@@ -132,27 +132,22 @@ static int clear_folder(void)
     return count;
 }
 
-/* Becomes the program: it writes nowhere, and its marks go to `marks`. */
-static void become_quiet(int marks)
+/* Becomes the program: it writes nowhere. */
+static void become_quiet(void)
 {
     int nowhere = open("/dev/null", O_RDWR);
     dup2(nowhere, 0);
     dup2(nowhere, 1);
     dup2(nowhere, 2);
-    dup2(marks, 9);
     for (int fd = 3; fd < 64; fd++) {
-        if (fd != 9) {
-            close(fd);
-        }
+        close(fd);
     }
 }
 
-static void become_program(const struct plan *plan, int marks)
+static void become_program(const struct plan *plan)
 {
-    if (plan->is_plain) {
-        close(marks);
-    } else {
-        become_quiet(marks);
+    if (!plan->is_plain) {
+        become_quiet();
     }
     if (plan->manner == LIMIT) {
         struct rlimit limit = {(rlim_t)plan->at, (rlim_t)plan->at};
@@ -169,7 +164,7 @@ static const struct {
     const char *name;
 } names[] = {
     {SYS_read, "read"}, {SYS_write, "write"}, {SYS_open, "open"}, {SYS_openat, "openat"}, {SYS_close, "close"}, {SYS_fsync, "fsync"},
-    {SYS_rename, "rename"}, {SYS_unlink, "unlink"}, {SYS_readlink, "readlink"}, {SYS_getrandom, "getrandom"}, {SYS_exit_group, "exit_group"},
+    {SYS_rename, "rename"}, {SYS_unlink, "unlink"}, {SYS_statx, "statx"}, {SYS_getrandom, "getrandom"}, {SYS_exit_group, "exit_group"},
 };
 
 static void list(long call, const struct user_regs_struct *r)
@@ -189,23 +184,23 @@ static int is_rename(unsigned long long call)
     return call == SYS_rename || call == SYS_renameat || call == SYS_renameat2;
 }
 
-/* Whether saving depends on a call: all that opens, reads, writes the new file, flushes, closes it, renames. */
-static int does_matter(const struct user_regs_struct *r, int new_fd)
+/* Whether saving depends on a call that fails by this error: all that opens, reads, looks at a name, writes the new file, flushes, renames. A write or a
+ * flush that a signal interrupts is made again. What a close says of a file that was flushed is lost, since the standard library does not tell it. */
+static int does_matter(const struct user_regs_struct *r, int new_fd, int error)
 {
     switch (r->orig_rax) {
     case SYS_open:
     case SYS_openat:
     case SYS_read:
-    case SYS_readlink:
-    case SYS_readlinkat:
-    case SYS_fsync:
-    case SYS_fdatasync:
+    case SYS_statx:
     case SYS_fchmod:
     case SYS_fchown:
         return 1;
+    case SYS_fsync:
+    case SYS_fdatasync:
+        return error != EINTR;
     case SYS_write:
-    case SYS_close:
-        return new_fd >= 0 && (int)r->rdi == new_fd;
+        return error != EINTR && new_fd >= 0 && (int)r->rdi == new_fd;
     default:
         return is_rename(r->orig_rax);
     }
@@ -215,20 +210,15 @@ static int does_matter(const struct user_regs_struct *r, int new_fd)
 static struct seen run(const struct plan *plan, long loaded)
 {
     struct seen seen = {0};
-    int pipes[2], status, inside = 0, signal = 0, new_fd = -1, is_dirty = 0, is_full = 0, spoilt = 0;
-    if (pipe(pipes) != 0) {
-        give_up("pipe");
-    }
+    int status, inside = 0, signal = 0, new_fd = -1, is_dirty = 0, is_full = 0, spoilt = 0;
     runs++;
     pid_t child = fork();
     if (child < 0) {
         give_up("fork");
     }
     if (child == 0) {
-        close(pipes[0]);
-        become_program(plan, pipes[1]);
+        become_program(plan);
     }
-    close(pipes[1]);
     waitpid(child, &status, 0);
     if (!WIFSTOPPED(status)) {
         fprintf(stderr, "stops: %s cannot be run, or not be traced here\n", command[0]);
@@ -260,12 +250,12 @@ static struct seen run(const struct plan *plan, long loaded)
             if (is_here && plan->manner == TAKEN) {
                 restore(new_bytes);
             }
-            if (r.orig_rax == SYS_readlink) {
+            if (r.orig_rax == SYS_statx) {
                 seen.looked = seen.calls;
             }
             spoilt = (is_here && plan->manner == FAIL) || (is_full && is_write);
             if (spoilt) {
-                seen.matters |= seen.calls > loaded && does_matter(&r, new_fd);
+                seen.matters |= seen.calls > loaded && does_matter(&r, new_fd, plan->error);
                 r.orig_rax = (unsigned long long)-1;
                 ptrace(PTRACE_SETREGS, child, NULL, &r);
             }
@@ -308,15 +298,10 @@ static struct seen run(const struct plan *plan, long loaded)
             kill(child, SIGKILL);
         }
     }
-    char marks[64];
-    ssize_t count = read(pipes[0], marks, sizeof marks);
-    close(pipes[0]);
     seen.killed = WIFSIGNALED(status);
     seen.status = seen.killed ? 100 : WEXITSTATUS(status);
-    if (count > 0 && !seen.killed && marks[count - 1] == '0') {
-        seen.told_complaint = memchr(marks, '2', (size_t)count) != NULL;
-        seen.told_success = !seen.told_complaint && memchr(marks, '1', (size_t)count) == NULL;
-    }
+    seen.told_complaint = seen.status == 2;
+    seen.told_success = seen.status == 0;
     return seen;
 }
 

@@ -17,24 +17,24 @@ git ls-files -z --cached --others --exclude-standard -- . ':!target' | tar -c --
 # Lines `TEST FILE WHAT: SED SCRIPT`; files stand in crates/, but for bin/burgee. `in NAME SCRIPT` is a script for the body of that function.
 faults() {
     sed 's/: in \([a-z_]*\) \(.*\)/: \/^\\(pub \\)*fn \1(\/,\/^}\/\2/' <<'END'
-command_line cli_console/src/input.rt a word over 4,096 bytes taken as empty: in word s/return buf.len()/return 0/
-command_line cli_console/src/input.rt a read that fails midway taken as the whole file: in fill s/os::errno() == 0/(os::errno() == 0) | (0 < count)/
-command_line cli_console/src/input.rt a first read that fails taken as an empty file: in fill s/os::errno() == 0/(os::errno() == 0) | (count == 0)/
-rotation cli_saving/src/lib.rt rotate new deletes the file that is there: in complain_of_taken s/^    cli/    let mut name = [0u8; ROOM];\n    let n = cli_console::input::word(i, \&mut name);\n    os::unlink(\&name[..n]);\n    cli/
-rotation cli_rotation/src/steps.rt rotate new replaces the file that is there: in make s/begin(3, false)/begin(3, true)/
+command_line cli_console/src/input.rt a word over 4,096 bytes taken as empty: in word s/TooLong) => buf.len()/TooLong) => 0/
+command_line cli_console/src/input.rt a read that fails midway taken as the whole file: in fill s/is_good: false/is_good: 0 < count/
+command_line cli_console/src/input.rt a first read that fails taken as an empty file: in fill s/is_good: false/is_good: count == 0/
+rotation cli_saving/src/lib.rt rotate new deletes the file that is there: in complain_of_taken s/^    cli/    let mut name = [0u8; ROOM];\n    let n = cli_console::input::word(console, i, \&mut name);\n    if let Ok(path) = source::path(\&name[..n]) {\n        let _ = fs::remove_file(\&console.rt, path);\n    }\n    cli/
+rotation cli_rotation/src/steps.rt rotate new replaces the file that is there: in make s/begin(console, 3, false)/begin(console, 3, true)/
 stops cli_saving/src/lib.rt rotate new replaces a file that appears meanwhile: in is_free s/s.may_replace/true/
-stops cli_saving/src/lib.rt saved though writing failed, and nothing is told: in add s/write_all(s.fd, bytes)/write_all(s.fd, bytes) | true/
-stops cli_saving/src/lib.rt saved though writing failed, which is told: in add s/abandon(s)/s/
-stops cli_saving/src/lib.rt saved though the rest could not be copied: in add_rest s/abandon(s)/s/
-stops cli_saving/src/lib.rt a read of the rest that fails taken as its end: in copy_some s/Copied::Failed/Copied::All/
-stops cli_saving/src/lib.rt saved though flushing failed: in close s/0 <= libc::fsync(s.fd)/true/
-stops cli_saving/src/lib.rt an unfinished file is left: in abandon s/os::unlink(.*);//
-stops cli_rotation/src/steps.rt the record is shown though it could not be saved: in keep s/finish(with_rest)/finish(with_rest) | true/
-rotation cli_rotation/src/steps.rt what stands behind the store is lost: in keep s/cli_saving::add_rest(with_store, from)/with_store/
-rotation cli_saving/src/lib.rt a symbolic link is replaced: in place_of s/Place::Link/Place::Taken/
-stops cli_saving/src/lib.rt the folder is not flushed: in flush_folder s/0 <= libc::fsync(s.folder)/true/
-rotation cli_saving/src/lib.rt a pipe is replaced: in flush_old s/libc::fsync(fd)/0/
-rotation cli_saving/src/lib.rt a file that may not be written is replaced: in begin s/!flush_old(i)/false/
+stops cli_saving/src/lib.rt saved though writing failed, and nothing is told: in add s/match s.file.write_all(bytes)/let _ = s.file.write_all(bytes);\n    match Ok(())/
+stops cli_saving/src/lib.rt saved though writing failed, which is told: in add s/^            None/            Some(s)/
+stops cli_saving/src/lib.rt saved though the rest could not be copied: in add_rest s/^            None/            Some(s)/
+stops cli_saving/src/lib.rt a read of the rest that fails taken as its end: in copy_some s/from.read(\&mut buf)?/from.read(\&mut buf).unwrap_or(0)/
+stops cli_saving/src/lib.rt saved though flushing failed: in close s/file.sync_all()/Ok(())/
+stops cli_saving/src/lib.rt an unfinished file is left: in abandon s/let _ = remove_beside(.*);//
+stops cli_rotation/src/steps.rt the record is shown though it could not be saved: in keep s/finish(console, with_rest)/finish(console, with_rest) | true/
+rotation cli_rotation/src/steps.rt what stands behind the store is lost: in keep s/cli_saving::add_rest(console, with_store, from)/with_store/
+rotation cli_saving/src/lib.rt a symbolic link is replaced: in look s/Place::Link/Place::Taken/
+stops cli_saving/src/lib.rt the folder is not flushed: in sync_folder s/folder.sync_all()/Ok(())/
+rotation cli_saving/src/lib.rt a pipe is replaced: in flush_named s/file.sync_all()/Ok(())/
+rotation cli_saving/src/lib.rt a file that may not be written is replaced: in begin s/!flush_old(console, i)/false/
 rotation cli_saving/src/lib.rt the new file has one name always: in chance s/wide(b\[0\]).*/0/
 command_line cli_probe/src/lib.rt rotate rpc judges though its headers cannot be read: in policy s/if got.is_good/if true/
 command_line cli/src/main.rt rpc judges though its headers cannot be read: in rpc s/ & also.is_good//
@@ -46,8 +46,8 @@ command_line cli_record/src/lines.rt rotating 2 shown as off: in is_rotating s/n
 command_line cli_record/src/lines.rt rotating 256 shown as off: in is_rotating s/n == 0/n % 256 == 0/
 command_line cli_record/src/lib.rt a number of the record read by its low bytes alone: in word s/ + d as u32 \* 16777216//
 command_line cli_console/src/input.rt write judged as read: in mode s/2 => 2/2 => 1/
-command_line cli/src/main.rt the origin left out: in verdict s/input::word(5/input::word(9/
-command_line cli_probe/src/lib.rt the origin of a probe left out: in table s/input::word(6/input::word(9/
+command_line cli/src/main.rt the origin left out: in verdict s/input::word(console, 5/input::word(console, 9/
+command_line cli_probe/src/lib.rt the origin of a probe left out: in table s/input::word(console, 6/input::word(console, 9/
 command_line cli_probe/src/lib.rt a probe of the tree is one of the path: in table s/            is_tree,/            false,/
 lines cli_policy/src/refusal.rt no line with refusal 38: in line s/38 < number/37 < number/
 lines cli_console/src/lines.rt the line before the fault: in number_at s/while i < p/while i + 1 < p/
@@ -56,7 +56,7 @@ lines cli_console/src/quote.rt bytes that do not print are printed: in add_byte 
 readable cli/src/main.rt a long readable text is cut: s/TEXT_ROOM: usize = 131073/TEXT_ROOM: usize = 40000/
 command_line cli/src/main.rt a long table is cut: s/TEXT_ROOM: usize = 131073/TEXT_ROOM: usize = 32768/
 rotation cli_readable/src/lib.rt pack saves nothing: in pack_table s/words == 4/false/
-log cli/src/main.rt log pack shows: in log s/convert(true, 3)/convert(false, 3)/
+log cli/src/main.rt log pack shows: in log s/convert(console, true, 3)/convert(console, false, 3)/
 log cli_readable/src/logs.rt a log of 1,000,000 lines is refused: in print_lines s/from < text.len()) \&/from <= text.len()) \&/
 log cli_readable/src/logs.rt one line too many is converted: in print_lines s/MAX_LOG_LINES + 1 - number/MAX_LOG_LINES + 2 - number/
 log cli_readable/src/logs.rt bytes after the last LF are passed over: in convert s/if from < to/if false/
@@ -76,14 +76,14 @@ command_line cli_explained/src/lib.rt reasons exchanged, subject and action: in 
 command_line cli_explained/src/lib.rt reasons exchanged, action and id: in step_name {s/Step::Action/Step::Swap/; s/Step::Id/Step::Action/; s/Step::Swap/Step::Id/}
 usage cli_help/src/lib.rt exit statuses 0 and 1 exchanged in help: in all s/0 for an answer, 1 for/1 for an answer, 0 for/
 usage cli_help/src/lib.rt exit statuses 2 and 3 exchanged in help: in all {s/, 2 for/, 3 for/; s/, 3 where/, 2 where/}
-usage cli_show/src/marks.rt a refusal is marked as a complaint: s/b"1"/b"2"/
-usage cli_show/src/marks.rt a complaint is marked as a refusal: s/b"2"/b"1"/
-usage cli_show/src/marks.rt the end is not marked: s/b"0"/b""/
-usage cli_console/src/refusal.rt a refusal is not marked: in at s/cli_show::marks::refusal();//
-usage cli_console/src/say.rt a file that cannot be read is not marked: in failure s/cli_show::marks::complaint();//
-usage cli_readable/src/lib.rt show and pack tell refusals on standard output: in tell s/first_to(2/first_to(1/
-rotation cli_rotation/src/steps.rt a rotation in standard input: in run s/cli_console::input::is_standard(3)/false/
-rotation cli_readable/src/lib.rt a table saved as a file named -: in save s/cli_console::input::is_standard(i)/false/
+usage cli_show/src/marks.rt a refusal is marked as a complaint: in end s/from(1)/from(2)/
+usage cli_show/src/marks.rt a complaint is marked as a refusal: in end s/from(2)/from(1)/
+usage cli_show/src/marks.rt an answer is marked as a complaint: in end s/ExitCode::SUCCESS/ExitCode::from(2)/
+usage cli_console/src/refusal.rt a refusal is not marked: in to s/cli_show::marks::refusal(console);//
+usage cli_show/src/failure.rt a file that cannot be read is not marked: in tell s/marks::complaint(console);//
+usage cli_readable/src/lib.rt show and pack tell refusals on standard output: in tell s/Stream::Error/Stream::Output/
+rotation cli_rotation/src/steps.rt a rotation in standard input: in run s/cli_console::input::is_standard(console, 3)/false/
+rotation cli_readable/src/lib.rt a table saved as a file named -: in save s/cli_console::input::is_standard(console, i)/false/
 command_line cli_rotation/src/steps.rt start, finalize, close and show take more words: in takes s/words == 4/3 < words/
 command_line cli_rotation/src/steps.rt upload and new take more words: in takes s/words == 5/4 < words/
 command_line cli_rotation/src/steps.rt probes of a table take more words: in takes s/words == 8/7 < words/
@@ -95,31 +95,31 @@ command_line cli/src/main.rt pack takes more words: in takes s/(words == 3) | (w
 command_line cli/src/main.rt groups and path take more words: in takes s/=> words == 4/=> 3 < words/
 command_line cli/src/main.rt verdict, tree and explain take more words: in takes s/words == 7/6 < words/
 command_line cli/src/main.rt rpc takes more words: in takes s/(words == 5) | (words == 6)/4 < words/
-usage cli_console/src/input.rt a file is read for standard input that is closed: in open_named s/fd != 0/true/
+usage cli_console/src/source.rt a file is read for standard input that is closed: in open_named s/file.as_raw_fd() == 0/false/
 usage cli/src/main.rt version takes more words: in takes s/words == 2/1 < words/
 usage cli/src/main.rt help takes more words: in takes s/_ => words < 4/_ => true/
 usage cli/src/main.rt standard input read twice: in rpc s/words == 6/words == 9/
-slips cli_names/src/lib.rt the line on a user goes to standard output: in tell s/(2, /(1, /
-slips cli_table/src/tables.rt groups says nothing of a user who is not named: in groups s/cli_names::tell(text, user);//
-slips cli_table/src/tables.rt verdict says nothing of a user who is not named: in verdict s/cli_names::tell(text, user);//
-slips cli_table/src/tables.rt tree says nothing of a user who is not named: in tree s/cli_names::tell(text, user);//
-slips cli_table/src/explanation.rt explain says nothing of a user who is not named: in all s/cli_names::tell(text, user);//
-slips cli_probe/src/lib.rt the probes say nothing of a user who is not named: in answer_table s/cli_names::tell(text, user);//
+slips cli_names/src/lib.rt the line on a user goes to standard output: in tell s/Stream::Error/Stream::Output/
+slips cli_table/src/tables.rt groups says nothing of a user who is not named: in groups s/cli_names::tell(console, text, user);//
+slips cli_table/src/tables.rt verdict says nothing of a user who is not named: in verdict s/cli_names::tell(console, text, user);//
+slips cli_table/src/tables.rt tree says nothing of a user who is not named: in tree s/cli_names::tell(console, text, user);//
+slips cli_table/src/explanation.rt explain says nothing of a user who is not named: in all s/cli_names::tell(console, text, user);//
+slips cli_probe/src/lib.rt the probes say nothing of a user who is not named: in answer_table s/cli_names::tell(console, text, user);//
 reports cli_season/src/sums.rt the last report is left out: in run s/while i < words/while i + 1 < words/
 reports cli_season/src/sums.rt a report that cannot be read is passed over: in add s/        return false;/        return true;/
 reports cli_season/src/sums.rt a report that is refused is passed over: in add s/    false$/    true/
 reports cli_season/src/sums.rt a longer text is cut to the longest report: s/TEXT_ROOM: usize = MAX_REPORT + 1/TEXT_ROOM: usize = MAX_REPORT/
-reports cli_season/src/sums.rt refusals on standard output: in refuse s/first_to(2/first_to(1/
-reports cli_season/src/sums.rt a refused report is not marked: in refuse s/cli_show::marks::refusal();//
+reports cli_season/src/sums.rt refusals on standard output: in refuse s/Stream::Error/Stream::Output/
+reports cli_season/src/sums.rt a refused report is not marked: in refuse s/cli_show::marks::refusal(console);//
 reports cli_season/src/sums.rt the line of a refused report is not shown: in add s/quote(.*);//
 reports cli_season/src/sums.rt a missing line is shown: in quote s/limits::REPORT_LINES < line/true/
-reports cli_season/src/sums.rt a missing LF is not told: in quote s/line, is_all/line, false/
+reports cli_season/src/sums.rt a missing LF is not told: in quote s/^            is_all,/            false,/
 reports cli_season/src/sums.rt standard input read twice: in is_read_once s/is_named & is_standard/false/
 reports cli_season/src/refusals.rt reasons exchanged: in reason {s/Outcome::LineCount/Outcome::Swap/; s/Outcome::TooLarge/Outcome::LineCount/; s/Outcome::Swap/Outcome::TooLarge/}
 reports cli/src/main.rt report-sum without a report: in takes s/2 < words/1 < words/
-season cli/src/main.rt season prints the report: in on_log s/cli_season::season(table, 3)/cli_report::report(table, 3)/
-season cli/src/main.rt report prints the page: in on_log s/cli_report::report(table, 3)/cli_season::season(table, 3)/
-season cli/src/main.rt standard input read twice for a report: in report s/input::is_standard(2) & input::is_standard(3)/false/
+season cli/src/main.rt season prints the report: in on_log s/cli_season::season(console, table, 3)/cli_report::report(console, table, 3)/
+season cli/src/main.rt report prints the page: in on_log s/cli_report::report(console, table, 3)/cli_season::season(console, table, 3)/
+season cli/src/main.rt standard input read twice for a report: in report s/input::is_standard(console, 2) & input::is_standard(console, 3)/false/
 season cli/src/main.rt report and season take more words: in takes s/Season => words == 4/Season => 3 < words/
 season cli/src/main.rt a table that cannot be read is counted on: in report s/if got.is_good/if true/
 season cli_report/src/lib.rt a report though the log is refused: in report s/if \(count(.*)\) {/if \1 | true {/
@@ -127,8 +127,8 @@ season cli_season/src/lib.rt a page though the log is refused: in season s/if \(
 season cli_season/src/lib.rt no page is printed: in page s/cli_show::word(.*);//
 season cli_season/src/making.rt rules that never decided are left out: in add_never s/cli_season_rules::never_lines(.*)/b/
 season cli_report/src/lib.rt a log that cannot be read taken as one that ends: in count_parts s/!got.is_good/false/
-season cli_report/src/lib.rt a refused log on standard output: in refuse s/to(2, number, line)/to(1, number, line)/
-season cli_report/src/lib.rt a refused table on standard output: in refuse_table s/to(2, number, line)/to(1, number, line)/
+season cli_report/src/lib.rt a refused log on standard output: in refuse s/Stream::Error, number/Stream::Output, number/
+season cli_report/src/lib.rt a refused table on standard output: in refuse_table s/Stream::Error, number/Stream::Output, number/
 season cli_report/src/lib.rt the line of a refused log is not shown: in refuse s/if before < line/if false/
 season cli_report/src/lib.rt another line of a refused log is shown: in refuse s/line - before/line/
 season cli_report/src/lib.rt a missing LF of a log is not told: in refuse s/line - before, true/line - before, false/
@@ -136,10 +136,10 @@ season cli_report/src/lib.rt the lines of each part are numbered anew: in count_
 season cli_report/src/lib.rt the first part alone is counted: in count_parts s/^        if to < part.len() {/        if to <= part.len() {/
 season cli_report/src/lib.rt an unfinished line is counted: in lines_end s/input::within(n, part)/to/
 season cli_parts/src/lib.rt an unfinished line of a report is lost: in more s/keep(buf, from, to)/keep(buf, to, to)/
-season cli_report/src/progress.rt told where standard error is no terminal: in begin s/libc::isatty(.*) != 1/false/
-season cli_report/src/progress.rt not told how far it is: in begin s/libc::isatty(.*) != 1/true/
-season cli_report/src/progress.rt told how far it is in the first second: in begin s/seconds() + 2/seconds()/
-season cli_report/src/progress.rt told how far it is on standard output: in tell s/first_to(2/first_to(1/
+season cli_report/src/progress.rt told where standard error is no terminal: in begin s/!console.rt.stderr().is_terminal()/false/
+season cli_report/src/progress.rt not told how far it is: in begin s/!console.rt.stderr().is_terminal()/true/
+season cli_report/src/progress.rt told how far it is in the first second: in begin s/seconds(console) + 2/seconds(console)/
+season cli_report/src/progress.rt told how far it is on standard output: in tell s/Stream::Error/Stream::Output/
 program bin/burgee a changed source is not noticed: s/ \[ -z "\$later" \] && / /
 program bin/burgee a source that looks old is not noticed: s/-cnewer/-newer/
 program bin/burgee an added or removed source is not noticed: s/sources -print0/sources -type f -print0/
@@ -150,12 +150,12 @@ program bin/burgee sources that are only touched are built again: s/= "\$1" \]$/
 program bin/burgee a symbolic link is not followed: s/while \[ -L "\$self" \]/while false/
 program bin/burgee a link to a link is not followed: s/while \[ -L "\$self" \]; do/for one in 1; do/
 program bin/burgee a relative link is taken from where one stands: s/self=\$(dirname "\$self")\/\$link/self=$link/
-program bin/burgee a refusal ends with 0: s/0:\*1\*0) exit 1/0:*1*0) exit 0/
-program bin/burgee a complaint ends with 0: s/0:\*2\*0) exit 2/0:*2*0) exit 0/
-program bin/burgee a complaint after a refusal ends with 1: /0:\*2\*0) exit 2/{h; d}; /0:\*1\*0) exit 1/G
-program bin/burgee a program that does not come to its end: s/^0:\*0) exit 0/0:*) exit 0/
-program bin/burgee a program that is killed: s/^case \${ended:-closed}:\$marks in/case 0:$marks in/
-program bin/burgee all marks ignored: s/^    marks=/    none=/; s/:\$marks in/:0 in/
+program bin/burgee a refusal ends with 0: s/^0 | 1 | 2) exit \$ended/0 | 1) exit 0 ;;\n2) exit 2/
+program bin/burgee a complaint ends with 0: s/^0 | 1 | 2) exit \$ended/0 | 2) exit 0 ;;\n1) exit 1/
+program bin/burgee a complaint ends with 1: s/^0 | 1 | 2) exit \$ended/0) exit 0 ;;\n1 | 2) exit 1/
+program bin/burgee a program that does not come to its end: s/^exit 3$/exit 0/
+program bin/burgee a program that is killed: s/^0 | 1 | 2) exit \$ended/0 | 1 | 2) exit $ended ;;\n1??) exit 0/
+program bin/burgee all exit statuses ignored: s/^    ended=.*/    ended=0/
 program bin/burgee what was built before runs though a build failed: s/\[ "\$status" != 0 \]/false/
 program bin/burgee a program that others built is run: s/"\$own\/program" "\$@"/"$root\/target\/bin\/cli" "$@"/
 program bin/burgee a build takes standard input: s/ <\/dev\/null//

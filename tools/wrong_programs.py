@@ -95,7 +95,7 @@ def build(program, tree, toolchain, work):
 
 def answer(command, program):
     """What a command of the page answers with this program as the command line, or as `vectors`."""
-    script = f'burgee() {{ {program} "$@" 9>/dev/null; }}\n. tests/inputs.bash\n{command.replace("target/bin/vectors", str(program))}'
+    script = f'burgee() {{ {program} "$@"; }}\n. tests/inputs.bash\n{command.replace("target/bin/vectors", str(program))}'
     run = subprocess.run(["bash", "-c", script], stdout=subprocess.PIPE, stderr=subprocess.STDOUT)
     return run.stdout.decode("latin-1").rstrip("\n").replace("\n", "; ")
 

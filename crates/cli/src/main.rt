@@ -1,8 +1,13 @@
 // The command line: each command prints what one call of the proved libraries answers, one fact a line.
-use cli_console::input;
-use cli_table::{explanation, paths, tables};
+#![tactic(auto)]
 
-#[derive(Drop)]
+use cli_console::input;
+use cli_show::console::Console;
+use cli_show::{TEXT_ROOM, WORD_ROOM};
+use cli_table::{explanation, paths, tables};
+use std::process::ExitCode;
+
+#[derive(Clone, Copy)]
 enum Command {
     Table,
     Show,
@@ -54,110 +59,130 @@ fn named(word: &[u8]) -> Command {
 }
 
 // One byte more than the longest text that a command takes, a readable one of 131,072 bytes, so that a longer one is told from it.
-const TEXT_ROOM: usize = 131073;
+const LONG_TEXT_ROOM: usize = 131073;
 
-// As many as a large buffer (io) has. What stands after the argument is LF, which ends a line of digits.
-const DIGITS_ROOM: usize = 65536;
+// Room for path bytes. What stands after the argument is LF, which ends a line of digits.
+const DIGITS_ROOM: usize = TEXT_ROOM;
 
-fn on_text(command: Command, words: usize, text: &[u8]) {
+fn on_text(console: &mut Console, command: Command, words: usize, text: &[u8]) {
     match command {
-        Command::Table => tables::check(text),
-        Command::Show => cli_readable::show_table(text),
-        Command::Pack => cli_readable::pack_table(text, words),
-        _ => cli_policy::check(text),
+        Command::Table => tables::check(console, text),
+        Command::Show => cli_readable::show_table(console, text),
+        Command::Pack => cli_readable::pack_table(console, text, words),
+        _ => cli_policy::check(console, text),
     }
 }
 
 // burgee table|show|pack|policy FILE
 // burgee pack FILE TABLE
-fn read_text(command: Command, words: usize) {
-    let mut text = [0u8; TEXT_ROOM];
-    let got = input::file(2, &mut text);
+fn read_text(console: &mut Console, command: Command, words: usize) {
+    let mut text = [0u8; LONG_TEXT_ROOM];
+    let got = input::file(console, 2, &mut text);
     let n = got.count;
     if got.is_good {
-        on_text(command, words, &text[..n]);
+        on_text(console, command, words, &text[..n]);
     }
 }
 
 // burgee rpc FILE IDENTITY PATH [HEADERS-FILE]
-fn rpc(words: usize) {
-    if (words == 6) & input::is_standard(2) & input::is_standard(5) {
-        cli_console::say::usage(b"standard input can be read once only", b"", b"rpc");
+fn rpc(console: &mut Console, words: usize) {
+    if (words == 6) & input::is_standard(console, 2) & input::is_standard(console, 5) {
+        cli_console::say::usage(
+            console,
+            b"standard input can be read once only",
+            b"",
+            b"rpc",
+        );
         return;
     }
-    let mut text = io::large_buffer();
-    let got = input::file(2, &mut text);
+    let mut text = [0u8; TEXT_ROOM];
+    let got = input::file(console, 2, &mut text);
     let n = got.count;
-    let mut headers = io::large_buffer();
-    let also = cli_policy::rpcs::headers(5, words, &mut headers);
+    let mut headers = [0u8; TEXT_ROOM];
+    let also = cli_policy::rpcs::headers(console, 5, words, &mut headers);
     let h = also.count;
-    let mut identity = io::buffer();
-    let i = input::word(3, &mut identity);
-    let mut path = io::buffer();
-    let p = input::word(4, &mut path);
+    let mut identity = [0u8; WORD_ROOM];
+    let i = input::word(console, 3, &mut identity);
+    let mut path = [0u8; WORD_ROOM];
+    let p = input::word(console, 4, &mut path);
     if got.is_good & also.is_good {
-        cli_policy::rpcs::verdict(&text[..n], &identity[..i], &path[..p], &headers[..h]);
+        cli_policy::rpcs::verdict(
+            console,
+            &text[..n],
+            &identity[..i],
+            &path[..p],
+            &headers[..h],
+        );
     }
 }
 
 // burgee groups FILE USER
-fn groups() {
-    let mut user = io::buffer();
-    let u = input::word(3, &mut user);
-    let mut text = io::large_buffer();
-    let got = input::file(2, &mut text);
+fn groups(console: &mut Console) {
+    let mut user = [0u8; WORD_ROOM];
+    let u = input::word(console, 3, &mut user);
+    let mut text = [0u8; TEXT_ROOM];
+    let got = input::file(console, 2, &mut text);
     let n = got.count;
     if got.is_good {
-        tables::groups(&text[..n], &user[..u]);
+        tables::groups(console, &text[..n], &user[..u]);
     }
 }
 
-fn on_log(command: Command, table: &[u8]) {
+fn on_log(console: &mut Console, command: Command, table: &[u8]) {
     match command {
-        Command::Report => cli_report::report(table, 3),
-        _ => cli_season::season(table, 3),
+        Command::Report => cli_report::report(console, table, 3),
+        _ => cli_season::season(console, table, 3),
     }
 }
 
 // burgee report|season TABLE LOG
-fn report(command: Command, page: &[u8]) {
-    if input::is_standard(2) & input::is_standard(3) {
-        cli_console::say::usage(b"standard input can be read once only", b"", page);
+fn report(console: &mut Console, command: Command, page: &[u8]) {
+    if input::is_standard(console, 2) & input::is_standard(console, 3) {
+        cli_console::say::usage(console, b"standard input can be read once only", b"", page);
         return;
     }
-    let mut text = io::large_buffer();
-    let got = input::file(2, &mut text);
+    let mut text = [0u8; TEXT_ROOM];
+    let got = input::file(console, 2, &mut text);
     let n = got.count;
     if got.is_good {
-        on_log(command, &text[..n]);
+        on_log(console, command, &text[..n]);
     }
 }
 
-fn judge(command: Command, text: &mut [u8], user: &[u8], mode: u32, origin: &[u8], path: &[u8]) {
+fn judge(
+    console: &mut Console,
+    command: Command,
+    text: &mut [u8],
+    user: &[u8],
+    mode: u32,
+    origin: &[u8],
+    path: &[u8],
+) {
     match command {
-        Command::Verdict => tables::verdict(text, user, mode, origin, path),
-        Command::Tree => tables::tree(text, user, mode, origin, path),
-        _ => explanation::all(text, user, mode, origin, path),
+        Command::Verdict => tables::verdict(console, text, user, mode, origin, path),
+        Command::Tree => tables::tree(console, text, user, mode, origin, path),
+        _ => explanation::all(console, text, user, mode, origin, path),
     }
 }
 
 // burgee verdict|tree|explain FILE USER read|write ORIGIN PATH
-fn verdict(command: Command, page: &[u8]) {
-    let mode = input::mode(4, page);
+fn verdict(console: &mut Console, command: Command, page: &[u8]) {
+    let mode = input::mode(console, 4, page);
     if mode == 0 {
         return;
     }
-    let mut user = io::buffer();
-    let u = input::word(3, &mut user);
-    let mut origin = io::buffer();
-    let o = input::word(5, &mut origin);
-    let mut path = io::large_buffer();
-    let p = input::word(6, &mut path);
-    let mut text = io::large_buffer();
-    let got = input::file(2, &mut text);
+    let mut user = [0u8; WORD_ROOM];
+    let u = input::word(console, 3, &mut user);
+    let mut origin = [0u8; WORD_ROOM];
+    let o = input::word(console, 5, &mut origin);
+    let mut path = [0u8; TEXT_ROOM];
+    let p = input::word(console, 6, &mut path);
+    let mut text = [0u8; TEXT_ROOM];
+    let got = input::file(console, 2, &mut text);
     let n = got.count;
     if got.is_good {
         judge(
+            console,
             command,
             &mut text[..n],
             &user[..u],
@@ -170,44 +195,44 @@ fn verdict(command: Command, page: &[u8]) {
 
 // burgee path read TEXT
 // burgee path write BYTES
-fn path() {
-    let mode = input::mode(2, b"path");
+fn path(console: &mut Console) {
+    let mode = input::mode(console, 2, b"path");
     let mut given = [b'\n'; DIGITS_ROOM];
-    let n = input::word(3, &mut given);
+    let n = input::word(console, 3, &mut given);
     if mode == 1 {
-        paths::read(&given[..n]);
+        paths::read(console, &given[..n]);
     }
     if mode == 2 {
-        paths::write(&given);
+        paths::write(console, &given);
     }
 }
 
 // burgee log show FILE
 // burgee log pack FILE
-fn log() {
-    let mut step = io::buffer();
-    let s = input::word(2, &mut step);
+fn log(console: &mut Console) {
+    let mut step = [0u8; WORD_ROOM];
+    let s = input::word(console, 2, &mut step);
     let direction = cli_console::lines::place(b"show\npack\n", &step[..s]);
     match direction {
-        1 => cli_readable::logs::convert(false, 3),
-        2 => cli_readable::logs::convert(true, 3),
-        _ => cli_console::say::usage(b"neither show nor pack: ", &step[..s], b"log"),
+        1 => cli_readable::logs::convert(console, false, 3),
+        2 => cli_readable::logs::convert(console, true, 3),
+        _ => cli_console::say::usage(console, b"neither show nor pack: ", &step[..s], b"log"),
     }
 }
 
 // burgee rotate STEP FILE ..
-fn rotate(words: usize) {
-    let mut step = io::buffer();
-    let s = input::word(2, &mut step);
-    cli_rotation::steps::run(&step[..s], words);
+fn rotate(console: &mut Console, words: usize) {
+    let mut step = [0u8; WORD_ROOM];
+    let s = input::word(console, 2, &mut step);
+    cli_rotation::steps::run(console, &step[..s], words);
 }
 
 // burgee help [COMMAND]
-fn explain_use() {
-    let mut word = io::buffer();
-    let w = input::word(2, &mut word);
-    if !cli_help::on(&word[..w]) {
-        cli_console::say::usage(b"no such command: ", &word[..w], b"");
+fn explain_use(console: &mut Console) {
+    let mut word = [0u8; WORD_ROOM];
+    let w = input::word(console, 2, &mut word);
+    if !cli_help::on(console, &word[..w]) {
+        cli_console::say::usage(console, b"no such command: ", &word[..w], b"");
     }
 }
 
@@ -226,67 +251,69 @@ fn takes(command: Command, words: usize) -> bool {
     }
 }
 
-fn run(command: Command, name: &[u8], words: usize) {
+fn run(console: &mut Console, command: Command, name: &[u8], words: usize) {
     match command {
         Command::Table | Command::Show | Command::Pack | Command::Policy => {
-            read_text(command, words)
+            read_text(console, command, words)
         }
-        Command::Groups => groups(),
-        Command::Path => path(),
-        Command::Verdict | Command::Tree | Command::Explain => verdict(command, name),
-        Command::Report | Command::Season => report(command, name),
-        Command::ReportSum => cli_season::sums::run(words),
-        Command::Rpc => rpc(words),
-        Command::Log => log(),
-        Command::Rotate => rotate(words),
-        Command::Version => cli_help::version(),
-        Command::Help => explain_use(),
-        Command::Unknown => cli_console::say::usage(b"no such command: ", name, b""),
+        Command::Groups => groups(console),
+        Command::Path => path(console),
+        Command::Verdict | Command::Tree | Command::Explain => verdict(console, command, name),
+        Command::Report | Command::Season => report(console, command, name),
+        Command::ReportSum => cli_season::sums::run(console, words),
+        Command::Rpc => rpc(console, words),
+        Command::Log => log(console),
+        Command::Rotate => rotate(console, words),
+        Command::Version => cli_help::version(console),
+        Command::Help => explain_use(console),
+        Command::Unknown => cli_console::say::usage(console, b"no such command: ", name, b""),
     }
 }
 
 // Whether the one word after the command asks for its page of help. Elsewhere such a word is a user's name, say.
-fn asks_help(words: usize) -> bool {
-    let mut word = io::buffer();
-    let w = input::word(2, &mut word);
+fn asks_help(console: &Console, words: usize) -> bool {
+    let mut word = [0u8; WORD_ROOM];
+    let w = input::word(console, 2, &mut word);
     (words == 3) & (cli_console::lines::place(b"--help\n-h\n", &word[..w]) != 0)
 }
 
 // The page of a command; all of help where that has none of its own.
-fn show_page(name: &[u8]) {
-    if !cli_help::on(name) {
-        cli_help::on(b"");
+fn show_page(console: &mut Console, name: &[u8]) {
+    if !cli_help::on(console, name) {
+        let _ = cli_help::on(console, b"");
     }
 }
 
 // A command that was called with words that it does not take.
-fn refuse_words(command: Command, name: &[u8]) {
+fn refuse_words(console: &mut Console, command: Command, name: &[u8]) {
     match command {
-        Command::Version => cli_console::say::misuse(b"version"),
-        Command::Help => cli_console::say::usage(b"not the arguments of help", b"", b""),
-        _ => cli_console::say::misuse(name),
+        Command::Version => cli_console::say::misuse(console, b"version"),
+        Command::Help => cli_console::say::usage(console, b"not the arguments of help", b"", b""),
+        _ => cli_console::say::misuse(console, name),
     }
 }
 
 // The command that the first word names, on the words that follow it.
-fn obey(words: usize) {
-    let mut word = io::buffer();
-    let w = input::word(1, &mut word);
+fn obey(console: &mut Console, words: usize) {
+    let mut word = [0u8; WORD_ROOM];
+    let w = input::word(console, 1, &mut word);
     let command = named(&word[..w]);
     if words < 2 {
-        cli_console::say::usage(b"no command is named", b"", b"");
+        cli_console::say::usage(console, b"no command is named", b"", b"");
     } else if let Command::Unknown = command {
-        run(command, &word[..w], words);
-    } else if asks_help(words) {
-        show_page(&word[..w]);
+        run(console, command, &word[..w], words);
+    } else if asks_help(console, words) {
+        show_page(console, &word[..w]);
     } else if takes(command, words) {
-        run(command, &word[..w], words);
+        run(console, command, &word[..w], words);
     } else {
-        refuse_words(command, &word[..w]);
+        refuse_words(console, command, &word[..w]);
     }
 }
 
-fn main() {
-    obey(os::arg_count());
-    cli_show::marks::end();
+fn main(rt: HostRuntime) -> ExitCode {
+    let mut console = Console::new(rt);
+    let words = input::word_count(&console);
+    obey(&mut console, words);
+    cli_show::marks::end(&console)
 }

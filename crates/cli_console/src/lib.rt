@@ -1,7 +1,10 @@
 // What the command line reads and prints: files by name, facts, refusals in words.
+#![tactic(auto)]
+
 pub mod input;
 pub mod lines;
 mod quote;
 pub mod refusal;
 pub mod rows;
 pub mod say;
+pub mod source;

@@ -4,6 +4,8 @@ ghost use Rattle.cli_console.specs.Quoted.{from_line, unended, line_feed, line_n
 ghost use Rattle.cli_console.specs.Steps.{LineAt};
 
 use cli_refusal::entry::next;
+use cli_show::Stream;
+use cli_show::console::Console;
 
 // Where line n begins, counted from 1.
 fn start(text: &[u8], n: usize) -> usize
@@ -45,16 +47,16 @@ pub fn number_at(text: &[u8], p: usize) -> usize
 }
 
 // Prints the line at `at` without its LF; bytes that do not print in hex, after \x.
-fn quote_at(to: i32, text: &[u8], at: usize)
+fn quote_at(console: &mut Console, to: Stream, text: &[u8], at: usize)
     requires { at ≤ length text.now }
 {
     let end = text_search::find(text, at, b'\n');
-    crate::quote::print(to, &text[at..end]);
+    crate::quote::print(console, to, &text[at..end]);
 }
 
 // Prints line n.
-pub fn quote(to: i32, text: &[u8], n: usize) {
-    quote_at(to, text, start(text, n));
+pub fn quote(console: &mut Console, to: Stream, text: &[u8], n: usize) {
+    quote_at(console, to, text, start(text, n));
 }
 
 // Whether line n has no LF at its end.

@@ -4,6 +4,9 @@ ghost use Rattle.text_make.specs.Added.{Added, AddedUpTo};
 ghost use Rattle.cli_console.specs.Quoted.{shown, quoted};
 ghost use Rattle.cli_console.specs.Steps.{max_part};
 
+use cli_show::Stream;
+use cli_show::console::Console;
+
 // As many bytes of a line as are made at once, and room for them: one that does not print takes four.
 const PART: usize = 1024;
 
@@ -48,21 +51,21 @@ fn part_end(s: &[u8], at: usize) -> usize
     }
 }
 
-fn print_part(to: i32, s: &[u8])
+fn print_part(console: &mut Console, to: Stream, s: &[u8])
     requires { length s.now ≤ max_part }
 {
     let mut out = [0u8; PART_ROOM];
     let n = make(s, &mut out);
-    cli_show::first_to(to, &out, n);
+    cli_show::first_to(console, to, &out, n);
 }
 
 // Prints a line, part after part.
-pub fn print(to: i32, s: &[u8]) {
+pub fn print(console: &mut Console, to: Stream, s: &[u8]) {
     let mut at = 0;
     while at < s.len() {
         let end = part_end(s, at);
-        print_part(to, &s[at..end]);
+        print_part(console, to, &s[at..end]);
         at = end;
     }
-    cli_show::word_to(to, b"\n");
+    cli_show::word_to(console, to, b"\n");
 }

@@ -1,7 +1,12 @@
 // Help: what the commands are, and for each what it prints, with an example. A page begins with how its commands are called, one to a line.
+#![tactic(auto)]
+
 ghost use Rattle.std.specs.Prelude.{◌≤◌, length};
 
-#[derive(Drop)]
+use cli_show::Stream;
+use cli_show::console::Console;
+
+#[derive(Clone, Copy, PartialEq)]
 enum Part {
     Page,
     Usage,
@@ -38,11 +43,11 @@ fn tells(page: &[u8], at: usize, command: &[u8], step: &[u8]) -> bool {
 }
 
 // Prints how a command is called, where that is asked.
-fn tell(line: &[u8], part: Part) {
+fn tell(console: &mut Console, line: &[u8], part: Part) {
     if let Part::Usage = part {
-        io::write_all(2, b"usage: ");
-        io::write_all(2, line);
-        io::write_all(2, b"\n");
+        cli_show::word_to(console, Stream::Error, b"usage: ");
+        cli_show::word_to(console, Stream::Error, line);
+        cli_show::word_to(console, Stream::Error, b"\n");
     }
 }
 
@@ -55,7 +60,7 @@ fn line_end(page: &[u8], at: usize) -> usize
 }
 
 // Whether one of the lines that the page begins with tells how the command is called, or that step of it; each is printed where that is asked.
-fn tells_of(page: &[u8], command: &[u8], step: &[u8], part: Part) -> bool {
+fn tells_of(console: &mut Console, page: &[u8], command: &[u8], step: &[u8], part: Part) -> bool {
     let mut found = false;
     let mut at = 0;
     while at < page.len() {
@@ -68,7 +73,7 @@ fn tells_of(page: &[u8], command: &[u8], step: &[u8], part: Part) -> bool {
         }
         if tells(page, at, command, step) {
             found = true;
-            tell(&page[at..end], part);
+            tell(console, &page[at..end], part);
         }
         at = end + 1;
     }
@@ -76,22 +81,23 @@ fn tells_of(page: &[u8], command: &[u8], step: &[u8], part: Part) -> bool {
 }
 
 // Prints what is asked of the page, if it tells of the command: the lines of the step, or all of the command where it has no such step.
-fn print(command: &[u8], step: &[u8], part: Part, page: &[u8]) -> bool {
+fn print(console: &mut Console, command: &[u8], step: &[u8], part: Part, page: &[u8]) -> bool {
     if let Part::Page = part {
-        if !tells_of(page, command, b"", part) {
+        if !tells_of(console, page, command, b"", part) {
             return false;
         }
-        cli_show::word(page);
+        cli_show::word(console, page);
         return true;
     }
-    if tells_of(page, command, step, part) {
+    if tells_of(console, page, command, step, part) {
         return true;
     }
-    tells_of(page, command, b"", part)
+    tells_of(console, page, command, b"", part)
 }
 
-fn all() {
+fn all(console: &mut Console) {
     cli_show::word(
+        console,
         b"burgee: tries rule tables and policies\n\
         \n\
         burgee table FILE                                  checks a rule table\n\
@@ -120,8 +126,9 @@ fn all() {
     );
 }
 
-fn table(command: &[u8], step: &[u8], part: Part) -> bool {
+fn table(console: &mut Console, command: &[u8], step: &[u8], part: Part) -> bool {
     print(
+        console,
         command,
         step,
         part,
@@ -138,8 +145,9 @@ fn table(command: &[u8], step: &[u8], part: Part) -> bool {
     )
 }
 
-fn conversion(command: &[u8], step: &[u8], part: Part) -> bool {
+fn conversion(console: &mut Console, command: &[u8], step: &[u8], part: Part) -> bool {
     print(
+        console,
         command,
         step,
         part,
@@ -173,8 +181,9 @@ fn conversion(command: &[u8], step: &[u8], part: Part) -> bool {
     )
 }
 
-fn groups(command: &[u8], step: &[u8], part: Part) -> bool {
+fn groups(console: &mut Console, command: &[u8], step: &[u8], part: Part) -> bool {
     print(
+        console,
         command,
         step,
         part,
@@ -190,8 +199,9 @@ fn groups(command: &[u8], step: &[u8], part: Part) -> bool {
     )
 }
 
-fn verdict(command: &[u8], step: &[u8], part: Part) -> bool {
+fn verdict(console: &mut Console, command: &[u8], step: &[u8], part: Part) -> bool {
     print(
+        console,
         command,
         step,
         part,
@@ -213,8 +223,9 @@ fn verdict(command: &[u8], step: &[u8], part: Part) -> bool {
     )
 }
 
-fn tree(command: &[u8], step: &[u8], part: Part) -> bool {
+fn tree(console: &mut Console, command: &[u8], step: &[u8], part: Part) -> bool {
     print(
+        console,
         command,
         step,
         part,
@@ -232,8 +243,9 @@ fn tree(command: &[u8], step: &[u8], part: Part) -> bool {
     )
 }
 
-fn explain(command: &[u8], step: &[u8], part: Part) -> bool {
+fn explain(console: &mut Console, command: &[u8], step: &[u8], part: Part) -> bool {
     print(
+        console,
         command,
         step,
         part,
@@ -259,8 +271,9 @@ fn explain(command: &[u8], step: &[u8], part: Part) -> bool {
     )
 }
 
-fn report(command: &[u8], step: &[u8], part: Part) -> bool {
+fn report(console: &mut Console, command: &[u8], step: &[u8], part: Part) -> bool {
     print(
+        console,
         command,
         step,
         part,
@@ -281,8 +294,9 @@ fn report(command: &[u8], step: &[u8], part: Part) -> bool {
     )
 }
 
-fn report_sum(command: &[u8], step: &[u8], part: Part) -> bool {
+fn report_sum(console: &mut Console, command: &[u8], step: &[u8], part: Part) -> bool {
     print(
+        console,
         command,
         step,
         part,
@@ -302,8 +316,9 @@ fn report_sum(command: &[u8], step: &[u8], part: Part) -> bool {
     )
 }
 
-fn season(command: &[u8], step: &[u8], part: Part) -> bool {
+fn season(console: &mut Console, command: &[u8], step: &[u8], part: Part) -> bool {
     print(
+        console,
         command,
         step,
         part,
@@ -339,8 +354,9 @@ fn season(command: &[u8], step: &[u8], part: Part) -> bool {
     )
 }
 
-fn path(command: &[u8], step: &[u8], part: Part) -> bool {
+fn path(console: &mut Console, command: &[u8], step: &[u8], part: Part) -> bool {
     print(
+        console,
         command,
         step,
         part,
@@ -360,8 +376,9 @@ fn path(command: &[u8], step: &[u8], part: Part) -> bool {
     )
 }
 
-fn policy(command: &[u8], step: &[u8], part: Part) -> bool {
+fn policy(console: &mut Console, command: &[u8], step: &[u8], part: Part) -> bool {
     print(
+        console,
         command,
         step,
         part,
@@ -380,8 +397,9 @@ fn policy(command: &[u8], step: &[u8], part: Part) -> bool {
     )
 }
 
-fn rpc(command: &[u8], step: &[u8], part: Part) -> bool {
+fn rpc(console: &mut Console, command: &[u8], step: &[u8], part: Part) -> bool {
     print(
+        console,
         command,
         step,
         part,
@@ -412,8 +430,9 @@ fn rpc(command: &[u8], step: &[u8], part: Part) -> bool {
     )
 }
 
-fn log(command: &[u8], step: &[u8], part: Part) -> bool {
+fn log(console: &mut Console, command: &[u8], step: &[u8], part: Part) -> bool {
     print(
+        console,
         command,
         step,
         part,
@@ -442,8 +461,9 @@ fn log(command: &[u8], step: &[u8], part: Part) -> bool {
     )
 }
 
-fn rotate(command: &[u8], step: &[u8], part: Part) -> bool {
+fn rotate(console: &mut Console, command: &[u8], step: &[u8], part: Part) -> bool {
     print(
+        console,
         command,
         step,
         part,
@@ -499,8 +519,9 @@ fn rotate(command: &[u8], step: &[u8], part: Part) -> bool {
     )
 }
 
-fn about_version(command: &[u8], step: &[u8], part: Part) -> bool {
+fn about_version(console: &mut Console, command: &[u8], step: &[u8], part: Part) -> bool {
     print(
+        console,
         command,
         step,
         part,
@@ -514,39 +535,39 @@ fn about_version(command: &[u8], step: &[u8], part: Part) -> bool {
 }
 
 // The version of the product, as include/burgee.h has it.
-pub fn version() {
-    cli_show::word(b"burgee 0.1.0\n");
+pub fn version(console: &mut Console) {
+    cli_show::word(console, b"burgee 0.1.0\n");
 }
 
 // What is to be printed of the page that tells of a command; false where no page does.
-fn find(command: &[u8], step: &[u8], part: Part) -> bool {
-    table(command, step, part)
-        | conversion(command, step, part)
-        | groups(command, step, part)
-        | verdict(command, step, part)
-        | tree(command, step, part)
-        | explain(command, step, part)
-        | report(command, step, part)
-        | report_sum(command, step, part)
-        | season(command, step, part)
-        | path(command, step, part)
-        | policy(command, step, part)
-        | rpc(command, step, part)
-        | log(command, step, part)
-        | rotate(command, step, part)
-        | about_version(command, step, part)
+fn find(console: &mut Console, command: &[u8], step: &[u8], part: Part) -> bool {
+    table(console, command, step, part)
+        | conversion(console, command, step, part)
+        | groups(console, command, step, part)
+        | verdict(console, command, step, part)
+        | tree(console, command, step, part)
+        | explain(console, command, step, part)
+        | report(console, command, step, part)
+        | report_sum(console, command, step, part)
+        | season(console, command, step, part)
+        | path(console, command, step, part)
+        | policy(console, command, step, part)
+        | rpc(console, command, step, part)
+        | log(console, command, step, part)
+        | rotate(console, command, step, part)
+        | about_version(console, command, step, part)
 }
 
 // One command's help, or all of it; false where there is no such command.
-pub fn on(command: &[u8]) -> bool {
+pub fn on(console: &mut Console, command: &[u8]) -> bool {
     if (command.len() == 0) | text::string::is_same(command, b"help") {
-        all();
+        all(console);
         return true;
     }
-    find(command, b"", Part::Page)
+    find(console, command, b"", Part::Page)
 }
 
 // Prints to standard error how a command is called, or that step of it.
-pub fn usage(command: &[u8], step: &[u8]) {
-    find(command, step, Part::Usage);
+pub fn usage(console: &mut Console, command: &[u8], step: &[u8]) {
+    let _ = find(console, command, step, Part::Usage);
 }

@@ -12,6 +12,8 @@ ghost use Rattle.table_rows.specs.Strings.{strings_in, Listed};
 ghost use Rattle.cli_names.specs.Names.{small, alike, led, lead_of, listed, grouping, sentence, told, slip, max_line};
 ghost use Rattle.cli_names.specs.Positions.{subjects_in, users_in, Pushed, Stand, RulesReady, GatherReady, Gathered, TableReady};
 
+use cli_show::Stream;
+use cli_show::console::Console;
 use table_load::Loaded;
 
 // As many users as a table can name, and the longest line.
@@ -246,8 +248,8 @@ pub fn write_line(text: &[u8], user: &[u8], out: &mut [u8]) -> usize
 }
 
 // Says on standard error that the table names no such user, where that is so.
-pub fn tell(text: &[u8], user: &[u8]) {
+pub fn tell(console: &mut Console, text: &[u8], user: &[u8]) {
     let mut out = [0u8; MAX_LINE];
     let n = write_line(text, user, &mut out);
-    cli_show::first_to(2, &out, n);
+    cli_show::first_to(console, Stream::Error, &out, n);
 }

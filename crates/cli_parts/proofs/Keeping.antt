@@ -6,7 +6,7 @@ use mathlib.Core.Path.{◌≡◌, refl, sym, ap, ◌∙◌}
 use mathlib.Core.List.{List, [], ◌∷◌, ◌++◌}
 use lib.ListN.{length, take, drop, get_or, set, length-set, length-drop, length-append, take-append-drop}
 use lib.Seq.{take-suc, take_all, take-append_seam, length-take-le, take-set-le, drop-set-lt, drop-drop, get_or-take, get_or-drop, get_or-set_same}
-use Rattle.io.specs.Counts.{IsPrefixLen}
+use Rattle.cli_show.specs.Counts.{IsPrefixLen}
 use Rattle.text.specs.Frame.{part}
 use Rattle.text.specs.Fill.{put}
 use Rattle.text.specs.Steps.{Wrote}

@@ -1,12 +1,16 @@
 // Files that can be long, read in parts of a fixed size: whole lines are used at once, and the bytes of an unfinished line are kept before the next part.
+#![tactic(auto)]
+
 ghost use Rattle.std.specs.Prelude.{◌≡◌, ◌+◌, ◌≤◌, length};
 ghost use Rattle.text.specs.Frame.{part};
 ghost use Rattle.text.specs.Steps.{Wrote};
-ghost use Rattle.io.specs.Counts.{IsPrefixLen};
+ghost use Rattle.cli_show.specs.Counts.{IsPrefixLen};
 ghost use Rattle.cli_parts.specs.Parts.{whole_length, KeptFirst};
 
 use cli_console::input;
 use cli_console::input::Read;
+use cli_console::source::Source;
+use cli_show::console::Console;
 
 // How many bytes are kept and read at once.
 pub const ROOM: usize = 65536;
@@ -38,15 +42,22 @@ pub fn keep(buf: &mut [u8], from: usize, to: usize) -> usize
     i
 }
 
-// The same, and then reads more of the descriptor behind them, as `cli_console::input::fill` does. The count is that of all bytes there: fewer than buf has
+// The same, and then reads more of the source behind them, as `cli_console::input::fill` does. The count is that of all bytes there: fewer than buf has
 // room for are the last.
-pub fn more(argument: usize, fd: i32, buf: &mut [u8], from: usize, to: usize) -> Read
+pub fn more(
+    console: &mut Console,
+    argument: usize,
+    source: &mut Source,
+    buf: &mut [u8],
+    from: usize,
+    to: usize,
+) -> Read
     requires { (from ≤ to) × (to ≤ length buf.old) }
     ensures prefix_len { IsPrefixLen result.count buf.new }
     ensures kept_first { KeptFirst buf.old from to buf.new result.count }
 {
     let kept = keep(buf, from, to);
-    let got = input::fill(argument, fd, &mut buf[kept..]);
+    let got = input::fill(console, argument, source, &mut buf[kept..]);
     Read {
         is_good: got.is_good,
         count: kept + got.count,

@@ -1,4 +1,5 @@
 // A policy's refusal, with the line of its fault.
+use cli_show::console::Console;
 
 // The line of the fault; 0 for a number that is not about the text's content.
 fn line(text: &[u8], number: u8) -> usize {
@@ -9,6 +10,6 @@ fn line(text: &[u8], number: u8) -> usize {
 }
 
 // Prints the refusal of a policy text by this number, or of a request on it.
-pub fn tell(text: &[u8], number: u8) {
-    cli_console::refusal::of_text(text, number, line(text, number));
+pub fn tell(console: &mut Console, text: &[u8], number: u8) {
+    cli_console::refusal::of_text(console, text, number, line(text, number));
 }

@@ -1,7 +1,11 @@
 // The probes of a rotation: a request judged on what is in force.
+#![tactic(auto)]
+
 pub mod lines;
 
 use cli_answers::lines::Fallback;
+use cli_show::console::Console;
+use cli_show::{TEXT_ROOM, WORD_ROOM};
 use rotation::Record;
 use rotation_probe::force::Source;
 use rotation_probe::rpcs::RpcAnswer;
@@ -9,6 +13,7 @@ use rpc::verdict::Verdict;
 
 // What is asked of a path; `text` names the rules.
 fn answer_table(
+    console: &mut Console,
     r: Record,
     store: &[u8],
     text: &[u8],
@@ -19,18 +24,19 @@ fn answer_table(
     path: &[u8],
     fallback: Fallback,
 ) {
-    cli_names::tell(text, user);
+    cli_names::tell(console, text, user);
     if is_tree {
         let a = rotation_probe::probe_tree(r, store, user, mode, origin, path);
-        cli_answers::tree(text, a, fallback);
+        cli_answers::tree(console, text, a, fallback);
     } else {
         let a = rotation_probe::probe_path(r, store, user, mode, origin, path);
-        cli_answers::path(text, a, fallback);
+        cli_answers::path(console, text, a, fallback);
     }
 }
 
 // The same, on what is in force.
 fn judge(
+    console: &mut Console,
     r: Record,
     store: &[u8],
     is_tree: bool,
@@ -41,8 +47,9 @@ fn judge(
 ) {
     let s = rotation_probe::force::find_source(r, store.len(), 2);
     match s {
-        Source::Refused(number) => cli_console::refusal::at(number, 0),
+        Source::Refused(number) => cli_console::refusal::at(console, number, 0),
         Source::Factory => answer_table(
+            console,
             r,
             store,
             b"",
@@ -54,6 +61,7 @@ fn judge(
             Fallback::Factory,
         ),
         Source::Part { start, end } => answer_table(
+            console,
             r,
             store,
             &store[start..end],
@@ -68,16 +76,17 @@ fn judge(
 }
 
 // burgee rotate verdict|tree FILE USER read|write ORIGIN PATH
-pub fn table(r: Record, store: &[u8], is_tree: bool) {
-    let mut user = io::buffer();
-    let u = cli_console::input::word(4, &mut user);
-    let mode = cli_console::input::mode(5, b"rotate");
-    let mut origin = io::buffer();
-    let o = cli_console::input::word(6, &mut origin);
-    let mut path = io::large_buffer();
-    let p = cli_console::input::word(7, &mut path);
+pub fn table(console: &mut Console, r: Record, store: &[u8], is_tree: bool) {
+    let mut user = [0u8; WORD_ROOM];
+    let u = cli_console::input::word(console, 4, &mut user);
+    let mode = cli_console::input::mode(console, 5, b"rotate");
+    let mut origin = [0u8; WORD_ROOM];
+    let o = cli_console::input::word(console, 6, &mut origin);
+    let mut path = [0u8; TEXT_ROOM];
+    let p = cli_console::input::word(console, 7, &mut path);
     if mode != 0 {
         judge(
+            console,
             r,
             store,
             is_tree,
@@ -90,34 +99,34 @@ pub fn table(r: Record, store: &[u8], is_tree: bool) {
 }
 
 // A probe's answer; `policy` names the rules.
-fn tell_rpc(policy: &[u8], a: RpcAnswer) {
+fn tell_rpc(console: &mut Console, policy: &[u8], a: RpcAnswer) {
     let mut out = [0u8; cli_show::MAX_LINES];
     let n = lines::rpc(policy, a, &mut out);
-    cli_show::first(&out, n);
+    cli_show::first(console, &out, n);
     if let RpcAnswer::Judged(v) = a {
         if let Verdict::Refused(number) = v {
-            cli_policy::refusal::tell(policy, number);
+            cli_policy::refusal::tell(console, policy, number);
         }
     }
 }
 
 // The same, with the text in force.
-fn answer_rpc(r: Record, store: &[u8], a: RpcAnswer) {
+fn answer_rpc(console: &mut Console, r: Record, store: &[u8], a: RpcAnswer) {
     let s = rotation_probe::force::find_source(r, store.len(), 1);
     match s {
-        Source::Part { start, end } => tell_rpc(&store[start..end], a),
-        _ => tell_rpc(b"", a),
+        Source::Part { start, end } => tell_rpc(console, &store[start..end], a),
+        _ => tell_rpc(console, b"", a),
     }
 }
 
 // burgee rotate rpc FILE IDENTITY PATH [HEADERS-FILE]
-pub fn policy(r: Record, store: &[u8], words: usize) {
-    let mut identity = io::buffer();
-    let i = cli_console::input::word(4, &mut identity);
-    let mut path = io::buffer();
-    let p = cli_console::input::word(5, &mut path);
-    let mut headers = io::large_buffer();
-    let got = cli_policy::rpcs::headers(6, words, &mut headers);
+pub fn policy(console: &mut Console, r: Record, store: &[u8], words: usize) {
+    let mut identity = [0u8; WORD_ROOM];
+    let i = cli_console::input::word(console, 4, &mut identity);
+    let mut path = [0u8; WORD_ROOM];
+    let p = cli_console::input::word(console, 5, &mut path);
+    let mut headers = [0u8; TEXT_ROOM];
+    let got = cli_policy::rpcs::headers(console, 6, words, &mut headers);
     let h = got.count;
     if got.is_good {
         let a = rotation_probe::rpcs::probe_rpc(
@@ -127,6 +136,6 @@ pub fn policy(r: Record, store: &[u8], words: usize) {
             &path[..p],
             &headers[..h],
         );
-        answer_rpc(r, store, a);
+        answer_rpc(console, r, store, a);
     }
 }

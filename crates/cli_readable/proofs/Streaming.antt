@@ -11,7 +11,7 @@ use lib.Seq.{length-take-le}
 use Rattle.limits.specs.Limits.{max_log_lines}
 use Rattle.text.specs.String.{Str}
 use Rattle.text.proofs.Tests.{by, clash}
-use Rattle.io.specs.Counts.{IsPrefixLen}
+use Rattle.cli_show.specs.Counts.{IsPrefixLen}
 use Rattle.cli_parts.specs.Parts.{whole_length}
 use Rattle.cli_parts.proofs.Whole.{whole_within}
 use Rattle.readable_log.specs.declared.Run.{Run}

@@ -7,6 +7,7 @@ ghost use Rattle.std.specs.Prelude.{◌≡◌, ◌<◌};
 ghost use Rattle.cli_record.specs.Bytes.{byte_of, record_bytes, of_four_bytes, number_at, record_in};
 ghost use Rattle.cli_record.specs.Factory.{factory_record};
 
+use cli_show::console::Console;
 use rotation::Record;
 
 // How many bytes of a file are its record.
@@ -85,18 +86,18 @@ pub fn factory(kind: u32) -> Record
 }
 
 // Prints what a record says, unless it or its store of n bytes is refused.
-pub fn tell(r: Record, n: usize) {
+pub fn tell(console: &mut Console, r: Record, n: usize) {
     let number = rotation::state::refusal(r, n, limits::CLEAR);
     if number == limits::CLEAR {
-        print(r);
+        print(console, r);
     } else {
-        cli_console::refusal::at(number, 0);
+        cli_console::refusal::at(console, number, 0);
     }
 }
 
 // Prints what a record says.
-pub fn print(r: Record) {
+pub fn print(console: &mut Console, r: Record) {
     let mut out = [0u8; cli_show::MAX_LINES];
     let n = crate::lines::record(r, &mut out);
-    cli_show::first(&out, n);
+    cli_show::first(console, &out, n);
 }

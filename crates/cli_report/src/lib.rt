@@ -1,18 +1,21 @@
 // How often each rule of a table decided over a log, and the grid. A log can be long: it is counted in parts.
 // burgee report TABLE LOG
+#![tactic(auto)]
+
 mod progress;
 
 ghost use Rattle.std.specs.Prelude.{true, ◌≡◌, ◌≤◌, length};
 ghost use Rattle.limits.specs.Sizes.{max_heading, max_log_frame};
-ghost use Rattle.text.specs.HexTable.{HexTable};
 ghost use Rattle.season_count.specs.Counts.{UpTo};
-ghost use Rattle.season_count.specs.Loaded.{Sound, Ready};
+ghost use Rattle.season_count.specs.Loaded.{Sound, Remembered};
 ghost use Rattle.cli_report.specs.Counted.{NothingCounted, CountedRead, CountedOn};
 
 use cli_console::input;
+use cli_console::source::Source;
+use cli_show::Stream;
+use cli_show::console::Console;
 use season_count::lines::Ended;
 use table_load::Loaded;
-use text_hash::Seed;
 
 // How many of the first `to` bytes of a part are counted at once: its whole lines; or all, where it is the last part or no line ends in it.
 fn lines_end(part: &[u8], to: usize) -> usize
@@ -30,20 +33,21 @@ fn lines_end(part: &[u8], to: usize) -> usize
 }
 
 // Tells why a log is refused, and prints the line, which stands in a text that comes after `before` lines. Standard output is for the report alone.
-fn refuse(text: &[u8], before: usize, e: Ended) {
+fn refuse(console: &mut Console, text: &[u8], before: usize, e: Ended) {
     let Ended::Refused { number, line } = e else {
         return;
     };
-    cli_console::refusal::to(2, number, line);
+    cli_console::refusal::to(console, Stream::Error, number, line);
     if before < line {
-        cli_console::refusal::quote_line(2, text, line - before, true);
+        cli_console::refusal::quote_line(console, Stream::Error, text, line - before, true);
     }
 }
 
-// Counts the log that a descriptor, made of an argument, has; or tells why not. The others are those of `season_count::lines::count_lines`.
+// Counts the log that a source, made of an argument, has; or tells why not. The others are those of `season_count::lines::count_lines`.
 fn count_parts(
+    console: &mut Console,
     argument: usize,
-    fd: i32,
+    source: &mut Source,
     f: &[u8],
     users: &[u16],
     owners: &[u8],
@@ -51,33 +55,28 @@ fn count_parts(
     starts: &[u16],
     holders: &[u8],
     n: usize,
-    keys: &[u64],
-    first: &[u16],
-    heads: &[u16],
-    links: &[u16],
-    seed: Seed,
     part: &mut [u8],
-    hex: &[u8; 256],
     line: &mut [u8],
     key: &mut [u8],
+    on: &mut [u8],
     counts: &mut [u64; limits::MAX_RULES],
     grid: &mut [[u64; 3]; 2],
 ) -> bool
     requires { Sound f.now users.now owners.now m starts.now holders.now n
-        × Ready seed f.now users.now m starts.now n keys.now first.now heads.now links.now × (max_heading ≤ length key.old)
-        × (max_log_frame ≤ length line.old) × UpTo 0 counts.old grid.old × HexTable hex.now }
+        × Remembered f.now users.now owners.now m starts.now holders.now n key.old 0 on.old × (max_heading ≤ length key.old)
+        × (max_log_frame ≤ length line.old) × UpTo 0 counts.old grid.old }
     ensures { result ≡ true → CountedRead f.now users.now owners.now m starts.now holders.now n
         counts.old grid.old counts.new grid.new }
 {
     let mut all = 0;
-    let mut last = season_count::heading::nobody();
+    let mut len = 0;
     let mut from = 0;
     let mut to = 0;
     // each part but the last has a line, so there are no more of them
     let mut parts = 0;
-    let mut told = progress::begin();
+    let mut told = progress::begin(console);
     while parts <= limits::MAX_LOG_LINES {
-        let got = cli_parts::more(argument, fd, part, from, to);
+        let got = cli_parts::more(console, argument, source, part, from, to);
         if !got.is_good {
             return false;
         }
@@ -91,30 +90,29 @@ fn count_parts(
             starts,
             holders,
             n,
-            keys,
-            first,
-            heads,
-            links,
-            seed,
             &part[..from],
             all,
-            hex,
             line,
             key,
-            last,
+            len,
+            on,
             counts,
             grid,
         );
-        let Ended::Lines { all: lines, asked } = e else {
-            refuse(&part[..from], all, e);
+        let Ended::Lines {
+            all: lines,
+            len: head,
+        } = e
+        else {
+            refuse(console, &part[..from], all, e);
             return false;
         };
         all = lines;
-        last = asked;
+        len = head;
         if to < part.len() {
             return true;
         }
-        told = progress::tell(told, all);
+        told = progress::tell(console, told, all);
         parts += 1;
     }
     false
@@ -122,6 +120,7 @@ fn count_parts(
 
 // The same of the file that an argument names.
 fn count_file(
+    console: &mut Console,
     argument: usize,
     f: &[u8],
     users: &[u16],
@@ -137,39 +136,45 @@ fn count_file(
     ensures { result ≡ true → CountedRead f.now users.now owners.now m starts.now holders.now n
         counts.old grid.old counts.new grid.new }
 {
-    let fd = input::open(argument);
-    if fd < 0 {
+    let Some(mut source) = input::open(console, argument) else {
         return false;
-    }
+    };
     let mut part = [0u8; cli_parts::ROOM];
-    let hex = text::byte::hex_table();
     let mut line = [0u8; limits::MAX_LOG_FRAME];
     let mut key = [0u8; limits::MAX_HEADING];
-    let mut keys = [0u64; limits::MAX_RULES];
-    let mut first = [0u16; rule_index::keys::BUCKETS];
-    let mut heads = [0u16; member_index::PLACES];
-    let mut links = [0u16; limits::MAX_MEMBERS];
-    let seed = text_hash::factors::start();
-    season_count::ready::make_ready(
-        f, users, m, starts, n, seed, &mut keys, &mut first, &mut heads, &mut links,
-    );
+    let mut on = [0u8; limits::MAX_RULES];
     count_parts(
-        argument, fd, f, users, owners, m, starts, holders, n, &keys, &first, &heads, &links, seed,
-        &mut part, &hex, &mut line, &mut key, counts, grid,
+        console,
+        argument,
+        &mut source,
+        f,
+        users,
+        owners,
+        m,
+        starts,
+        holders,
+        n,
+        &mut part,
+        &mut line,
+        &mut key,
+        &mut on,
+        counts,
+        grid,
     )
 }
 
 // Tells why a table is refused.
-fn refuse_table(table: &[u8], l: Loaded) {
+fn refuse_table(console: &mut Console, table: &[u8], l: Loaded) {
     let Loaded::Refused { number, line } = l else {
         return;
     };
-    cli_console::refusal::to(2, number, line);
-    cli_console::refusal::quote_line(2, table, line, number == 2);
+    cli_console::refusal::to(console, Stream::Error, number, line);
+    cli_console::refusal::quote_line(console, Stream::Error, table, line, number == 2);
 }
 
 // Counts on a table the log that an argument names; whether that went well. What is not well is told.
 pub fn count(
+    console: &mut Console,
     table: &[u8],
     argument: usize,
     counts: &mut [u64; limits::MAX_RULES],
@@ -194,10 +199,11 @@ pub fn count(
         &mut holders,
     );
     let Loaded::Table { used, counts: rows } = l else {
-        refuse_table(table, l);
+        refuse_table(console, table, l);
         return false;
     };
     count_file(
+        console,
         argument,
         &buf[..used],
         &users,
@@ -212,17 +218,17 @@ pub fn count(
 }
 
 // Prints the report.
-fn print(counts: &[u64; limits::MAX_RULES], grid: [[u64; 3]; 2]) {
-    let mut out = [0u8; season_call::written::REPORT_ROOM];
+fn print(console: &mut Console, counts: &[u64; limits::MAX_RULES], grid: [[u64; 3]; 2]) {
+    let mut out = [0u8; limits::REPORT_LINES * season_call::written::LINE_ROOM];
     let n = season_call::written::write(counts, grid, &mut out);
-    cli_show::first(&out, n);
+    cli_show::first(console, &out, n);
 }
 
 // The report on a table, and on the log that an argument names.
-pub fn report(table: &[u8], argument: usize) {
+pub fn report(console: &mut Console, table: &[u8], argument: usize) {
     let mut counts = [0u64; limits::MAX_RULES];
     let mut grid = [[0u64; 3]; 2];
-    if count(table, argument, &mut counts, &mut grid) {
-        print(&counts, grid);
+    if count(console, table, argument, &mut counts, &mut grid) {
+        print(console, &counts, grid);
     }
 }

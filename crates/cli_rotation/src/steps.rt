@@ -1,26 +1,29 @@
 // The steps of a rotation.
+use cli_console::source::Source;
+use cli_show::console::Console;
+use cli_show::{TEXT_ROOM, WORD_ROOM};
 use rotation::{Record, Stepped};
 use table::Checked;
 
 // Writes the record and the store to the file, and behind them what is left to read of `from`; prints the record where all went well.
-fn keep(r: Record, store: &[u8], from: i32) {
+fn keep(console: &mut Console, r: Record, store: &[u8], from: &mut Source) {
     let bytes = cli_record::to_bytes(r);
-    let begun = cli_saving::begin(3, true);
-    let with_record = cli_saving::add(begun, &bytes);
-    let with_store = cli_saving::add(with_record, store);
-    let with_rest = cli_saving::add_rest(with_store, from);
-    if cli_saving::finish(with_rest) {
-        cli_record::print(r);
+    let begun = cli_saving::begin(console, 3, true);
+    let with_record = cli_saving::add(console, begun, &bytes);
+    let with_store = cli_saving::add(console, with_record, store);
+    let with_rest = cli_saving::add_rest(console, with_store, from);
+    if cli_saving::finish(console, with_rest) {
+        cli_record::print(console, r);
     }
 }
 
 // Keeps what a step makes of the record, or prints why it is refused.
-fn settle(s: Stepped, store: &[u8], from: i32) {
+fn settle(console: &mut Console, s: Stepped, store: &[u8], from: &mut Source) {
     let a = s.answer;
     let next = s.next;
     match a {
-        Checked::Accepted => keep(next, store, from),
-        Checked::Refused { number, line } => cli_console::refusal::at(number, line),
+        Checked::Accepted => keep(console, next, store, from),
+        Checked::Refused { number, line } => cli_console::refusal::at(console, number, line),
     }
 }
 
@@ -36,57 +39,62 @@ fn kind(word: &[u8]) -> u32 {
 }
 
 // burgee rotate new FILE policy|table
-fn new() {
-    let mut word = io::buffer();
-    let w = cli_console::input::word(4, &mut word);
+fn new(console: &mut Console) {
+    let mut word = [0u8; WORD_ROOM];
+    let w = cli_console::input::word(console, 4, &mut word);
     let k = kind(&word[..w]);
     if k == 0 {
-        cli_console::say::usage(b"a record is for a policy or for a table", b"", b"rotate");
+        cli_console::say::usage(
+            console,
+            b"a record is for a policy or for a table",
+            b"",
+            b"rotate",
+        );
         return;
     }
-    make(cli_record::factory(k));
+    make(console, cli_record::factory(k));
 }
 
 // Makes the file, which may not be there.
-fn make(r: Record) {
+fn make(console: &mut Console, r: Record) {
     let bytes = cli_record::to_bytes(r);
     let store = [0u8; limits::STORE_LENGTH];
-    let begun = cli_saving::begin(3, false);
-    let with_record = cli_saving::add(begun, &bytes);
-    let with_store = cli_saving::add(with_record, &store);
-    if cli_saving::finish(with_store) {
-        cli_record::print(r);
+    let begun = cli_saving::begin(console, 3, false);
+    let with_record = cli_saving::add(console, begun, &bytes);
+    let with_store = cli_saving::add(console, with_record, &store);
+    if cli_saving::finish(console, with_store) {
+        cli_record::print(console, r);
     }
 }
 
 // Keeps what an upload makes of record and store, or prints why it is refused.
-fn settle_upload(s: Stepped, store: &[u8], text: &[u8], from: i32) {
+fn settle_upload(console: &mut Console, s: Stepped, store: &[u8], text: &[u8], from: &mut Source) {
     let a = s.answer;
     let next = s.next;
     match a {
-        Checked::Accepted => keep(next, store, from),
+        Checked::Accepted => keep(console, next, store, from),
         Checked::Refused { number, line } => {
             if number < 30 {
-                cli_console::refusal::of_text(text, number, line);
+                cli_console::refusal::of_text(console, text, number, line);
             } else {
-                cli_policy::refusal::tell(text, number);
+                cli_policy::refusal::tell(console, text, number);
             }
         }
     }
 }
 
 // burgee rotate upload FILE TEXT
-fn upload(r: Record, store: &mut [u8], from: i32) {
-    let mut text = io::large_buffer();
-    let got = cli_console::input::file(4, &mut text);
+fn upload(console: &mut Console, r: Record, store: &mut [u8], from: &mut Source) {
+    let mut text = [0u8; TEXT_ROOM];
+    let got = cli_console::input::file(console, 4, &mut text);
     let n = got.count;
     if got.is_good {
         let s = rotation_upload::upload(r, store, &text[..n]);
-        settle_upload(s, store, &text[..n], from);
+        settle_upload(console, s, store, &text[..n], from);
     }
 }
 
-#[derive(Drop)]
+#[derive(Clone, Copy)]
 enum Step {
     Start,
     Finalize,
@@ -132,59 +140,81 @@ fn takes(step: Step, words: usize) -> bool {
 }
 
 // A step on a record and its store; what stands behind them in the file is left to read of `from`.
-fn run_on(step: Step, words: usize, r: Record, store: &mut [u8], from: i32) {
+fn run_on(
+    console: &mut Console,
+    step: Step,
+    words: usize,
+    r: Record,
+    store: &mut [u8],
+    from: &mut Source,
+) {
     match step {
-        Step::Start => settle(rotation_step::start(r, store.len()), store, from),
-        Step::Finalize => settle(rotation_step::finalize(r, store.len()), store, from),
-        Step::Close => settle(rotation_step::close(r, store.len()), store, from),
-        Step::Upload => upload(r, store, from),
-        Step::Verdict => cli_probe::table(r, store, false),
-        Step::Tree => cli_probe::table(r, store, true),
-        Step::Rpc => cli_probe::policy(r, store, words),
-        _ => cli_record::tell(r, store.len()),
+        Step::Start => settle(console, rotation_step::start(r, store.len()), store, from),
+        Step::Finalize => settle(
+            console,
+            rotation_step::finalize(r, store.len()),
+            store,
+            from,
+        ),
+        Step::Close => settle(console, rotation_step::close(r, store.len()), store, from),
+        Step::Upload => upload(console, r, store, from),
+        Step::Verdict => cli_probe::table(console, r, store, false),
+        Step::Tree => cli_probe::table(console, r, store, true),
+        Step::Rpc => cli_probe::policy(console, r, store, words),
+        _ => cli_record::tell(console, r, store.len()),
     }
 }
 
 // Reads the store, and takes the step.
-fn run_with(step: Step, words: usize, r: Record, from: i32) {
+fn run_with(console: &mut Console, step: Step, words: usize, r: Record, from: &mut Source) {
     let mut store = [0u8; limits::STORE_LENGTH];
-    let got = cli_console::input::fill(3, from, &mut store);
+    let got = cli_console::input::fill(console, 3, from, &mut store);
     let n = got.count;
     if got.is_good {
-        run_on(step, words, r, &mut store[..n], from);
+        run_on(console, step, words, r, &mut store[..n], from);
     }
 }
 
 // Reads the file: the record, then the store.
-fn open(step: Step, words: usize) {
-    let from = cli_console::input::open(3);
-    if from < 0 {
+fn open(console: &mut Console, step: Step, words: usize) {
+    let Some(mut from) = cli_console::input::open(console, 3) else {
         return;
-    }
+    };
     let mut bytes = [0u8; cli_record::LENGTH];
-    let got = cli_console::input::fill(3, from, &mut bytes);
+    let got = cli_console::input::fill(console, 3, &mut from, &mut bytes);
     if !got.is_good {
         return;
     }
     if got.count != cli_record::LENGTH {
-        cli_console::input::complain(3, b": shorter than a record, which has 20 bytes");
+        cli_console::input::complain(console, 3, b": shorter than a record, which has 20 bytes");
         return;
     }
-    run_with(step, words, cli_record::of_bytes(&bytes), from);
+    run_with(
+        console,
+        step,
+        words,
+        cli_record::of_bytes(&bytes),
+        &mut from,
+    );
 }
 
 // The step, if there is one of that name and it takes that many words.
-pub fn run(word: &[u8], words: usize) {
+pub fn run(console: &mut Console, word: &[u8], words: usize) {
     let step = named(word);
     if let Step::Unknown = step {
-        cli_console::say::usage(b"no such step of a rotation: ", word, b"rotate");
+        cli_console::say::usage(console, b"no such step of a rotation: ", word, b"rotate");
     } else if !takes(step, words) {
-        cli_console::say::misuse(b"rotate");
-    } else if cli_console::input::is_standard(3) {
-        cli_console::say::usage(b"a record and its store are kept in a file", b"", b"rotate");
+        cli_console::say::misuse(console, b"rotate");
+    } else if cli_console::input::is_standard(console, 3) {
+        cli_console::say::usage(
+            console,
+            b"a record and its store are kept in a file",
+            b"",
+            b"rotate",
+        );
     } else if let Step::New = step {
-        new();
+        new(console);
     } else {
-        open(step, words);
+        open(console, step, words);
     }
 }

@@ -1,25 +1,40 @@
 // Files saved whole. The new file is written beside the old one, in the same folder, flushed to the disk, and then renamed: at every moment the name
 // stands for the old file or for the new one. Where something fails, the new file is removed, and a complaint tells why.
-ghost use Rattle.std.specs.Prelude.{◌≤◌, length};
-ghost use Rattle.io.specs.Counts.{IsPrefixLen};
+#![tactic(auto)]
 
-use libc::PATH_MAX;
+ghost use Rattle.std.specs.Prelude.{◌≤◌, length};
+ghost use Rattle.cli_show.specs.Counts.{IsPrefixLen};
+
+use cli_console::source;
+use cli_console::source::Source;
+use cli_show::WORD_ROOM;
+use cli_show::console::Console;
+use std::fs::{File, OpenOptions};
+use std::io::{Cursor, ErrorKind, Read, Write};
+use std::random::RandomSource;
+use std::{fs, io};
 
 // Room for a path, and for what is put behind it.
-const ROOM: usize = PATH_MAX + 64;
+const ROOM: usize = WORD_ROOM + 64;
 
-const LAST: usize = PATH_MAX - 1;
+// How many bytes are copied at once.
+const COPY_ROOM: usize = 65536;
 
-// A file that is being saved: whether all went well so far, whether it may take another's place, the argument that names it, the number in the new
-// file's name, and the descriptors of the new file and of its folder.
+// A new file beside the one that is saved: whether it may take another's place, the argument that names that one, the number in its own name, and the
+// folder of both.
 #[derive(Drop)]
-pub struct Saving {
-    pub is_good: bool,
+pub struct Beside {
     pub may_replace: bool,
     pub i: usize,
     pub token: u64,
-    pub fd: i32,
-    pub folder: i32,
+    pub folder: File,
+}
+
+// The same, while it is written.
+#[derive(Drop)]
+pub struct Saving {
+    pub beside: Beside,
+    pub file: File,
 }
 
 // What stands at a name.
@@ -44,21 +59,21 @@ fn append(s: &[u8], out: &mut [u8], n: usize) -> usize
 }
 
 // The name that argument i is, and then s.
-fn name_and(i: usize, s: &[u8], out: &mut [u8]) -> usize
+fn name_and(console: &Console, i: usize, s: &[u8], out: &mut [u8]) -> usize
     ensures { IsPrefixLen result out.new }
 {
-    let n = cli_console::input::word(i, out);
+    let n = cli_console::input::word(console, i, out);
     append(s, out, n)
 }
 
 // The name of the new file.
-fn name_beside(i: usize, token: u64, out: &mut [u8]) -> usize
+fn name_beside(console: &Console, i: usize, token: u64, out: &mut [u8]) -> usize
     ensures { IsPrefixLen result out.new }
 {
-    let n = name_and(i, b".unfinished-", out);
-    let mut digits = [0u8; 16];
-    let d = io::hex(token, 8, &mut digits);
-    append(&digits[..d], out, n)
+    let n = name_and(console, i, b".unfinished-", out);
+    let mut digits = [0u8; 8];
+    let _ = write!(Cursor::new(&mut digits[..]), "{token:08x}");
+    append(&digits, out, n)
 }
 
 fn wide(b: u8) -> u64
@@ -68,9 +83,9 @@ fn wide(b: u8) -> u64
 }
 
 // A number by chance, so that no file has the name already. Where one has it all the same, it is not opened.
-fn chance() -> u64 {
+fn chance(console: &Console) -> u64 {
     let mut b = [0u8; 4];
-    libc::getentropy(&mut b);
+    let _ = console.rt.fill_bytes(&mut b);
     wide(b[0]) + 256 * wide(b[1]) + 65536 * wide(b[2]) + 16777216 * wide(b[3])
 }
 
@@ -88,274 +103,281 @@ fn folder_length(path: &[u8]) -> usize
     0
 }
 
-fn open_folder(path: &[u8]) -> i32 {
+fn open_folder(console: &Console, path: &[u8]) -> io::Result<File> {
     let n = folder_length(path);
     if n == 0 {
-        return os::open_read(b".");
+        return File::open(&console.rt, ".");
     }
-    os::open_read(&path[..n])
+    File::open(&console.rt, source::path(&path[..n])?)
+}
+
+// What a name stands for, which is not followed.
+fn look(console: &Console, name: &[u8]) -> io::Result<Place> {
+    let found = fs::symlink_metadata(&console.rt, source::path(name)?)?;
+    if found.is_symlink() {
+        return Ok(Place::Link);
+    }
+    Ok(Place::Taken)
+}
+
+// Complains of a call of the system on the file that argument i names.
+fn complain_of(console: &mut Console, i: usize, error: io::Error) {
+    let mut name = [0u8; ROOM];
+    let n = cli_console::input::word(console, i, &mut name);
+    cli_console::say::failure(console, &name[..n], error);
 }
 
 // What stands at the name that argument i is; Unknown after a complaint.
-fn place_of(i: usize) -> Place {
+fn place_of(console: &mut Console, i: usize) -> Place {
     let mut name = [0u8; ROOM];
-    let n = cli_console::input::word(i, &mut name);
-    let mut path = io::buffer();
-    cli_console::input::word(i, &mut path);
-    path[LAST] = 0;
-    let mut link = [0u8; 1];
-    if 0 <= libc::readlink(&path, &mut link) {
-        return Place::Link;
-    }
-    let error = os::errno();
-    if error == libc::EINVAL {
-        return Place::Taken;
-    }
-    if error == libc::ENOENT {
-        return Place::Free;
-    }
-    cli_console::say::failure(&name[..n]);
-    Place::Unknown
-}
-
-// Flushes the file that is to be replaced, which has to be one that may be written; a device or a folder cannot be flushed so.
-fn flush_old(i: usize) -> bool {
-    let mut name = [0u8; ROOM];
-    let n = cli_console::input::word(i, &mut name);
-    let fd = os::open_update(&name[..n]);
-    if fd < 0 {
-        cli_console::say::failure(&name[..n]);
-        return false;
-    }
-    let status = libc::fsync(fd);
-    // Before a complaint, since standard error, where it was closed, has this number now.
-    libc::close(fd);
-    if status < 0 {
-        cli_console::say::failure(&name[..n]);
-    }
-    0 <= status
-}
-
-fn nothing() -> Saving {
-    Saving {
-        is_good: false,
-        may_replace: false,
-        i: 0,
-        token: 0,
-        fd: -1,
-        folder: -1,
-    }
-}
-
-// Makes the new file.
-fn open(i: usize, may_replace: bool) -> Saving {
-    let token = chance();
-    let mut beside = [0u8; ROOM];
-    let b = name_beside(i, token, &mut beside);
-    let mut name = [0u8; ROOM];
-    let n = cli_console::input::word(i, &mut name);
-    let folder = open_folder(&name[..n]);
-    if folder < 0 {
-        cli_console::say::failure(&name[..n]);
-        return nothing();
-    }
-    let fd = os::create(&beside[..b]);
-    if fd < 0 {
-        cli_console::say::failure(&name[..n]);
-        return nothing();
-    }
-    Saving {
-        is_good: true,
-        may_replace: may_replace,
-        i: i,
-        token: token,
-        fd: fd,
-        folder: folder,
-    }
-}
-
-fn complain_of_taken(i: usize) {
-    cli_console::input::complain(i, b": it is there already");
-}
-
-// Begins to save the file that argument i names: one that is there is replaced at the end, or, unless it may be, complained of.
-pub fn begin(i: usize, may_replace: bool) -> Saving {
-    let place = place_of(i);
-    match place {
-        Place::Free => open(i, may_replace),
-        Place::Taken => {
-            if !may_replace {
-                complain_of_taken(i);
-                return nothing();
-            }
-            if !flush_old(i) {
-                return nothing();
-            }
-            open(i, may_replace)
-        }
-        Place::Link => {
-            cli_console::input::complain(i, b": a symbolic link, not the file itself");
-            nothing()
-        }
-        Place::Unknown => nothing(),
-    }
-}
-
-// Gives up: the new file is removed.
-fn abandon(s: Saving) -> Saving {
-    let mut beside = [0u8; ROOM];
-    let b = name_beside(s.i, s.token, &mut beside);
-    os::unlink(&beside[..b]);
-    libc::close(s.fd);
-    libc::close(s.folder);
-    nothing()
-}
-
-// Writes these bytes next.
-pub fn add(s: Saving, bytes: &[u8]) -> Saving {
-    if !s.is_good {
-        return s;
-    }
-    let mut name = [0u8; ROOM];
-    let n = cli_console::input::word(s.i, &mut name);
-    if io::write_all(s.fd, bytes) {
-        return s;
-    }
-    cli_console::say::failure(&name[..n]);
-    abandon(s)
-}
-
-#[derive(Drop)]
-enum Copied {
-    Some,
-    All,
-    Failed,
-}
-
-// Reads once, and writes what came.
-fn copy_some(from: i32, to: i32) -> Copied {
-    let mut buf = io::large_buffer();
-    let got = libc::read(from, &mut buf);
-    if got < 0 {
-        return Copied::Failed;
-    }
-    if got == 0 {
-        return Copied::All;
-    }
-    let n = io::count(got, &buf);
-    if io::write_all(to, &buf[..n]) {
-        return Copied::Some;
-    }
-    Copied::Failed
-}
-
-// Copies what is left to read. A proved loop has to end, and nothing says that a file does: the turns are counted down from a number that none uses up.
-fn copy_rest(from: i32, to: i32) -> bool {
-    let mut turns = u64::MAX;
-    while 0 < turns {
-        let copied = copy_some(from, to);
-        match copied {
-            Copied::Some => {
-                turns -= 1;
-            }
-            Copied::All => {
-                return true;
-            }
-            Copied::Failed => {
-                return false;
-            }
+    let n = cli_console::input::word(console, i, &mut name);
+    match look(console, &name[..n]) {
+        Ok(place) => place,
+        Err(error) if error.kind() == ErrorKind::NotFound => Place::Free,
+        Err(error) => {
+            complain_of(console, i, error);
+            Place::Unknown
         }
     }
-    false
 }
 
-// Writes next what is left to read of a descriptor.
-pub fn add_rest(s: Saving, from: i32) -> Saving {
-    if !s.is_good {
-        return s;
-    }
+// Opens the file of that name, which has to be one that may be written, and flushes it. It is closed at the end.
+fn flush_named(console: &Console, name: &[u8]) -> io::Result<()> {
+    let file = OpenOptions::new()
+        .read(true)
+        .write(true)
+        .open(&console.rt, source::path(name)?)?;
+    file.sync_all()
+}
+
+// Flushes the file that is to be replaced; a device or a folder cannot be flushed so.
+fn flush_old(console: &mut Console, i: usize) -> bool {
     let mut name = [0u8; ROOM];
-    let n = cli_console::input::word(s.i, &mut name);
-    if copy_rest(from, s.fd) {
-        return s;
-    }
-    cli_console::say::failure(&name[..n]);
-    abandon(s)
-}
-
-// Flushes the new file and closes it.
-fn close(s: Saving) -> Saving {
-    let mut name = [0u8; ROOM];
-    let n = cli_console::input::word(s.i, &mut name);
-    if 0 <= libc::fsync(s.fd) {
-        if 0 <= libc::close(s.fd) {
-            return s;
-        }
-    }
-    cli_console::say::failure(&name[..n]);
-    abandon(s)
-}
-
-// Whether the new file may have its name: a last look, where it may not take another's place.
-fn is_free(s: Saving) -> bool {
-    if s.may_replace {
-        return true;
-    }
-    let place = place_of(s.i);
-    match place {
-        Place::Free => true,
-        Place::Unknown => false,
-        _ => {
-            complain_of_taken(s.i);
+    let n = cli_console::input::word(console, i, &mut name);
+    // It is closed before a complaint, since standard error, where it was closed, had its descriptor.
+    match flush_named(console, &name[..n]) {
+        Ok(()) => true,
+        Err(error) => {
+            complain_of(console, i, error);
             false
         }
     }
 }
 
-// Gives the new file its name.
-fn rename(s: Saving) -> Saving {
-    let mut beside = [0u8; ROOM];
-    let b = name_beside(s.i, s.token, &mut beside);
+// Makes the new file, in the folder of the name.
+fn create(console: &Console, i: usize, may_replace: bool) -> io::Result<Saving> {
+    let token = chance(console);
+    let mut new = [0u8; ROOM];
+    let b = name_beside(console, i, token, &mut new);
     let mut name = [0u8; ROOM];
-    let n = cli_console::input::word(s.i, &mut name);
-    if 0 <= os::rename(&beside[..b], &name[..n]) {
-        return s;
-    }
-    cli_console::say::failure(&name[..n]);
-    abandon(s)
+    let n = cli_console::input::word(console, i, &mut name);
+    let folder = open_folder(console, &name[..n])?;
+    let file = OpenOptions::new()
+        .write(true)
+        .create_new(true)
+        .open(&console.rt, source::path(&new[..b])?)?;
+    let beside = Beside {
+        may_replace,
+        i,
+        token,
+        folder,
+    };
+    Ok(Saving { beside, file })
 }
 
-// Flushes the folder, so that the new name is on the disk too. Some file systems cannot, and say EINVAL.
-fn flush_folder(s: Saving) -> bool {
+// The same, or a complaint.
+fn open(console: &mut Console, i: usize, may_replace: bool) -> Option<Saving> {
+    match create(console, i, may_replace) {
+        Ok(saving) => Some(saving),
+        Err(error) => {
+            complain_of(console, i, error);
+            None
+        }
+    }
+}
+
+fn complain_of_taken(console: &mut Console, i: usize) {
+    cli_console::input::complain(console, i, b": it is there already");
+}
+
+// Begins to save the file that argument i names: one that is there is replaced at the end, or, unless it may be, complained of. Nothing is answered
+// after a complaint, here and below.
+pub fn begin(console: &mut Console, i: usize, may_replace: bool) -> Option<Saving> {
+    match place_of(console, i) {
+        Place::Free => open(console, i, may_replace),
+        Place::Taken => {
+            if !may_replace {
+                complain_of_taken(console, i);
+                return None;
+            }
+            if !flush_old(console, i) {
+                return None;
+            }
+            open(console, i, may_replace)
+        }
+        Place::Link => {
+            cli_console::input::complain(console, i, b": a symbolic link, not the file itself");
+            None
+        }
+        Place::Unknown => None,
+    }
+}
+
+fn remove_beside(console: &Console, i: usize, token: u64) -> io::Result<()> {
+    let mut beside = [0u8; ROOM];
+    let b = name_beside(console, i, token, &mut beside);
+    fs::remove_file(&console.rt, source::path(&beside[..b])?)
+}
+
+// Gives up: the new file is removed.
+fn abandon(console: &Console, s: &Beside) {
+    let _ = remove_beside(console, s.i, s.token);
+}
+
+// Complains of a call on the new file that failed, and gives up.
+fn fail(console: &mut Console, s: &Beside, error: io::Error) {
+    complain_of(console, s.i, error);
+    abandon(console, s);
+}
+
+// Writes these bytes next.
+pub fn add(console: &mut Console, saving: Option<Saving>, bytes: &[u8]) -> Option<Saving> {
+    let mut s = saving?;
+    match s.file.write_all(bytes) {
+        Ok(()) => Some(s),
+        Err(error) => {
+            fail(console, &s.beside, error);
+            None
+        }
+    }
+}
+
+// Reads once, and writes what came; answers how many bytes that was.
+fn copy_some(from: &mut Source, to: &mut File) -> io::Result<usize> {
+    let mut buf = [0u8; COPY_ROOM];
+    let n = from.read(&mut buf)?;
+    to.write_all(&buf[..n])?;
+    Ok(n)
+}
+
+// Copies what is left to read. A proved loop has to end, and nothing says that a file does: the turns are counted, up to a number that none uses up.
+fn copy_rest(from: &mut Source, to: &mut File) -> io::Result<()> {
+    for _ in 0..u64::MAX {
+        if copy_some(from, to)? == 0 {
+            return Ok(());
+        }
+    }
+    Err(io::Error::from(ErrorKind::FileTooLarge))
+}
+
+// Writes next what is left to read of a source.
+pub fn add_rest(
+    console: &mut Console,
+    saving: Option<Saving>,
+    from: &mut Source,
+) -> Option<Saving> {
+    let mut s = saving?;
+    match copy_rest(from, &mut s.file) {
+        Ok(()) => Some(s),
+        Err(error) => {
+            fail(console, &s.beside, error);
+            None
+        }
+    }
+}
+
+// Flushes the new file and closes it.
+fn close(console: &mut Console, s: Saving) -> Option<Beside> {
+    let Saving { beside, file } = s;
+    let flushed = file.sync_all();
+    drop(file);
+    match flushed {
+        Ok(()) => Some(beside),
+        Err(error) => {
+            fail(console, &beside, error);
+            None
+        }
+    }
+}
+
+// Whether the new file may have its name: a last look, where it may not take another's place.
+fn is_free(console: &mut Console, s: &Beside) -> bool {
+    if s.may_replace {
+        return true;
+    }
+    match place_of(console, s.i) {
+        Place::Free => true,
+        Place::Unknown => false,
+        _ => {
+            complain_of_taken(console, s.i);
+            false
+        }
+    }
+}
+
+fn rename_beside(console: &Console, i: usize, token: u64) -> io::Result<()> {
+    let mut new = [0u8; ROOM];
+    let b = name_beside(console, i, token, &mut new);
+    let mut name = [0u8; ROOM];
+    let n = cli_console::input::word(console, i, &mut name);
+    fs::rename(
+        &console.rt,
+        source::path(&new[..b])?,
+        source::path(&name[..n])?,
+    )
+}
+
+// Gives the new file its name.
+fn rename(console: &mut Console, s: Beside) -> Option<Beside> {
+    match rename_beside(console, s.i, s.token) {
+        Ok(()) => Some(s),
+        Err(error) => {
+            fail(console, &s, error);
+            None
+        }
+    }
+}
+
+// Some file systems cannot flush a folder, and say that the call is not valid.
+fn sync_folder(folder: &File) -> io::Result<()> {
+    match folder.sync_all() {
+        Err(error) if error.kind() == ErrorKind::InvalidInput => Ok(()),
+        flushed => flushed,
+    }
+}
+
+// Flushes the folder, so that the new name is on the disk too.
+fn flush_folder(console: &mut Console, s: Beside) -> bool {
     let mut told = [0u8; ROOM];
-    let n = name_and(s.i, b": saved, but its folder is not flushed", &mut told);
-    let mut is_good = 0 <= libc::fsync(s.folder);
-    if !is_good {
-        is_good = os::errno() == libc::EINVAL;
+    let n = name_and(
+        console,
+        s.i,
+        b": saved, but its folder is not flushed",
+        &mut told,
+    );
+    match sync_folder(&s.folder) {
+        Ok(()) => true,
+        Err(error) => {
+            cli_console::say::failure(console, &told[..n], error);
+            false
+        }
     }
-    if !is_good {
-        cli_console::say::failure(&told[..n]);
+}
+
+// Saves the file under its name.
+fn settle(console: &mut Console, saving: Option<Saving>) -> Option<Beside> {
+    let s = close(console, saving?)?;
+    if !is_free(console, &s) {
+        abandon(console, &s);
+        return None;
     }
-    libc::close(s.folder);
-    is_good
+    rename(console, s)
 }
 
 // Ends what `begin` began: answers whether all went well.
-pub fn finish(s: Saving) -> bool {
-    if !s.is_good {
-        return false;
+pub fn finish(console: &mut Console, saving: Option<Saving>) -> bool {
+    match settle(console, saving) {
+        Some(s) => flush_folder(console, s),
+        None => false,
     }
-    let closed = close(s);
-    if !closed.is_good {
-        return false;
-    }
-    if !is_free(s) {
-        abandon(s);
-        return false;
-    }
-    let renamed = rename(s);
-    if !renamed.is_good {
-        return false;
-    }
-    flush_folder(s)
 }

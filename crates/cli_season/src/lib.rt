@@ -11,21 +11,28 @@ ghost use Rattle.limits.specs.Limits.{max_rules};
 ghost use Rattle.cli_season_rules.specs.Steps.{Few};
 ghost use Rattle.cli_season.specs.Steps.{FewCells};
 
+use cli_show::console::Console;
+
 // Prints the page on an accepted table's rules, how often each decided, and the grid.
-pub fn page(text: &[u8], counts: &[u64; limits::MAX_RULES], grid: &[[u64; 3]; 2])
+pub fn page(
+    console: &mut Console,
+    text: &[u8],
+    counts: &[u64; limits::MAX_RULES],
+    grid: &[[u64; 3]; 2],
+)
     requires { (length counts.now ≡ max_rules) × Few counts.now × FewCells grid.now }
 {
     let mut out = [0u8; making::MAX_PAGE];
     let n = making::make(text, counts, grid, &mut out);
     let made = cli_console::input::within(n, &out);
-    cli_show::word(&out[..made]);
+    cli_show::word(console, &out[..made]);
 }
 
 // The page on a table, and on the log that an argument names.
-pub fn season(table: &[u8], argument: usize) {
+pub fn season(console: &mut Console, table: &[u8], argument: usize) {
     let mut counts = [0u64; limits::MAX_RULES];
     let mut grid = [[0u64; 3]; 2];
-    if cli_report::count(table, argument, &mut counts, &mut grid) {
-        page(table, &counts, &grid);
+    if cli_report::count(console, table, argument, &mut counts, &mut grid) {
+        page(console, table, &counts, &grid);
     }
 }

@@ -3,46 +3,62 @@ ghost use Rattle.std.specs.Prelude.{◌≡◌, length};
 ghost use Rattle.limits.specs.Sizes.{report_lines};
 
 use cli_console::input;
-use season_call::written::REPORT_ROOM;
+use cli_show::console::Console;
+use cli_show::{Stream, WORD_ROOM};
 use season_sum::Outcome;
 
-// Room for any report, and a byte more, so that a longer text is told from it.
-const TEXT_ROOM: usize = REPORT_ROOM + 1;
+// Room for the longest report.
+const MAX_REPORT: usize = limits::REPORT_LINES * season_sum::writing::MAX_FIGURE_LINE;
 
-// As many bytes as a path has (io).
-const MAX_NAME: usize = 4096;
+// And for a byte more, so that a longer text is told from it.
+const TEXT_ROOM: usize = MAX_REPORT + 1;
+
+// As many bytes as a word has.
+const MAX_NAME: usize = WORD_ROOM;
 
 // Tells why the report in the file that argument i names is refused.
-fn refuse(i: usize, o: Outcome) {
+fn refuse(console: &mut Console, i: usize, o: Outcome) {
     let mut name = [0u8; MAX_NAME];
-    let k = input::word(i, &mut name);
+    let k = input::word(console, i, &mut name);
     let mut out = [0u8; MAX_NAME + crate::refusals::MAX_WORDS];
     let n = crate::refusals::line(&name[..k], o, &mut out);
-    cli_show::first_to(2, &out, n);
-    cli_show::marks::refusal();
+    cli_show::first_to(console, Stream::Error, &out, n);
+    cli_show::marks::refusal(console);
 }
 
 // And the line of its text that is at fault, where it has one of that number. `is_all` says that the text is the whole file.
-fn quote(text: &[u8], o: Outcome, is_all: bool) {
+fn quote(console: &mut Console, text: &[u8], o: Outcome, is_all: bool) {
     match o {
         Outcome::Good => {}
-        Outcome::NoFigure { line } => cli_console::refusal::quote_line(2, text, line, is_all),
+        Outcome::NoFigure { line } => cli_console::refusal::quote_line(
+            console,
+            Stream::Error,
+            text,
+            line,
+            is_all,
+        ),
         Outcome::LineCount { line } => {
             if limits::REPORT_LINES < line {
-                cli_console::refusal::quote_line(2, text, line, false);
+                cli_console::refusal::quote_line(console, Stream::Error, text, line, false);
             }
         }
-        Outcome::TooLarge { line } => cli_console::refusal::quote_line(2, text, line, false),
+        Outcome::TooLarge { line } => cli_console::refusal::quote_line(
+            console,
+            Stream::Error,
+            text,
+            line,
+            false,
+        ),
     }
 }
 
 // Adds the report in the file that argument i names to the sums; whether that went well. What is not well is told.
-fn add(i: usize, sums: &mut [u64; limits::REPORT_LINES]) -> bool
+fn add(console: &mut Console, i: usize, sums: &mut [u64; limits::REPORT_LINES]) -> bool
     requires { length sums.old ≡ report_lines }
     ensures { length sums.new ≡ report_lines }
 {
     let mut text = [0u8; TEXT_ROOM];
-    let got = input::file(i, &mut text);
+    let got = input::file(console, i, &mut text);
     let n = got.count;
     if !got.is_good {
         return false;
@@ -51,17 +67,17 @@ fn add(i: usize, sums: &mut [u64; limits::REPORT_LINES]) -> bool
     if let Outcome::Good = o {
         return true;
     }
-    refuse(i, o);
-    quote(&text[..n], o, n < TEXT_ROOM);
+    refuse(console, i, o);
+    quote(console, &text[..n], o, n < TEXT_ROOM);
     false
 }
 
 // Whether standard input is named once at most, from argument 2 on.
-fn is_read_once(words: usize) -> bool {
+fn is_read_once(console: &Console, words: usize) -> bool {
     let mut is_named = false;
     let mut i = 2;
     while i < words {
-        let is_standard = input::is_standard(i);
+        let is_standard = input::is_standard(console, i);
         if is_named & is_standard {
             return false;
         }
@@ -72,20 +88,25 @@ fn is_read_once(words: usize) -> bool {
 }
 
 // Prints the sum of the reports in the files that the arguments from 2 on name.
-pub fn run(words: usize) {
-    if !is_read_once(words) {
-        cli_console::say::usage(b"standard input can be read once only", b"", b"report-sum");
+pub fn run(console: &mut Console, words: usize) {
+    if !is_read_once(console, words) {
+        cli_console::say::usage(
+            console,
+            b"standard input can be read once only",
+            b"",
+            b"report-sum",
+        );
         return;
     }
     let mut sums = [0u64; limits::REPORT_LINES];
     let mut i = 2;
     while i < words {
-        if !add(i, &mut sums) {
+        if !add(console, i, &mut sums) {
             return;
         }
         i += 1;
     }
-    let mut out = [0u8; REPORT_ROOM];
-    let n = season::writing::write(&sums, &mut out, 0);
-    cli_show::first(&out, n);
+    let mut out = [0u8; MAX_REPORT];
+    let n = season_sum::writing::write(&sums, &mut out);
+    cli_show::first(console, &out, n);
 }

@@ -1,19 +1,33 @@
-// What a program tells bin/burgee on descriptor 9, since it has no exit status. Where that is not open, a mark goes nowhere.
-fn mark(m: &[u8]) {
-    io::write_all(9, m);
+// What a program tells by its exit status: the worst that it did.
+use crate::console::Console;
+use std::process::ExitCode;
+
+#[derive(Clone, Copy, PartialEq, Eq, PartialOrd, Ord)]
+pub enum Outcome {
+    Answered,
+    Refused,
+    Complained,
+}
+
+fn mark(console: &mut Console, outcome: Outcome) {
+    console.outcome = console.outcome.max(outcome);
 }
 
 // Something was refused.
-pub fn refusal() {
-    mark(b"1");
+pub fn refusal(console: &mut Console) {
+    mark(console, Outcome::Refused);
 }
 
 // Something was complained of.
-pub fn complaint() {
-    mark(b"2");
+pub fn complaint(console: &mut Console) {
+    mark(console, Outcome::Complained);
 }
 
 // The program came to its end.
-pub fn end() {
-    mark(b"0");
+pub fn end(console: &Console) -> ExitCode {
+    match console.outcome {
+        Outcome::Answered => ExitCode::SUCCESS,
+        Outcome::Refused => ExitCode::from(1),
+        Outcome::Complained => ExitCode::from(2),
+    }
 }

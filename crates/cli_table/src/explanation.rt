@@ -7,6 +7,7 @@ ghost use Rattle.cli_explained.specs.Explained.{explanation};
 ghost use Rattle.cli_explained.specs.Steps.{max_ranked_line, ListsMatches};
 
 use cli_answers::lines::Fallback;
+use cli_show::console::Console;
 use path_read::Filled;
 use table_load::Loaded;
 use verdict_request::PathAnswer;
@@ -85,11 +86,11 @@ fn explain(
 }
 
 // The verdict, and the rules that match where one decides.
-pub fn all(text: &[u8], user: &[u8], mode: u32, origin: &[u8], path: &[u8]) {
-    cli_names::tell(text, user);
+pub fn all(console: &mut Console, text: &[u8], user: &[u8], mode: u32, origin: &[u8], path: &[u8]) {
+    cli_names::tell(console, text, user);
     let a = verdict_call::path_verdict(text, user, mode, origin, path);
-    cli_answers::path(text, a, Fallback::Explained);
+    cli_answers::path(console, text, a, Fallback::Explained);
     let mut out = [0u8; MAX_LINES];
     let n = explain(text, user, mode, origin, path, a, &mut out);
-    cli_show::first(&out, n);
+    cli_show::first(console, &out, n);
 }

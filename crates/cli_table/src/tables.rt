@@ -7,6 +7,7 @@ ghost use Rattle.cli_answers.specs.Rows.{max_count_line, max_group_line, groups_
 ghost use Rattle.cli_answers.specs.Steps.{ListsGroups};
 
 use cli_answers::lines::Fallback;
+use cli_show::console::Console;
 use table::Counted;
 use table_check::Seen;
 
@@ -15,7 +16,7 @@ const MAX_GROUPS_TEXT: usize = cli_answers::rows::MAX_COUNT_LINE
     + limits::MAX_GROUPS * cli_answers::rows::MAX_GROUP_LINE;
 
 // How many rows of each kind an accepted table has, or why it is refused.
-pub fn check(text: &[u8]) {
+pub fn check(console: &mut Console, text: &[u8]) {
     let s = table_check::look(text, b"");
     match s {
         Seen::Table { counts, set } => {
@@ -26,9 +27,11 @@ pub fn check(text: &[u8]) {
                 counts.rules,
                 &mut out,
             );
-            cli_show::first(&out, n);
+            cli_show::first(console, &out, n);
         }
-        Seen::Refused { number, line } => cli_console::refusal::of_text(text, number, line),
+        Seen::Refused { number, line } => cli_console::refusal::of_text(
+            console, text, number, line,
+        ),
     }
 }
 
@@ -58,21 +61,29 @@ fn tell_groups(text: &[u8], user: &[u8], c: Counted, out: &mut [u8]) -> usize
 }
 
 // How many groups list the user, and each of them; or the refusal.
-pub fn groups(text: &[u8], user: &[u8]) {
-    cli_names::tell(text, user);
+pub fn groups(console: &mut Console, text: &[u8], user: &[u8]) {
+    cli_names::tell(console, text, user);
     let c = table_check::count_groups(text, user);
     let mut out = [0u8; MAX_GROUPS_TEXT];
     let n = tell_groups(text, user, c, &mut out);
-    cli_show::first(&out, n);
+    cli_show::first(console, &out, n);
     if let Counted::Declined { number, line } = c {
-        cli_console::refusal::of_text(text, number, line);
+        cli_console::refusal::of_text(console, text, number, line);
     }
 }
 
 // The action, and the deciding rule's number and id.
-pub fn verdict(text: &[u8], user: &[u8], mode: u32, origin: &[u8], path: &[u8]) {
-    cli_names::tell(text, user);
+pub fn verdict(
+    console: &mut Console,
+    text: &[u8],
+    user: &[u8],
+    mode: u32,
+    origin: &[u8],
+    path: &[u8],
+) {
+    cli_names::tell(console, text, user);
     cli_answers::path(
+        console,
         text,
         verdict_call::path_verdict(text, user, mode, origin, path),
         Fallback::Default,
@@ -80,9 +91,17 @@ pub fn verdict(text: &[u8], user: &[u8], mode: u32, origin: &[u8], path: &[u8]) 
 }
 
 // The tree answer, and the number and id of the rule that MIXED names.
-pub fn tree(text: &[u8], user: &[u8], mode: u32, origin: &[u8], path: &[u8]) {
-    cli_names::tell(text, user);
+pub fn tree(
+    console: &mut Console,
+    text: &[u8],
+    user: &[u8],
+    mode: u32,
+    origin: &[u8],
+    path: &[u8],
+) {
+    cli_names::tell(console, text, user);
     cli_answers::tree(
+        console,
         text,
         verdict_call::tree_verdict(text, user, mode, origin, path),
         Fallback::Default,

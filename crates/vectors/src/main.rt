@@ -1,5 +1,7 @@
 // Runs the vectors of its standard input through the calls that the library exports, and prints what the word of each answer says.
 // The head of the file `stdin` says what a line of it means.
+#![tactic(auto)]
+
 mod long;
 mod paths;
 mod policies;
@@ -9,6 +11,13 @@ mod tables;
 mod word;
 
 ghost use Rattle.std.specs.Prelude.{◌≤◌, length};
+ghost use Rattle.std.specs.Io.{ReadsAtMost};
+
+use cli_show::TEXT_ROOM;
+use cli_show::console::Console;
+use std::io;
+use std::io::Read;
+use std::process::ExitCode;
 
 // Lines that follow each other.
 #[derive(Drop)]
@@ -46,55 +55,55 @@ fn text_after(t: Span, b: u8, at: usize, next: usize) -> Span
 }
 
 // Answers a question by its first letter, with what follows its first word, about a text.
-fn answer(text: &[u8], letter: u8, rest: &[u8])
+fn answer(console: &mut Console, text: &[u8], letter: u8, rest: &[u8])
     requires { length rest.now ≤ 65536 }
 {
     match letter {
-        b'r' => paths::transcribe(true, rest, limits::MAX_PATH_TEXT),
-        b'w' => paths::transcribe(false, rest, limits::MAX_PATH_TEXT),
-        b'f' => paths::fit(rest),
-        b'c' => tables::check(text),
-        b'z' => long::table(split::digit(rest)),
-        b'g' => tables::groups(text, rest),
-        b'v' => tables::request(text, false, rest),
-        b't' => tables::request(text, true, rest),
-        b's' => season::report(text, rest),
-        b'p' => policies::check(text),
-        b'b' => long::policy(split::digit(rest)),
-        b'i' => policies::rpc(text, rest),
-        _ => cli_show::line(b"no such question"),
+        b'r' => paths::transcribe(console, true, rest, limits::MAX_PATH_TEXT),
+        b'w' => paths::transcribe(console, false, rest, limits::MAX_PATH_TEXT),
+        b'f' => paths::fit(console, rest),
+        b'c' => tables::check(console, text),
+        b'z' => long::table(console, split::digit(rest)),
+        b'g' => tables::groups(console, text, rest),
+        b'v' => tables::request(console, text, false, rest),
+        b't' => tables::request(console, text, true, rest),
+        b's' => season::report(console, text, rest),
+        b'p' => policies::check(console, text),
+        b'b' => long::policy(console, split::digit(rest)),
+        b'i' => policies::rpc(console, text, rest),
+        _ => cli_show::line(console, b"no such question"),
     }
 }
 
 // Prints a question and its answer.
-fn run_question(text: &[u8], line: &[u8])
+fn run_question(console: &mut Console, text: &[u8], line: &[u8])
     requires { length line.now ≤ 65536 }
 {
     let end = split::up_to(line, 0, b'\n');
-    cli_show::word(&line[0..end]);
-    cli_show::word(b": ");
+    cli_show::word(console, &line[0..end]);
+    cli_show::word(console, b": ");
     let rest = split::after(line, split::up_to(line, 0, b' '));
-    answer(text, split::first(line), &line[rest..]);
+    answer(console, text, split::first(line), &line[rest..]);
 }
 
 // A comment is printed as it is.
-fn run_line(text: &[u8], line: &[u8])
+fn run_line(console: &mut Console, text: &[u8], line: &[u8])
     requires { length line.now ≤ 65536 }
 {
     if line.len() == 0 {
         return;
     }
     if line[0] == b'#' {
-        cli_show::word(line);
+        cli_show::word(console, line);
         return;
     }
     if is_text(line[0]) {
         return;
     }
-    run_question(text, line);
+    run_question(console, text, line);
 }
 
-fn run_lines(text: &[u8])
+fn run_lines(console: &mut Console, text: &[u8])
     requires { length text.now ≤ 65536 }
 {
     let mut t = Span { start: 0, end: 0 };
@@ -104,13 +113,30 @@ fn run_lines(text: &[u8])
         t = text_after(t, text[at], at, next);
         let first = t.start;
         let last = t.end;
-        run_line(&text[first..last], &text[at..next]);
+        run_line(console, &text[first..last], &text[at..next]);
         at = next;
     }
 }
 
-fn main() {
-    let mut input = io::large_buffer();
-    let n = io::read_full(0, &mut input);
-    run_lines(&input[..n]);
+// Reads until the buffer is full, the input ends or a read fails, and answers how many bytes came.
+fn read_full(input: &mut impl Read, buf: &mut [u8]) -> io::Result<usize>
+    ensures { ReadsAtMost result buf.new }
+{
+    let mut count = 0;
+    while count < buf.len() {
+        let n = input.read(&mut buf[count..])?;
+        if n == 0 {
+            break;
+        }
+        count += n;
+    }
+    Ok(count)
+}
+
+fn main(rt: HostRuntime) -> io::Result<ExitCode> {
+    let mut console = Console::new(rt);
+    let mut input = [0u8; TEXT_ROOM];
+    let n = read_full(&mut rt.stdin(), &mut input)?;
+    run_lines(&mut console, &input[..n]);
+    Ok(cli_show::marks::end(&console))
 }

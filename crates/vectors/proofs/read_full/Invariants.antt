@@ -1,0 +1,10 @@
+-- `read_full` ends, and answers a count of the buffer's bytes.
+use Rattle.std.proofs.Common.{length, ◌-◌, ◌≡◌, ◌≤◌}
+use Rattle.vectors.proofs.read_full.Given as goal
+
+-- what is read is within the buffer, which keeps its length
+abbrev pub invariant-loop-count : goal.invariant-loop-count
+invariant-loop-count g l = (l.count ≤ length l.buf) × (length l.buf ≡ length l.initial.buf)
+
+abbrev pub decreases-loop-count : goal.decreases-loop-count
+decreases-loop-count g l = length l.initial.buf - l.count
