@@ -1,55 +1,56 @@
 #!/usr/bin/env python3
-"""Gives the repository's own operator `if◌then◌else◌` the name `If◌then◌else◌`, in specs/, proofs/, the clauses of src/ and the edits of must-fail/.
-
-    python3 tools/port_if.py      once, at the top
-
-`rt ci` lets no other definition stand under the name of one of the library's operators, and the library's `if◌then◌else◌` is not ours: it is `cond`, and
-always open. Ours (crates/text/specs/Test.antt) opens only where a proof asks for it.
-"""
+"""Gives the repository's own if_then_else_ the name whether_then_else_, since today's library has that operator. Run once, after port_crates.py."""
 import glob
 import re
 
-TOKEN = re.compile(r"(?<![\w'◌-])if(?![\w'◌-])")
-# in a program: a test of a clause has its `then` before any brace or semicolon, and one of code has not
-CLAUSE = re.compile(r"(?<![\w'◌-])if(?![\w'◌-])(?=[^{};]*(?<![\w'◌])then(?![\w'◌]))")
-COMMENT = {".antt": re.compile(r"(?:^|(?<=\s))--(?=\s|$)[^\n]*", re.M), ".rt": re.compile(r"//[^\n]*")}
+OLD, NEW = "if◌then◌else◌", "whether◌then◌else◌"
+OURS = re.compile(r"Rattle\.text\.specs\.Test\.\{[^}]*" + OLD)
+WORD = re.compile(r"(?<![\w.'◌-])if(?![\w'◌-])")
 
 
-def turned(text, comment, token):
-    """The text, comments and strings left as they are."""
-    parts = re.split(f"({comment.pattern}" + r'|"(?:[^"\\\n]|\\.)*")', text, flags=re.M)
-    out, kept = "", []
-    for i, part in enumerate(parts):
-        if i % 2:
-            # a mark of the same length that no `if` and no brace is in, so that what stands around it is seen whole
-            kept.append(part)
-            out += "\x00"
-        else:
-            out += part
-    out = token.sub("If", out.replace("if◌then◌else◌", "If◌then◌else◌"))
-    return re.sub("\x00", lambda _: kept.pop(0), out)
+def turned(text):
+    """Outside comments and strings."""
+    lines = []
+    for line in text.split("\n"):
+        code, dash, comment = line.partition("--")
+        parts = re.split(r'("[^"]*")', code)
+        lines.append("".join(p if i % 2 else WORD.sub("whether", p) for i, p in enumerate(parts)) + dash + comment)
+    return "\n".join(lines)
 
 
-changed = 0
-for path in sorted(glob.glob("crates/*/specs/**/*.antt", recursive=True) + glob.glob("crates/*/proofs/**/*.antt", recursive=True) + glob.glob("crates/*/src/**/*.rt", recursive=True)):
-    if "/out/" in path:
+def block(text, at):
+    depth = 0
+    for i in range(at, len(text)):
+        depth += text[i] == "{"
+        depth -= text[i] == "}"
+        if depth == 0:
+            return i + 1
+    return len(text)
+
+
+ours = set()
+for p in glob.glob("crates/*/specs/**/*.antt", recursive=True) + glob.glob("crates/*/proofs/**/*.antt", recursive=True):
+    t = open(p, encoding="utf-8").read()
+    if OURS.search(t) or p == "crates/text/specs/Test.antt":
+        ours.add(p)
+        open(p, "w", encoding="utf-8").write(turned(t).replace(OLD, NEW))
+for p in glob.glob("crates/*/src/**/*.rt", recursive=True):
+    t = open(p, encoding="utf-8").read()
+    if not OURS.search(t) and OLD not in t:
         continue
-    text = open(path, encoding="utf-8").read()
-    kind = path[path.rindex("."):]
-    new = turned(text, COMMENT[kind], TOKEN if kind == ".antt" else CLAUSE)
-    if new != text:
-        open(path, "w", encoding="utf-8").write(new)
-        changed += 1
-for path in sorted(glob.glob("crates/*/must-fail/*.edit")):
-    out, of_definitions = [], False
-    for line in open(path, encoding="utf-8").read().split("\n"):
-        if line.startswith("file: "):
-            of_definitions = not line.startswith("file: src/")
-        elif line.startswith(("old: ", "new: ")):
-            line = (TOKEN if of_definitions else CLAUSE).sub("If", line.replace("if◌then◌else◌", "If◌then◌else◌"))
-        out.append(line)
-    text = "\n".join(out)
-    if text != open(path, encoding="utf-8").read():
-        open(path, "w", encoding="utf-8").write(text)
-        changed += 1
-print(f"{changed} files changed")
+    ours.add(p)
+    t = t.replace(OLD, NEW)
+    out, at = "", 0
+    for m in re.finditer(r"(?m)^\s*(?:requires|ensures|ghost)\b[^{;\n]*(?=\{)", t):
+        if m.start() < at or "ghost use" in m.group(0):
+            continue
+        end = block(t, m.end())
+        out += t[at : m.end()] + WORD.sub("whether", t[m.end() : end])
+        at = end
+    open(p, "w", encoding="utf-8").write(out + t[at:])
+for p in glob.glob("crates/*/must-fail/*.edit"):
+    t = open(p, encoding="utf-8").read()
+    crate = "/".join(p.split("/")[:2])
+    if f"{crate}/{re.search(r'file: (.*)', t).group(1).strip()}" in ours and re.search(r"\bif [^{]* then ", t):
+        open(p, "w", encoding="utf-8").write(re.sub(r"\bif (?=[^{]* then )", "whether ", t))
+print(len(ours), "files")

@@ -6,7 +6,7 @@ use mathlib.Core.Path.{◌≡◌, refl, sym, ap, ◌∙◌}
 use mathlib.Core.Bool.{Bool, true, false}
 use mathlib.Core.List.{List, [], ◌∷◌, ◌++◌, append-nil, append_assoc}
 use lib.ListN.{length}
-use Rattle.text.specs.Test.{if◌then◌else◌}
+use Rattle.text.specs.Test.{whether◌then◌else◌}
 use Rattle.text.specs.String.{Str}
 use Rattle.text.proofs.Filling.{wrote_long}
 use Rattle.table.specs.Group.{numbered}
@@ -27,11 +27,11 @@ lines_append text (n ∷ ns) ms =
 
 module _ (text : Str) (g : GroupNumber) (d : List ℕ) (at : ℕ) (b : Bool) where
   pub listed_line : (d' : List ℕ) (e : ℕ) → b ≡ true → AddedUpTo max_group_line d at (group_line text g) d' e → AddedUpTo max_group_line d at (group_lines text (numbered b g.0 [])) d' e
-  unfolding group_lines numbered if◌then◌else◌
+  unfolding group_lines numbered whether◌then◌else◌
   listed_line d' e t a = rw (t, append-nil (group_line text g)) a
 
   pub unlisted_line : b ≡ false → at + max_group_line ≤ length d → AddedUpTo max_group_line d at (group_lines text (numbered b g.0 [])) d at
-  unfolding group_lines numbered if◌then◌else◌
+  unfolding group_lines numbered whether◌then◌else◌
   unlisted_line t h = record { added = rw t (nothing_added d at (omega arith)); short = omega arith }
 
 -- ---- those of the first n numbers were made in d, up to `end`

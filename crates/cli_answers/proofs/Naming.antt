@@ -8,7 +8,7 @@ use lib.Dec.{ltb}
 use lib.ListN.{length, take}
 use lib.Seq.{length-take-le}
 use Rattle.limits.specs.Limits.{max_string}
-use Rattle.text.specs.Test.{if◌then◌else◌}
+use Rattle.text.specs.Test.{whether◌then◌else◌}
 use Rattle.text.specs.String.{Str}
 use Rattle.text.specs.Steps.{Wrote}
 use Rattle.text.proofs.Tests.{by}
@@ -26,7 +26,7 @@ unfolding stored_of up_to
 short_fits d s l = rw l
 
 short_length : (s : Str) → length (up_to max_string s) ≤ max_string
-unfolding up_to if◌then◌else◌
+unfolding up_to whether◌then◌else◌
 short_length s = by (ltb max_string (length s)) (λ u. rw u (omega arith)) (λ u. rw u (omega (arith, ltb-false max_string (length s) u)))
 
 -- z is the buffer as it was, and b as it is with the name

@@ -10,7 +10,7 @@ use lib.Dec.{leb}
 use lib.ListN.{length, take}
 use lib.Seq.{length-take-le}
 use Rattle.limits.specs.Sizes.{max_path_bytes, max_path_text}
-use Rattle.text.specs.Test.{if◌then◌else◌}
+use Rattle.text.specs.Test.{whether◌then◌else◌}
 use Rattle.text.specs.String.{Str, bytes}
 use Rattle.text.specs.Steps.{Wrote}
 use Rattle.text.proofs.Filling.{wrote_long}
@@ -29,7 +29,7 @@ use Rattle.cli_answers.specs.Paths.{hex_line, plain_line, bytes_line, text_line,
 -- ---- where there is room for the result
 
 delivered : (o : Option Str) (d d' : List ℕ) (r : Filled) → ((s : Str) → o ≡ some s → length s ≤ length d) → Delivers d o d' r → Made o d d' r
-unfolding answer lent if◌then◌else◌
+unfolding answer lent whether◌then◌else◌
 delivered none d d' r h v = rw (v.0, v.1) nothing
 delivered (some s) d d' r h v =
     let l : length s ≤ length d = h s refl in

@@ -8,7 +8,7 @@ use mathlib.Core.List.{List, [], ◌∷◌, ◌++◌, map, map-append}
 use lib.Dec.{eqb, ltb}
 use lib.ListN.{length, get_or}
 use Rattle.limits.specs.Limits.{max_table_text, max_short_string, max_string}
-use Rattle.text.specs.Test.{if◌then◌else◌}
+use Rattle.text.specs.Test.{whether◌then◌else◌}
 use Rattle.text.specs.String.{Str}
 use Rattle.text.specs.Refusal.{clear}
 use Rattle.text.proofs.Tests.{by, or_false_l, or_false_r}
@@ -76,7 +76,7 @@ after_named b unreadable h n = n
 after_named b (reads e) h n = with_named b e h n
 
 all_named : (ls : List Str) (k : ℕ) (b : Earlier) → judge k b ls ≡ Accepted → Named b → Named (all_told b ls)
-unfolding judge unless all_told if◌then◌else◌
+unfolding judge unless all_told whether◌then◌else◌
 all_named [] k b j n = n
 all_named (l ∷ ls) k b j n =
     by (eqb (refusal b (line_of l)) clear)
@@ -90,7 +90,7 @@ unfolding first
 first_named = record { groups = short_none; rules = short_none }
 
 accepted_named : (text : Str) → check text ≡ Accepted → Named (all_told first (lines text))
-unfolding check if◌then◌else◌
+unfolding check whether◌then◌else◌
 accepted_named text e =
     by (ltb max_table_text (length text))
     (λ u. let z : Refused 1 0 ≡ Accepted = rw u at e in let y : ◌≡◌ {A = ℕ} 0 1 = cc in absurd (omega arith))
@@ -107,7 +107,7 @@ name_fits text x = go (check text) refl x
     go Accepted e (row.Rule k) = unfold name_of table_of table_from in (accepted_named text e).rules k.0
 
 pub whole : (s : Str) → length s ≤ max_string → up_to max_string s ≡ s
-unfolding up_to if◌then◌else◌
+unfolding up_to whether◌then◌else◌
 whole s h = rw (le-ltb _ _ h)
 
 pub whole_names : WholeNames

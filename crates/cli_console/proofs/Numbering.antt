@@ -8,7 +8,7 @@ use mathlib.Core.List.{[], ◌∷◌}
 use lib.Dec.{eqb}
 use lib.ListN.{length, drop, get_or, length-drop, drop_of_length-le}
 use lib.Seq.{drop-cons}
-use Rattle.text.specs.Test.{if◌then◌else◌}
+use Rattle.text.specs.Test.{whether◌then◌else◌}
 use Rattle.text.specs.String.{Str}
 use Rattle.text.proofs.Tests.{by}
 use Rattle.text_search.specs.Search.{until, is}
@@ -80,7 +80,7 @@ number_last (suc q) (b ∷ []) h = refl
 number_last (suc q) (b ∷ c ∷ s) h = absurd (h (omega arith) (omega arith))
 
 pub feed_one : (b : ℕ) → line_feed b ≤ 1
-unfolding line_feed if◌then◌else◌
+unfolding line_feed whether◌then◌else◌
 feed_one b = by (eqb b 10) (λ t. rw t (omega arith)) (λ t. rw t (omega arith))
 
 -- n is the number of the line that position i is in, if p is not before it

@@ -7,7 +7,7 @@ use mathlib.Core.Bool.{true, false}
 use mathlib.Core.List.{List, [], ◌∷◌, ◌++◌, append-nil, append_assoc}
 use lib.ListN.{length, take, drop, get_or, length-drop}
 use lib.Seq.{take-suc, take_all, length-take-le}
-use Rattle.text.specs.Test.{if◌then◌else◌}
+use Rattle.text.specs.Test.{whether◌then◌else◌}
 use Rattle.text.specs.Byte.{is_print}
 use Rattle.text.specs.String.{Str, bytes, joined}
 use Rattle.text.specs.Steps.{Wrote}
@@ -26,11 +26,11 @@ hex_two b = refl
 
 module _ (b : ℕ) (d : List ℕ) (at : ℕ) where
   pub plain_shown : (d' : List ℕ) (e : ℕ) → is_print b ≡ true → Added d at (b ∷ []) d' e → AddedUpTo 4 d at (shown b) d' e
-  unfolding shown if◌then◌else◌
+  unfolding shown whether◌then◌else◌
   plain_shown d' e t a = record { added = rw t a; short = omega (arith, a.wrote.ends) }
 
   pub hex_shown : (d' d'' : List ℕ) (m e : ℕ) → is_print b ≡ false → at + 4 ≤ length d → Added d at (bytes "\\x") d' m → Wrote d' m (hex_text (b ∷ [])) d'' e → AddedUpTo 4 d at (shown b) d'' e
-  unfolding shown if◌then◌else◌
+  unfolding shown whether◌then◌else◌
   hex_shown d' d'' m e t r a w =
       let l = wrote_long d at (bytes "\\x") d' m a.wrote a.fits in
       let h : Added d' m (hex_text (b ∷ [])) d'' e = record { wrote = w; fits = omega (arith, a.wrote.ends, hex_two b, l) } in

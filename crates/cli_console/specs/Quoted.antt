@@ -1,6 +1,6 @@
 -- Which line of a file is shown with a refusal, and how.
 use Rattle.std.specs.Prelude.{ℕ, zero, suc, ◌+◌, Bool, [], ◌∷◌, ◌++◌, eqb, length, drop}
-use Rattle.text.specs.Test.{if◌then◌else◌}
+use Rattle.text.specs.Test.{whether◌then◌else◌}
 use Rattle.text.specs.Byte.{is_print}
 use Rattle.text.specs.String.{Str, bytes, joined}
 use Rattle.text_search.specs.Search.{until, is}
@@ -10,7 +10,7 @@ use Rattle.readable_parts.specs.Parts.{hex_text}
 
 -- a byte that prints stands for itself, any other in hex after \x
 unfoldable pub shown : ℕ → Str
-shown b = if is_print b then b ∷ [] else bytes "\\x" ++ hex_text (b ∷ [])
+shown b = whether is_print b then b ∷ [] else bytes "\\x" ++ hex_text (b ∷ [])
 
 unfoldable pub quoted : Str → Str
 quoted s = joined shown s
@@ -29,7 +29,7 @@ unended s = eqb (until (is 10) s) (length s)
 
 -- 1 for an LF
 unfoldable pub line_feed : ℕ → ℕ
-line_feed b = if eqb b 10 then 1 else 0
+line_feed b = whether eqb b 10 then 1 else 0
 
 -- the number of the line that position p is in; the last line's where p is past them all
 unfoldable pub line_number : ℕ → Str → ℕ

@@ -1,7 +1,7 @@
 -- What an explanation prints of the rules that match.
 use Rattle.std.specs.Prelude.{ℕ, ◌+◌, false, List, [], ◌∷◌, ◌++◌, eqb, get_or}
 use Rattle.limits.specs.Limits.{max_string}
-use Rattle.text.specs.Test.{if◌then◌else◌}
+use Rattle.text.specs.Test.{whether◌then◌else◌}
 use Rattle.text.specs.String.{Str, bytes}
 use Rattle.table.specs.Table.{Rule, Table}
 use Rattle.table.specs.Text.{table_of}
@@ -26,13 +26,13 @@ step_name step.Id = bytes "smaller id"
 
 -- the first rule decides; another lost to it at a step of the ranking
 unfoldable pub fate : ℕ → Step → Str
-fate place s = if eqb place 1 then bytes " decides: rule " else bytes " lost at " ++ step_name s ++ bytes ": rule "
+fate place s = whether eqb place 1 then bytes " decides: rule " else bytes " lost at " ++ step_name s ++ bytes ": rule "
 
 unfoldable pub action_text : Standing → Str
-action_text s = if s.permit then bytes ", permit, elements " else bytes ", deny, elements "
+action_text s = whether s.permit then bytes ", permit, elements " else bytes ", deny, elements "
 
 unfoldable pub subject_text : Standing → Str
-subject_text s = if s.group then bytes ", group, id " else bytes ", user, id "
+subject_text s = whether s.group then bytes ", group, id " else bytes ", user, id "
 
 -- what the ranking looks at in a rule
 unfoldable pub standing_text : Standing → Str

@@ -8,7 +8,7 @@ use native.Mathlib.Omega.{arith}
 use borrow.Author.Tests.{eqb-true, eqb-false, eq-eqb, ne_eqb, lt-ltb, le-ltb, not-true, not-false}
 use lib.Dec.{eqb}
 use lib.ListN.{length, get_or, set, length-set}
-use Rattle.text.specs.Test.{◌and◌, if◌then◌else◌, any, only}
+use Rattle.text.specs.Test.{◌and◌, whether◌then◌else◌, any, only}
 use Rattle.text.specs.String.{Str, same}
 use Rattle.text.specs.Frame.{part}
 use Rattle.text.proofs.Tests.{by, and_l, and_r, and_false, and_first}
@@ -33,11 +33,11 @@ module _ (f places : List ℕ) (m v : ℕ) (laid : Laid f places m) (long : m < 
 
 module _ (test : Bool) (places : List ℕ) (m at : ℕ) (places' : List ℕ) (r : ℕ) (P : Pushed test places m at places' r) where
   pub pushed : test ≡ true → (r ≡ m + 1) × (places' ≡ set places m at)
-  unfolding if◌then◌else◌
+  unfolding whether◌then◌else◌
   pushed e = (P.count ∙ rw e, P.same ∙ rw e)
 
   pub not_pushed : test ≡ false → (r ≡ m) × (places' ≡ places)
-  unfolding if◌then◌else◌
+  unfolding whether◌then◌else◌
   not_pushed e = (P.count ∙ rw e, P.same ∙ rw e)
 
 pub strings_next : (f starts : List ℕ) (n i : ℕ) → i < n → strings_in f starts (n - i) i ≡ str_in f (get_or starts i 0) ∷ strings_in f starts (n - (i + 1)) (i + 1)
@@ -76,7 +76,7 @@ module _ (f starts : List ℕ) (n : ℕ) (places₀ : List ℕ) where
 
   module _ (places : List ℕ) (m i : ℕ) (F : Finding f starts n places₀ places m i) where
     finding_skip : i < n → get_or f (get_or starts i 0 + rule_subject_kind) 0 ≡ 1 → Finding f starts n places₀ places m (i + 1)
-    unfolding subjects_in if◌then◌else◌
+    unfolding subjects_in whether◌then◌else◌
     finding_skip h k = record {
       within = omega arith;
       few = omega (arith, F.few);
@@ -90,7 +90,7 @@ module _ (f starts : List ℕ) (n : ℕ) (places₀ : List ℕ) where
 
     finding_take : i < n → (get_or f (get_or starts i 0 + rule_subject_kind) 0 ≡ 1 → ⊥) → n ≤ length places₀ → (v : ℕ) → v ≡ get_or starts i 0 + rule_subject → str_end f v ≤ length f
         → Finding f starts n places₀ (set places m v) (m + 1) (i + 1)
-    unfolding subjects_in if◌then◌else◌
+    unfolding subjects_in whether◌then◌else◌
     finding_take h k room v is fits =
         let r : m < length places = omega (arith, F.few, F.long) in
         record {
@@ -151,23 +151,23 @@ module _ (f : List ℕ) (at e : ℕ) (ends : e ≡ str_end f at) (user : Str) (k
 
 module _ (user s : Str) (ss names : List Str) where
   pub gather_other : alike user s ≡ false → gather names (only (alike user) (s ∷ ss)) ≡ gather names (only (alike user) ss)
-  unfolding gather only if◌then◌else◌
+  unfolding gather only whether◌then◌else◌
   gather_other t = rw t
 
-  gather_step : alike user s ≡ true → gather names (only (alike user) (s ∷ ss)) ≡ gather (if any (same s) names then names else names ++ (s ∷ [])) (only (alike user) ss)
-  unfolding gather only if◌then◌else◌
+  gather_step : alike user s ≡ true → gather names (only (alike user) (s ∷ ss)) ≡ gather (whether any (same s) names then names else names ++ (s ∷ [])) (only (alike user) ss)
+  unfolding gather only whether◌then◌else◌
   gather_step t = rw t
 
   pub gather_seen : alike user s ≡ true → any (same s) names ≡ true → gather names (only (alike user) (s ∷ ss)) ≡ gather names (only (alike user) ss)
-  unfolding if◌then◌else◌
+  unfolding whether◌then◌else◌
   gather_seen t u =
-      let e : (if any (same s) names then names else names ++ (s ∷ [])) ≡ names = rw u in
+      let e : (whether any (same s) names then names else names ++ (s ∷ [])) ≡ names = rw u in
       gather_step t ∙ ap (λ (l : List Str). gather l (only (alike user) ss)) e
 
   pub gather_new : alike user s ≡ true → any (same s) names ≡ false → gather names (only (alike user) (s ∷ ss)) ≡ gather (names ++ (s ∷ [])) (only (alike user) ss)
-  unfolding if◌then◌else◌
+  unfolding whether◌then◌else◌
   gather_new t u =
-      let e : (if any (same s) names then names else names ++ (s ∷ [])) ≡ names ++ (s ∷ []) = rw u in
+      let e : (whether any (same s) names then names else names ++ (s ∷ [])) ≡ names ++ (s ∷ []) = rw u in
       gather_step t ∙ ap (λ (l : List Str). gather l (only (alike user) ss)) e
 
 -- `count` names are kept, and the names from i on are left

@@ -8,7 +8,7 @@ use borrow.Author.Tests.{ne_eqb}
 use lib.Dec.{eqb}
 use lib.ListN.{length, get_or, length-append}
 use Rattle.limits.specs.Limits.{max_string}
-use Rattle.text.specs.Test.{if◌then◌else◌, any, only}
+use Rattle.text.specs.Test.{whether◌then◌else◌, any, only}
 use Rattle.text.specs.String.{Str, same}
 use Rattle.text_make.specs.Added.{Added}
 use Rattle.text.proofs.Tests.{by}
@@ -72,17 +72,17 @@ weight_snoc [] s = omega arith
 weight_snoc (x ∷ ss) s = omega (arith, weight_snoc ss s)
 
 rest_long : (ss : List Str) → length (listed false ss) ≡ weight ss
-unfolding listed led lead_of if◌then◌else◌ weight
+unfolding listed led lead_of whether◌then◌else◌ weight
 rest_long [] = refl
 rest_long (s ∷ ss) = simp length-append (omega (arith, rest_long ss))
 
 listed_long : (ss : List Str) → length (listed true ss) ≤ 11 + weight ss
-unfolding listed led lead_of if◌then◌else◌ weight
+unfolding listed led lead_of whether◌then◌else◌ weight
 listed_long [] = omega arith
 listed_long (s ∷ ss) = simp length-append (omega (arith, rest_long ss))
 
 grouping_long : (b : Bool) → length (grouping b) ≤ 23
-unfolding grouping if◌then◌else◌
+unfolding grouping whether◌then◌else◌
 grouping_long b = by b (λ t. rw t (omega arith)) (λ t. rw t (omega arith))
 
 sentence_long : (b : Bool) (user : Str) (names : List Str) → length (sentence b user names) ≡ 33 + length user + length (grouping b) + length (listed true names)

@@ -1,7 +1,7 @@
 -- Whom a table names as a user, and the line that is said of a user whom it does not name: a typing slip looks like a user without rights.
 use Rattle.std.specs.Prelude.{ℕ, ◌+◌, ◌*◌, Bool, true, false, cond, List, [], ◌∷◌, ◌++◌, map}
 use Rattle.limits.specs.Limits.{max_members, max_rules, max_string}
-use Rattle.text.specs.Test.{if◌then◌else◌, any, only}
+use Rattle.text.specs.Test.{whether◌then◌else◌, any, only}
 use Rattle.text.specs.Byte.{within}
 use Rattle.text.specs.String.{Str, bytes, same}
 use Rattle.table.specs.Table.{Table, Member, Rule}
@@ -14,7 +14,7 @@ use Rattle.table.specs.declared.Checked.TheVariants.{Accepted, Refused}
 -- those whom rules name: "subject (0 user, 1 group)"
 unfoldable pub subjects : List Rule → List Str
 subjects [] = []
-subjects (r ∷ rs) = if r.by_group then subjects rs else r.subject ∷ subjects rs
+subjects (r ∷ rs) = whether r.by_group then subjects rs else r.subject ∷ subjects rs
 
 -- the users whom member lines name, then those whom rules name, in text order
 unfoldable pub users_of : Table → List Str
@@ -33,13 +33,13 @@ alike a b = same (map small a) (map small b)
 -- the names, and after them each of a list that is not there yet
 unfoldable pub gather : List Str → List Str → List Str
 gather names [] = names
-gather names (s ∷ ss) = gather (if any (same s) names then names else names ++ (s ∷ [])) ss
+gather names (s ∷ ss) = gather (whether any (same s) names then names else names ++ (s ∷ [])) ss
 
 -- ---- the line
 
 -- a name after words, if it is the first, else after a comma
 unfoldable pub lead_of : Bool → Str
-lead_of is_first = if is_first then bytes "; it names " else bytes ", "
+lead_of is_first = whether is_first then bytes "; it names " else bytes ", "
 
 unfoldable pub led : Bool → Str → Str
 led is_first s = lead_of is_first ++ s
@@ -50,7 +50,7 @@ listed is_first (s ∷ ss) = led is_first s ++ listed false ss
 
 -- that a group has the name
 unfoldable pub grouping : Bool → Str
-grouping is_group = if is_group then bytes "; a group has that name" else []
+grouping is_group = whether is_group then bytes "; a group has that name" else []
 
 unfoldable pub sentence : Bool → Str → List Str → Str
 sentence is_group user names =
@@ -59,12 +59,12 @@ sentence is_group user names =
 -- of a user, where `users` are those whom the table names: nothing where it is one of them; else the sentence with those that are the same but for the
 -- case of letters, so that none of them is the user, each once, in their order
 unfoldable pub told : Bool → Str → List Str → Str
-told is_group user users = if any (same user) users then [] else sentence is_group user (gather [] (only (alike user) users))
+told is_group user users = whether any (same user) users then [] else sentence is_group user (gather [] (only (alike user) users))
 
 -- nothing too where the table or the user is refused
 unfoldable pub slip : Checked → Table → Str → Str
 slip (Refused n l) t user = []
-slip Accepted t user = if bad_user user then [] else told (any (same user) t.groups) user (users_of t)
+slip Accepted t user = whether bad_user user then [] else told (any (same user) t.groups) user (users_of t)
 
 -- ---- its length
 

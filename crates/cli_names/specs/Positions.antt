@@ -2,7 +2,7 @@
 use Rattle.std.specs.Prelude.{ℕ, zero, suc, ◌+◌, ◌≤◌, ◌≡◌, Bool, List, [], ◌∷◌, ◌++◌, eqb, length, get_or, set}
 use Rattle.limits.specs.Limits.{max_members, max_rules}
 use Rattle.limits.specs.Sizes.{max_table_bytes}
-use Rattle.text.specs.Test.{if◌then◌else◌, only}
+use Rattle.text.specs.Test.{whether◌then◌else◌, only}
 use Rattle.text.specs.String.{Str}
 use Rattle.table.specs.Layout.{rule_subject_kind, rule_subject}
 use Rattle.table_place.specs.Place.{str_in}
@@ -14,7 +14,7 @@ use Rattle.cli_names.specs.Names.{alike, gather}
 unfoldable pub subjects_in : List ℕ → List ℕ → ℕ → ℕ → List Str
 subjects_in f starts zero i = []
 subjects_in f starts (suc n) i =
-    if eqb (get_or f (get_or starts i 0 + rule_subject_kind) 0) 1 then subjects_in f starts n (suc i)
+    whether eqb (get_or f (get_or starts i 0 + rule_subject_kind) 0) 1 then subjects_in f starts n (suc i)
     else str_in f (get_or starts i 0 + rule_subject) ∷ subjects_in f starts n (suc i)
 
 -- those whom member lines and rules name
@@ -28,8 +28,8 @@ pub record Stand (f places : List ℕ) (n : ℕ) (names : List Str) : Type 0 whe
 
 -- a position after the first m, where the test holds
 pub record Pushed (test : Bool) (places : List ℕ) (m at : ℕ) (places' : List ℕ) (r : ℕ) : Type 0 where
-  pub count : r ≡ (if test then m + 1 else m)
-  pub same : places' ≡ (if test then set places m at else places)
+  pub count : r ≡ (whether test then m + 1 else m)
+  pub same : places' ≡ (whether test then set places m at else places)
 
 -- the rules can be read, and there is room for a position of each
 pub record RulesReady (f starts : List ℕ) (n : ℕ) (places : List ℕ) : Type 0 where

@@ -9,7 +9,7 @@ use mathlib.Core.List.{List, [], ◌∷◌, ◌++◌, append_assoc, append-nil}
 use lib.Dec.{eqb, ltb}
 use lib.ListN.{length, take, drop, get_or, take-append-drop}
 use lib.Seq.{take-suc, take-length, length-take-le}
-use Rattle.text.specs.Test.{if◌then◌else◌}
+use Rattle.text.specs.Test.{whether◌then◌else◌}
 use Rattle.text.specs.String.{Str, joined}
 use Rattle.text.proofs.Tests.{by}
 use Rattle.table_line.specs.Lines.{lines, onto}
@@ -18,12 +18,12 @@ use Rattle.cli_parts.specs.Parts.{whole_length, lines_of}
 -- ---- one byte more
 
 whole_ended : (s : Str) → whole_length (s ++ (10 ∷ [])) ≡ suc (length s)
-unfolding whole_length if◌then◌else◌
+unfolding whole_length whether◌then◌else◌
 whole_ended [] = refl
 whole_ended (x ∷ s) = rw (whole_ended s, lt-ltb 0 (suc (length s)) (omega arith))
 
 whole_open : (s : Str) (b : ℕ) → eqb b 10 ≡ false → whole_length (s ++ (b ∷ [])) ≡ whole_length s
-unfolding whole_length if◌then◌else◌
+unfolding whole_length whether◌then◌else◌
 whole_open [] b e = rw e
 whole_open (x ∷ s) b e = rw (whole_open s b e)
 
@@ -49,7 +49,7 @@ whole_none = refl
 -- ---- lines
 
 pub whole_within : (s : Str) → whole_length s ≤ length s
-unfolding whole_length if◌then◌else◌
+unfolding whole_length whether◌then◌else◌
 whole_within [] = omega arith
 whole_within (b ∷ s) =
     let i = whole_within s in
@@ -75,7 +75,7 @@ first_taken (suc n) b (c ∷ s) more h k e = rw e (onto_more b c (take n s) (lin
 
 -- after whole lines the next line begins
 pub whole_lines : (s more : Str) → lines (take (whole_length s) s ++ more) ≡ lines (take (whole_length s) s) ++ lines more
-unfolding whole_length if◌then◌else◌
+unfolding whole_length whether◌then◌else◌
 whole_lines [] more = unfold lines in refl
 whole_lines (b ∷ s) more =
     by (ltb 0 (whole_length s))

@@ -1,6 +1,6 @@
 -- Texts that are read in parts: the whole lines of what is there, and the rest, which stands before the next part.
 use Rattle.std.specs.Prelude.{ℕ, suc, ◌-◌, ◌≤◌, ◌≡◌, List, [], ◌∷◌, ◌++◌, eqb, ltb, take, drop}
-use Rattle.text.specs.Test.{if◌then◌else◌}
+use Rattle.text.specs.Test.{whether◌then◌else◌}
 use Rattle.text.specs.String.{Str}
 use Rattle.text.specs.Frame.{part}
 use Rattle.table_line.specs.Lines.{lines}
@@ -8,7 +8,7 @@ use Rattle.table_line.specs.Lines.{lines}
 -- the bytes up to the last LF, and with it
 unfoldable pub whole_length : Str → ℕ
 whole_length [] = 0
-whole_length (b ∷ s) = if ltb 0 (whole_length s) then suc (whole_length s) else if eqb b 10 then 1 else 0
+whole_length (b ∷ s) = whether ltb 0 (whole_length s) then suc (whole_length s) else whether eqb b 10 then 1 else 0
 
 -- the bytes of d from `from` up to `to` are the first of the `count` bytes of d'
 pub record KeptFirst (d : List ℕ) (from to : ℕ) (d' : List ℕ) (count : ℕ) : Type 0 where

@@ -10,7 +10,7 @@ use mathlib.Core.Option.{Option, none, some, Option-elim}
 use lib.Dec.{eqb, ltb}
 use lib.ListN.{length}
 use Rattle.limits.specs.Limits.{max_policy_text, max_policy_string}
-use Rattle.text.specs.Test.{◌and◌, ◌or◌, if◌then◌else◌}
+use Rattle.text.specs.Test.{◌and◌, ◌or◌, whether◌then◌else◌}
 use Rattle.text.specs.String.{Str, bytes, same}
 use Rattle.text.specs.Refusal.{◌when◌else◌, clear}
 use Rattle.text.proofs.Tests.{by, or_false_l, same→≡}
@@ -41,11 +41,11 @@ abbrev Clear : ℕ → Type 0
 Clear n = clear ≤ n
 
 least_both : (a b : ℕ) → Clear (least a b) → Clear a × Clear b
-unfolding least if◌then◌else◌
+unfolding least whether◌then◌else◌
 least_both a b h = by (ltb b a) (λ u. let k : clear ≤ b = rw u at h in let l = ltb-true b a u in (omega arith, k)) (λ u. let k : clear ≤ a = rw u at h in let l = ltb-false b a u in (k, omega arith))
 
 when_not : (n m : ℕ) (t : Bool) → n < clear → Clear (n when t else m) → (t ≡ false) × Clear m
-unfolding if◌then◌else◌
+unfolding whether◌then◌else◌
 when_not n m true l h = absurd (omega arith)
 when_not n m false l h = (refl, h)
 
@@ -75,7 +75,7 @@ text_short (jobject m) h = omega arith
 
 module _ (f : Form) (n : Str) (k : Kind) (named : kind_named f n ≡ some k) (P : Json → Type 0) (absent : P jnull) (each : (j : Json) → Clear (refusal_of k j) → P j) where
   found : (m : Members) → Clear (members_refusal f m) → P (find n m)
-  unfolding members_refusal find if◌then◌else◌ Option-elim
+  unfolding members_refusal find whether◌then◌else◌ Option-elim
   found mnil h = absent
   found (mcons x j l) h =
       let b = least_both _ (members_refusal f l) h in
@@ -98,7 +98,7 @@ module _ (f : Form) (n : Str) (k : Kind) (named : kind_named f n ≡ some k) (P 
 -- ---- the rules of a list
 
 name_kind : kind_named Rule (bytes "name") ≡ some (Text Name)
-unfolding kind_in fields if◌then◌else◌ same ◌and◌
+unfolding kind_in fields whether◌then◌else◌ same ◌and◌
 name_kind = refl
 
 rule_short : (j : Json) → Clear (refusal_of (Object Rule) j) → Short (text (member (bytes "name") j))
@@ -130,11 +130,11 @@ list_short (jobject m) h = none_short
 -- ---- a policy
 
 deny_kind : kind_named Top (bytes "deny_rules") ≡ some (Listing Rules)
-unfolding kind_in fields if◌then◌else◌ same ◌and◌
+unfolding kind_in fields whether◌then◌else◌ same ◌and◌
 deny_kind = refl
 
 allow_kind : kind_named Top (bytes "allow_rules") ≡ some (Listing Rules)
-unfolding kind_in fields if◌then◌else◌ same ◌and◌
+unfolding kind_in fields whether◌then◌else◌ same ◌and◌
 allow_kind = refl
 
 no_list : ListShort jnull
@@ -156,14 +156,14 @@ accepted_tree j e = let h : Clear (32 when repeats j else tree_refusal j) = omeg
 
 -- the policy of what was parsed, where nothing refuses it
 abbrev policy_from : Option Json → Option Policy
-policy_from o = if eqb (parsed_refusal o) clear then Option.map policy_in o else none
+policy_from o = whether eqb (parsed_refusal o) clear then Option.map policy_in o else none
 
 unparsed_short : (rule : Listed) → Short (listed_name (policy_from none) rule)
-unfolding parsed_refusal if◌then◌else◌
+unfolding parsed_refusal whether◌then◌else◌
 unparsed_short rule = none_listed rule
 
 parsed_short : (j : Json) (rule : Listed) → Short (listed_name (policy_from (some j)) rule)
-unfolding if◌then◌else◌
+unfolding whether◌then◌else◌
 parsed_short j rule =
     by (eqb (parsed_refusal (some j)) clear)
     (λ v. rw v (policy_short j (accepted_tree j (eqb-true _ _ v)) rule))
@@ -174,11 +174,11 @@ from_short none rule = unparsed_short rule
 from_short (some j) rule = parsed_short j rule
 
 listed_short : (s : Str) (rule : Listed) → Short (listed_name (policy_of s) rule)
-unfolding policy_of policy_refusal if◌then◌else◌
+unfolding policy_of policy_refusal whether◌then◌else◌
 listed_short s rule = by (ltb max_policy_text (length s)) (λ u. rw u (none_listed rule)) (λ u. rw u (from_short (parse s) rule))
 
 whole : (s : Str) → Short s → up_to max_policy_string s ≡ s
-unfolding up_to if◌then◌else◌
+unfolding up_to whether◌then◌else◌
 whole s h = rw (le-ltb _ _ h)
 
 pub whole_names : WholeNames

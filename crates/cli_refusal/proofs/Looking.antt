@@ -8,7 +8,7 @@ use mathlib.Core.List.{List, [], ◌∷◌}
 use lib.Dec.{eqb, leb}
 use lib.ListN.{length, take, drop, length-drop, drop_of_length-le}
 use lib.Seq.{drop-drop, take_all, length-take-le}
-use Rattle.text.specs.Test.{◌and◌, if◌then◌else◌}
+use Rattle.text.specs.Test.{◌and◌, whether◌then◌else◌}
 use Rattle.text.specs.String.{Str}
 use Rattle.text.proofs.Tests.{by}
 use Rattle.text_search.specs.Search.{until, is}
@@ -42,17 +42,17 @@ module _ (text : Str) (at end : ℕ) (h : at < length text) (e : end ≡ at + un
 
 module _ (key : Str) where
   skip : (s : Str) → entry false key s ≡ entry true key (drop (suc (until (is 10) s)) s)
-  unfolding entry until ◌and◌ if◌then◌else◌
+  unfolding entry until ◌and◌ whether◌then◌else◌
   skip [] = refl
   skip (b ∷ s) = by (eqb b 10) (λ u. rw u) (λ u. rw u (skip s))
 
   unmatched : (s : Str) → begins key s ≡ false → entry true key s ≡ entry false key s
-  unfolding entry ◌and◌ if◌then◌else◌
+  unfolding entry ◌and◌ whether◌then◌else◌
   unmatched [] h = refl
   unmatched (b ∷ s) h = rw h
 
   matched : (s : Str) → 0 < length s → begins key s ≡ true → entry true key s ≡ up_to_line (drop (length key) s)
-  unfolding entry ◌and◌ if◌then◌else◌
+  unfolding entry ◌and◌ whether◌then◌else◌
   matched [] l h = absurd (omega arith)
   matched (b ∷ s) l h = rw h
 

@@ -1,7 +1,7 @@
 -- A refusal in words.
 use Rattle.std.specs.Prelude.{ℕ, ◌+◌, ◌/◌, ◌%◌, [], ◌∷◌, ◌++◌, eqb, true}
 use Prim.Native.String.{String}
-use Rattle.text.specs.Test.{if◌then◌else◌}
+use Rattle.text.specs.Test.{whether◌then◌else◌}
 use Rattle.text.specs.String.{Str, bytes, joined}
 use Rattle.text_make.specs.Decimal.{decimal}
 use Rattle.cli_refusal.specs.Entry.{entry}
@@ -58,7 +58,7 @@ meaning n = entry true (key n) meanings
 
 -- where the refusal carries a line: there is no line 0
 unfoldable pub place : ℕ → Str
-place l = if eqb l 0 then [] else bytes " at line " ++ decimal l
+place l = whether eqb l 0 then [] else bytes " at line " ++ decimal l
 
 -- `refused 2 at line 3: not a hex line: ..`
 unfoldable pub refusal : ℕ → ℕ → Str

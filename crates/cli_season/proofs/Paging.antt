@@ -5,7 +5,7 @@ use borrow.Author.Tests.{eq-eqb, ne_eqb}
 use mathlib.Core.Path.{◌≡◌, sym, ap, ◌∙◌}
 use mathlib.Core.List.{List, [], ◌∷◌, append-nil}
 use lib.ListN.{length, take}
-use Rattle.text.specs.Test.{if◌then◌else◌}
+use Rattle.text.specs.Test.{whether◌then◌else◌}
 use Rattle.text.specs.String.{Str}
 use Rattle.text_make.specs.Added.{Added, AddedUpTo}
 use Rattle.text_make.proofs.Adding.{◌then◌}
@@ -21,7 +21,7 @@ use Rattle.cli_season_rules.proofs.Listing.{rules_long}
 
 -- lines, or that there are none
 none_or : (lines d d' d'' : List ℕ) (start end e : ℕ) → Added d start lines d' end → AddedUpTo 7 d' end (none_from start end) d'' e → Added d start (or_none lines) d'' e
-unfolding or_none none_from if◌then◌else◌
+unfolding or_none none_from whether◌then◌else◌
 none_or [] d d' d'' start end e a b =
     let q : start ≡ end = omega (arith, a.wrote.ends) in
     a then rw (eq-eqb start end q) at b.added

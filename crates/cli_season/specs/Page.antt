@@ -1,6 +1,6 @@
 -- The page for a person on a season: the rules that decided, those that never did, and the grid.
 use Rattle.std.specs.Prelude.{ℕ, ◌+◌, List, [], ◌++◌, eqb, length, take, get_or}
-use Rattle.text.specs.Test.{if◌then◌else◌}
+use Rattle.text.specs.Test.{whether◌then◌else◌}
 use Rattle.text.specs.String.{Str, bytes}
 use Rattle.text_make.specs.Text.{fact}
 use Rattle.table.specs.Table.{Rule}
@@ -12,7 +12,7 @@ none_line = bytes "  none\n"
 
 -- where there are no lines
 unfoldable pub or_none : Str → Str
-or_none lines = if eqb (length lines) 0 then none_line else lines
+or_none lines = whether eqb (length lines) 0 then none_line else lines
 
 -- how many requests there are, and the rules that decided
 unfoldable pub decided_part : List Rule → List ℕ → ℕ → Str

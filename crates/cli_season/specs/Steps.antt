@@ -1,7 +1,7 @@
 -- What the programs on the page need and answer.
 use Rattle.std.specs.Prelude.{ℕ, ◌+◌, ◌*◌, ◌≤◌, ◌≡◌, List, [], eqb}
 use Rattle.limits.specs.Limits.{max_log_lines, max_rules}
-use Rattle.text.specs.Test.{if◌then◌else◌}
+use Rattle.text.specs.Test.{whether◌then◌else◌}
 use Rattle.text.specs.String.{Str}
 use Rattle.text_make.specs.Added.{Added}
 use Rattle.table.specs.Text.{check, table_of}
@@ -15,7 +15,7 @@ FewCells grid = (r c : ℕ) → cell grid r c ≤ max_log_lines
 
 -- told where a list of lines, which ends where it starts, has none
 unfoldable pub none_from : ℕ → ℕ → Str
-none_from start end = if eqb start end then none_line else []
+none_from start end = whether eqb start end then none_line else []
 
 -- room for a page
 abbrev pub max_page : ℕ

@@ -7,7 +7,7 @@ use mathlib.Core.List.{List}
 use mathlib.Core.Option.{Option, none, some}
 use lib.Dec.{eqb}
 use lib.ListN.{take}
-use Rattle.text.specs.Test.{◌or◌, if◌then◌else◌, absent}
+use Rattle.text.specs.Test.{◌or◌, whether◌then◌else◌, absent}
 use Rattle.text.specs.String.{Str}
 use Rattle.text.specs.Refusal.{◌when◌else◌, clear}
 use Rattle.text.proofs.Tests.{by}
@@ -66,17 +66,17 @@ abbrev Judged : PathAnswer → Type 0
 Judged a = (n l : ℕ) → a ≡ path.Refused n l → ⊥
 
 judged_on : (c : Checked) (k : ℕ) (x : Option Numbered) (a : PathAnswer) → Judged a → a ≡ path_answer c k x → (c ≡ checked.Accepted) × (k ≡ clear)
-unfolding path_answer if◌then◌else◌
+unfolding path_answer whether◌then◌else◌
 judged_on (checked.Refused n l) k x a h e = absurd (h n l e)
 judged_on checked.Accepted k x a h e = by (eqb k clear) (λ u. (refl, eqb-true _ _ u)) (λ u. absurd (h k 0 (rw u at e)))
 
 read_there : (x : Option Path) → (22 when absent x else clear) ≡ clear → (p : Path) × (x ≡ some p)
-unfolding absent if◌then◌else◌
+unfolding absent whether◌then◌else◌
 read_there none h = absurd (omega (arith, h))
 read_there (some p) h = (p, refl)
 
 path_there : (user : Str) (mode : ℕ) (origin s : Str) → request_refusal user mode origin s ≡ clear → (p : Path) × (read_text s ≡ some p)
-unfolding request_refusal if◌then◌else◌
+unfolding request_refusal whether◌then◌else◌
 path_there user mode origin s h =
     by (bad_user user or bad_mode mode)
     (λ u. let z : ◌≡◌ {A = ℕ} 20 clear = rw u at h in absurd (omega arith))

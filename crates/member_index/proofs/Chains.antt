@@ -7,7 +7,7 @@ use borrow.Author.Tests.{eqb-true, eqb-false, eq-eqb, ne_eqb}
 use lib.Dec.{eqb}
 use lib.ListN.{get_or, set, length-set}
 use lib.Seq.{get_or-set_same, get_or-set_other}
-use Rattle.text.specs.Test.{if◌then◌else◌}
+use Rattle.text.specs.Test.{whether◌then◌else◌}
 use Rattle.text.proofs.Tests.{by}
 use Rattle.text_hash.specs.declared.Seed.{Seed}
 use Rattle.member_index.specs.Index.{places, place_in, first_in, Linkable, LinkedFrom, Linked}
@@ -26,11 +26,11 @@ module _ (seed : Seed) (f users : List ℕ) (b : ℕ) where
   first_none i = refl
 
   pub first_hit : (k i : ℕ) → place_in seed f users i ≡ b → first_in seed f users b (suc k) i ≡ suc i
-  unfolding first_in if◌then◌else◌
+  unfolding first_in whether◌then◌else◌
   first_hit k i e = rw (eq-eqb _ _ e)
 
   pub first_pass : (k i : ℕ) → (place_in seed f users i ≡ b → ⊥) → first_in seed f users b (suc k) i ≡ first_in seed f users b k (suc i)
-  unfolding first_in if◌then◌else◌
+  unfolding first_in whether◌then◌else◌
   first_pass k i e = rw (ne_eqb _ _ e)
 
   pub first_at : (k i j : ℕ) → suc j ≡ first_in seed f users b k i → FirstAt seed f users b k i j

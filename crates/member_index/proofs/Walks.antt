@@ -7,7 +7,7 @@ use native.Mathlib.Omega.{arith}
 use borrow.Author.Tests.{eqb-true, eqb-false}
 use lib.Dec.{eqb}
 use lib.ListN.{get_or}
-use Rattle.text.specs.Test.{if◌then◌else◌}
+use Rattle.text.specs.Test.{whether◌then◌else◌}
 use Rattle.text.specs.String.{Str, same}
 use Rattle.text.proofs.Tests.{by, same→≡}
 use Rattle.text_hash.specs.Mix.{place_of}
@@ -29,7 +29,7 @@ module _ (user : Str) (f users owners : List ℕ) (seed : Seed) (place : ℕ) (o
       (λ t. t)
 
   set_pass : (k i set : ℕ) → (place_in seed f users i ≡ place → ⊥) → set_in user f users owners (suc k) i set ≡ set_in user f users owners k (suc i) set
-  unfolding set_in if◌then◌else◌
+  unfolding set_in whether◌then◌else◌
   set_pass k i set n = rw (other_place i n)
 
   set_none : (k i set : ℕ) → 0 ≡ first_in seed f users place k i → set_in user f users owners k i set ≡ set
@@ -109,7 +109,7 @@ module _ {user : Str} {f users owners : List ℕ} {n : ℕ} {heads links : List 
       let z : w.from + (n - w.from) ≡ n = omega (arith, w.under) in
       w.rest ∙ set_to user f users owners w.seed place w.own (n - w.from) w.from (next - 1) set (one_less ∙ w.first) ∙ rw z
 
-  pub walk_turn : (set' : ℕ) → set' ≡ (if same user (str_in f (get_or users (next - 1) 0)) then insert_of set (get_or owners (next - 1) 0) else set)
+  pub walk_turn : (set' : ℕ) → set' ≡ (whether same user (str_in f (get_or users (next - 1) 0)) then insert_of set (get_or owners (next - 1) 0) else set)
       → Walking user f users owners n heads links place set' (get_or links (next - 1) 0)
   walk_turn set' e =
       let p : next - 1 + 1 ≡ next = omega arith in

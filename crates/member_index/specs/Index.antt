@@ -1,7 +1,7 @@
 -- For programs: the members of a table by place, a chain of members for each place of a hash. Only that equal strings share a place is used of it.
 use Rattle.std.specs.Prelude.{◌≡◌, List, ℕ, zero, suc, ◌-◌, ◌≤◌, ◌<◌, eqb, length, get_or}
 use Rattle.limits.specs.Limits.{max_members}
-use Rattle.text.specs.Test.{if◌then◌else◌}
+use Rattle.text.specs.Test.{whether◌then◌else◌}
 use Rattle.text_hash.specs.Mix.{Small, place_of}
 use Rattle.text_hash.specs.declared.Seed.{Seed}
 use Rattle.table_place.specs.Place.{str_in}
@@ -18,7 +18,7 @@ place_in seed f users i = place_of seed places (str_in f (get_or users i 0))
 -- the first with place b of k members, from number i on, counted from 1; 0 where none has it
 unfoldable pub first_in : Seed → List ℕ → List ℕ → ℕ → ℕ → ℕ → ℕ
 first_in seed f users b zero i = 0
-first_in seed f users b (suc k) i = if eqb (place_in seed f users i) b then suc i else first_in seed f users b k (suc i)
+first_in seed f users b (suc k) i = whether eqb (place_in seed f users i) b then suc i else first_in seed f users b k (suc i)
 
 -- no place has a member yet
 abbrev pub Unlinked : List ℕ → Type 0

@@ -9,7 +9,7 @@ use borrow.Author.Tests.{eqb-true, eq-eqb}
 use lib.Dec.{eqb}
 use lib.ListN.{length, drop, length-drop}
 use lib.Seq.{drop-length}
-use Rattle.text.specs.Test.{◌and◌, if◌then◌else◌, twice}
+use Rattle.text.specs.Test.{◌and◌, whether◌then◌else◌, twice}
 use Rattle.text.specs.String.{Str, joined}
 use Rattle.text.specs.Frame.{Parsed, got, unread, and_then, ◌>>=◌, ret, byte, string, string_bytes, times}
 use Rattle.text.proofs.Tests.{by, and_l, and_r}
@@ -104,7 +104,7 @@ twice_bytes ks =
 -- ---- both
 
 whole_got : (s : Str) (p q : Path) (t : ℕ) → whole s (got q t) ≡ some p → (q ≡ p) × (t ≡ length s) × (good_path p ≡ true)
-unfolding whole if◌then◌else◌
+unfolding whole whether◌then◌else◌
 whole_got s p q t e =
     by (eqb t (length s) and good_path q)
     (λ k. let i : q ≡ p = let e' = rw k at e in cc in (i, eqb-true _ _ (and_l _ _ k), rw i at (and_r _ _ k)))
@@ -128,7 +128,7 @@ whole_only read write s p h e = go (read s) h e
     go unread h e = absurd (whole_unread s e)
 
 pub whole_good : (s : Str) (p : Path) → good_path p ≡ true → whole s (got p (length s)) ≡ some p
-unfolding whole if◌then◌else◌ ◌and◌
+unfolding whole whether◌then◌else◌ ◌and◌
 whole_good s p g = rw (eq-eqb (length s) (length s) refl, g)
 
 -- the bytes of a path are read to that path and nothing more

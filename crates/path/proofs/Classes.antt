@@ -6,7 +6,7 @@ use mathlib.Core.List.{[], ◌∷◌}
 use native.Mathlib.Omega.{arith}
 use lib.Dec.{eqb, leb}
 use lib.ListN.{length, get_or}
-use Rattle.text.specs.Test.{◌or◌, ◌and◌, if◌then◌else◌, any}
+use Rattle.text.specs.Test.{◌or◌, ◌and◌, whether◌then◌else◌, any}
 use Rattle.text.specs.Byte.{is_name, is_print, is_star}
 use Rattle.text.specs.String.{Str, bytes, same}
 use Rattle.text.proofs.Tests.{by, same→≡}
@@ -15,8 +15,8 @@ use Rattle.path.specs.Walk.{unsized_by, name_refusal, elem_name_refusal, value_r
 
 -- the test of a byte, as the program makes it
 pub outside : (name : Bool) (b : ℕ) (p q : Bool) → p ≡ is_name b → q ≡ is_print b
-    → not ((name && (p || eqb b 42)) || (not name && q)) ≡ (if name then outside_name else outside_value) b
-unfolding if◌then◌else◌ outside_name outside_value
+    → not ((name && (p || eqb b 42)) || (not name && q)) ≡ (whether name then outside_name else outside_value) b
+unfolding whether◌then◌else◌ outside_name outside_value
 outside true b p q e f = rw e (or_ends (is_name b || eqb b 42))
   where
     or_ends : (t : Bool) → not (t || false) ≡ not t

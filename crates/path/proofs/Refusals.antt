@@ -9,7 +9,7 @@ use borrow.Author.Tests.{leb-true, leb-false, eqb-true, ne_eqb, le-ltb}
 use lib.Dec.{leb, ltb, eqb}
 use lib.ListN.{length}
 use Rattle.limits.specs.Limits.{max_elements, max_keys}
-use Rattle.text.specs.Test.{◌and◌, ◌or◌, if◌then◌else◌, all, any, twice}
+use Rattle.text.specs.Test.{◌and◌, ◌or◌, whether◌then◌else◌, all, any, twice}
 use Rattle.text.specs.Byte.{is_name, is_star}
 use Rattle.text.specs.String.{Str, bytes, same}
 use Rattle.text.specs.Refusal.{◌when◌else◌, clear}
@@ -35,18 +35,18 @@ min_assoc a b c =
 -- ---- when .. else
 
 when_low : (k n m : ℕ) (t : Bool) → k ≤ n → k ≤ m → k ≤ (n when t else m)
-unfolding if◌then◌else◌
+unfolding whether◌then◌else◌
 when_low k n m true h l = h
 when_low k n m false h l = l
 
 when_high : (k n m : ℕ) (t : Bool) → n ≤ k → m ≤ k → (n when t else m) ≤ k
-unfolding if◌then◌else◌
+unfolding whether◌then◌else◌
 when_high k n m true h l = h
 when_high k n m false h l = l
 
 -- the smaller of two that may both be n
 min_when : (n m o : ℕ) (s t : Bool) → n ≤ m → n ≤ o → min (n when s else m) (n when t else o) ≡ (n when (s or t) else min m o)
-unfolding if◌then◌else◌ ◌or◌
+unfolding whether◌then◌else◌ ◌or◌
 min_when n m o true true h l = min-eq_left (omega arith)
 min_when n m o true false h l = min-eq_left l
 min_when n m o false true h l = min-eq_right h
@@ -89,7 +89,7 @@ refusal_high a b c d =
 
 -- none of the four holds
 pub refusal_clear : (a b c d : Bool) → eqb (least_refusal a b c d) clear ≡ not (a or b or c or d)
-unfolding least_refusal if◌then◌else◌ ◌or◌
+unfolding least_refusal whether◌then◌else◌ ◌or◌
 refusal_clear true b c d = refl
 refusal_clear false true c d = refl
 refusal_clear false false true d = refl
@@ -169,11 +169,11 @@ unfolding elems_refusal
 elems_high es = refusal_high _ _ _ _
 
 pub keys_none : keys_refusal [] ≡ clear
-unfolding keys_refusal least_refusal any twice if◌then◌else◌
+unfolding keys_refusal least_refusal any twice whether◌then◌else◌
 keys_none = refl
 
 pub elems_none : elems_refusal [] ≡ clear
-unfolding elems_refusal least_refusal any if◌then◌else◌
+unfolding elems_refusal least_refusal any whether◌then◌else◌
 elems_none = refl
 
 -- two get no number where neither does

@@ -1,7 +1,7 @@
 -- What a reader of written paths has to be.
 use Rattle.std.specs.Prelude.{◌≡◌, true, length, eqb}
 use Rattle.std.proofs.Math.Option.{Option, none, some}
-use Rattle.text.specs.Test.{◌and◌, if◌then◌else◌}
+use Rattle.text.specs.Test.{◌and◌, whether◌then◌else◌}
 use Rattle.text.specs.String.{Str}
 use Rattle.text.specs.Frame.{Parsed, got, unread}
 use Rattle.path.specs.Path.{Path}
@@ -20,7 +20,7 @@ pub record Reads (write : Path → Str) (read : Str → Option Path) : Type 0 wh
 
 -- a good path that was read to the very end
 unfoldable pub whole : Str → Parsed Path → Option Path
-whole s (got p t) = if eqb t (length s) and good_path p then some p else none
+whole s (got p t) = whether eqb t (length s) and good_path p then some p else none
 whole s unread = none
 
 -- the good path whose bytes these are

@@ -1,7 +1,7 @@
 // What the strings of a path may not hold: refusal numbers 5 to 8, the smallest first, and `limits::CLEAR` for none.
 ghost use Rattle.std.specs.Prelude.{◌≡◌, true, [], ◌∷◌, min};
 ghost use Rattle.text.specs.Byte.{is_name, is_star};
-ghost use Rattle.text.specs.Test.{all, any, if◌then◌else◌};
+ghost use Rattle.text.specs.Test.{all, any, whether◌then◌else◌};
 ghost use Rattle.text.specs.String.{bytes, same};
 ghost use Rattle.path.specs.Refusal.{outside_name, outside_value};
 ghost use Rattle.path.specs.Walk.{name_refusal, elem_name_refusal, value_refusal};
@@ -43,7 +43,7 @@ struct Seen {
 
 // What a string holds, where the set is that of names (with *, which has a number of its own) or that of values.
 fn scan(s: &[u8], name: bool) -> Seen
-    ensures { (result.stray ≡ any (if name then outside_name else outside_value) s.now) × (result.star ≡ any is_star s.now) }
+    ensures { (result.stray ≡ any (whether name then outside_name else outside_value) s.now) × (result.star ≡ any is_star s.now) }
 {
     let mut stray = false;
     let mut star = false;

@@ -10,7 +10,7 @@ use lib.Dec.{leb}
 use lib.ListN.{length, take, set}
 use lib.Seq.{take_at}
 use Rattle.limits.specs.Sizes.{max_path_bytes}
-use Rattle.text.specs.Test.{◌and◌, if◌then◌else◌}
+use Rattle.text.specs.Test.{◌and◌, whether◌then◌else◌}
 use Rattle.text.specs.String.{Str, bytes, same, joined}
 use Rattle.text.specs.Frame.{got, unread}
 use Rattle.text.specs.Fill.{put}
@@ -37,7 +37,7 @@ module _ (out : List ℕ) (o : Option Str) where
 
   -- the result was stored into the lent bytes themselves
   pub stored_there : (s : Str) → o ≡ some s → length s ≤ length out → (out' : List ℕ) (n : ℕ) → Wrote out 0 s out' n → (Length n ≡ answer out o) × (out' ≡ lent out o)
-  unfolding answer lent if◌then◌else◌
+  unfolding answer lent whether◌then◌else◌
   stored_there s e h out' n w =
       let l : leb (length s) (length out) ≡ true = le-leb (length s) (length out) h in
       let i : n ≡ length s = omega (arith, w.ends) in
@@ -49,7 +49,7 @@ module _ (out : List ℕ) (o : Option Str) where
     is_length = omega (arith, w.ends)
 
     pub unfit : length out < n → (Refused 23 ≡ answer out o) × (out ≡ lent out o)
-    unfolding answer lent if◌then◌else◌
+    unfolding answer lent whether◌then◌else◌
     unfit h =
         let l : leb (length s) (length out) ≡ false = lt-leb (length s) (length out) (omega (arith, is_length)) in
         (rw (e, l), rw (e, l))
@@ -59,7 +59,7 @@ module _ (out : List ℕ) (o : Option Str) where
     made_is = rw w.same (take_at s _ n (sym is_length))
 
     pub filled : n ≤ length out → (out' : List ℕ) → out' ≡ put out 0 (take n made) → (Length n ≡ answer out o) × (out' ≡ lent out o)
-    unfolding answer lent if◌then◌else◌
+    unfolding answer lent whether◌then◌else◌
     filled h out' i =
         let l : leb (length s) (length out) ≡ true = le-leb (length s) (length out) (omega (arith, is_length)) in
         (rw (e, l) (ap Length is_length), rw (e, l) (i ∙ ap (put out 0) made_is))
@@ -68,12 +68,12 @@ module _ (out : List ℕ) (o : Option Str) where
 
 -- the root
 pub root_bytes : (s : Str) (b : Bool) → b ≡ same s (bytes "/") → b ≡ true → bytes_for s ≡ some (0 ∷ [])
-unfolding bytes_for read_text if◌then◌else◌ path_bytes counted joined
+unfolding bytes_for read_text whether◌then◌else◌ path_bytes counted joined
 root_bytes s b i e = rw (sym i ∙ e)
 
 module _ (out : List ℕ) where
   pub root_unfit : length out ≡ 0 → (Refused 23 ≡ answer out (some (0 ∷ []))) × (out ≡ lent out (some (0 ∷ [])))
-  unfolding answer lent if◌then◌else◌
+  unfolding answer lent whether◌then◌else◌
   root_unfit z = let l : leb 1 (length out) ≡ false = lt-leb 1 (length out) (omega arith) in (rw l, rw l)
 
   pub root_filled : (length out ≡ 0 → ⊥) → (Length 1 ≡ answer out (some (0 ∷ []))) × (set out 0 0 ≡ lent out (some (0 ∷ [])))
@@ -82,21 +82,21 @@ module _ (out : List ℕ) where
 -- any other text
 module _ (s : Str) (n : same s (bytes "/") ≡ false) where
   empty_bytes : length s ≡ 0 → bytes_for s ≡ none
-  unfolding bytes_for read_text if◌then◌else◌
+  unfolding bytes_for read_text whether◌then◌else◌
   empty_bytes z = rw (n, eq-eqb (length s) 0 z)
 
   module _ (m : length s ≡ 0 → ⊥) where
     no_bytes : good_elements s 0 ≡ unread → bytes_for s ≡ none
-    unfolding bytes_for read_text elements if◌then◌else◌
+    unfolding bytes_for read_text elements whether◌then◌else◌
     no_bytes e = rw (n, ne_eqb (length s) 0 m, elements_bad s e)
 
     module _ (p : Path) (t : ℕ) (e : good_elements s 0 ≡ got p t) where
       part_bytes : (t ≡ length s → ⊥) → bytes_for s ≡ none
-      unfolding bytes_for read_text elements whole if◌then◌else◌ ◌and◌
+      unfolding bytes_for read_text elements whole whether◌then◌else◌ ◌and◌
       part_bytes h = rw (n, ne_eqb (length s) 0 m, (elements_good s p t e).0, ne_eqb t (length s) h)
 
       good_bytes : t ≡ length s → bytes_for s ≡ some (path_bytes p)
-      unfolding bytes_for read_text elements whole if◌then◌else◌ ◌and◌
+      unfolding bytes_for read_text elements whole whether◌then◌else◌ ◌and◌
       good_bytes h = let g = elements_good s p t e in rw (n, ne_eqb (length s) 0 m, g.0, eq-eqb t (length s) h, g.1)
 
   module _ (d d' : List ℕ) where

@@ -10,7 +10,7 @@ use lib.Dec.{eqb, ltb}
 use lib.ListN.{length, drop, get_or, length-drop, get_or-eq_default}
 use lib.Seq.{drop-drop, take_at, drop_at}
 use Rattle.limits.specs.Limits.{max_elements, max_keys, max_string}
-use Rattle.text.specs.Test.{◌or◌, if◌then◌else◌, ◌∈◌, any}
+use Rattle.text.specs.Test.{◌or◌, whether◌then◌else◌, ◌∈◌, any}
 use Rattle.text.specs.String.{Str, joined}
 use Rattle.text.specs.Frame.{got, and_then, Reader, ◌>>=◌, ret, part}
 use Rattle.text.proofs.Tests.{by, clash, or_false_l, or_false_r, none_any}
@@ -30,7 +30,7 @@ plain c b p q = by (eqb b c) (λ e. clash p (ap outside_name (sym (eqb-true _ _ 
 
 -- a name, and then what comes after it
 name_run_lem : (a b : ℕ) (n rest : Str) → outside_name a ≡ true → outside_name b ≡ true → any outside_name n ≡ false → up_to a b (n ++ rest) ≡ length n + up_to a b rest
-unfolding until any if◌then◌else◌
+unfolding until any whether◌then◌else◌
 name_run_lem a b [] rest p q h = (let f : up_to a b rest ≡ 0 + up_to a b rest = omega arith in f)
 name_run_lem a b (x ∷ n) rest p q h =
     let o = or_false_l (outside_name x) _ h in
@@ -44,7 +44,7 @@ sized s h = ltb-false _ _ (or_false_r (eqb (length s) 0) _ h)
 module _ (s : Str) (at : ℕ) where
   name_gives : (a b : ℕ) (n rest : Str) → outside_name a ≡ true → outside_name b ≡ true → any outside_name n ≡ false → unsized n ≡ false → up_to a b rest ≡ 0
       → drop at s ≡ n ++ rest → Gives (name a b s at) s n rest
-  unfolding name if◌then◌else◌
+  unfolding name whether◌then◌else◌
   name_gives a b n rest p q h z stop e =
       let u : up_to a b (drop at s) ≡ length n = rw e (name_run_lem a b n rest p q h) ∙ (let f : length n + up_to a b rest ≡ length n = omega arith in f) in
       let k = sized n z in
@@ -56,7 +56,7 @@ module _ (s : Str) (at : ℕ) where
       )
 
   pub literal_gives : (b : ℕ) (rest : Str) → drop at s ≡ b ∷ rest → Gives (literal b s at) s b rest
-  unfolding literal if◌then◌else◌
+  unfolding literal whether◌then◌else◌
   literal_gives b rest e = let f = first_byte s at b rest e in (at + 1, rw (eq-eqb (get_or s at 0) b f.1), f.2)
 
 -- ---- values
@@ -70,13 +70,13 @@ mark_right b e = by (eqb b 92) (λ u. clash refl (rw (mark_left b e, u) at e)) (
 -- the byte that stands at `at` is no ], and the next byte of the value is read
 module _ (s : Str) (at b : ℕ) (rest : Str) where
   plain_gives : is_mark b ≡ false → drop at s ≡ b ∷ rest → (eqb (get_or s at 0) 93 ≡ false) × Gives (item s at) s b rest
-  unfolding item if◌then◌else◌
+  unfolding item whether◌then◌else◌
   plain_gives m e =
       let f = first_byte s at b rest e in
       (rw f.1 (mark_left b m), (at + 1, rw (lt-ltb at (length s) f.0, f.1, mark_right b m), f.2))
 
   mark_gives : is_mark b ≡ true → drop at s ≡ 92 ∷ b ∷ rest → (eqb (get_or s at 0) 93 ≡ false) × Gives (item s at) s b rest
-  unfolding item if◌then◌else◌
+  unfolding item whether◌then◌else◌
   mark_gives m e =
       let f = first_byte s at 92 (b ∷ rest) e in
       let g = first_byte s (at + 1) b rest f.2 in
@@ -87,12 +87,12 @@ module _ (s : Str) (at b : ℕ) (rest : Str) where
   item_gives e = by (is_mark b) (λ m. mark_gives m (e ∙ rw (escaped_mark b m))) (λ m. plain_gives m (e ∙ rw (escaped_plain b m)))
 
 pub value_closed : (n : ℕ) (s : Str) (at : ℕ) → eqb (get_or s at 0) 93 ≡ true → value n s at ≡ got [] (at + 1)
-unfolding value if◌then◌else◌
+unfolding value whether◌then◌else◌
 value_closed zero s at e = rw e
 value_closed (suc n) s at e = rw e
 
 pub value_open : (n : ℕ) (s : Str) (at : ℕ) → eqb (get_or s at 0) 93 ≡ false → value (suc n) s at ≡ and_then (item s at) (λ b p. and_then (value n s p) (λ v t. got (b ∷ v) t))
-unfolding value if◌then◌else◌ ◌>>=◌ ret
+unfolding value whether◌then◌else◌ ◌>>=◌ ret
 value_open n s at e = rw e
 
 pub value_gives : (v : Str) (n : ℕ) (s : Str) (at : ℕ) (rest : Str) → length v ≤ n → drop at s ≡ joined escaped v ++ 93 ∷ rest → Gives (value n s at) s v rest
@@ -109,7 +109,7 @@ value_gives (b ∷ v) (suc n) s at rest h e =
 
 pub each_open : {A : Type 0} (b n : ℕ) (r : Reader A) (s : Str) (at : ℕ) → eqb (get_or s at 0) b ≡ true
     → each b (suc n) r s at ≡ and_then (r s (at + 1)) (λ x p. and_then (each b n r s p) (λ xs t. got (x ∷ xs) t))
-unfolding each if◌then◌else◌ ◌>>=◌ ret
+unfolding each whether◌then◌else◌ ◌>>=◌ ret
 each_open b n r s at e = rw e
 
 pub each_none : {A : Type 0} (b : ℕ) (r : Reader A) (s : Str) (at : ℕ) → each b 0 r s at ≡ got [] at
@@ -117,7 +117,7 @@ unfolding each
 each_none b r s at = refl
 
 pub each_end : {A : Type 0} (b n : ℕ) (r : Reader A) (s : Str) (at : ℕ) → eqb (get_or s at 0) b ≡ false → each b n r s at ≡ got [] at
-unfolding each if◌then◌else◌
+unfolding each whether◌then◌else◌
 each_end b zero r s at e = refl
 each_end b (suc n) r s at e = rw e
 
@@ -169,7 +169,7 @@ key_tail : (n v rest : Str) → (n ++ (61 ∷ (v ++ 93 ∷ []))) ++ rest ≡ n +
 key_tail n v rest = simp append_assoc
 
 stops : (rest : Str) → up_to 61 61 (61 ∷ rest) ≡ 0
-unfolding until if◌then◌else◌
+unfolding until whether◌then◌else◌
 stops rest = refl
 
 module _ (s : Str) where
@@ -192,11 +192,11 @@ abbrev Next : Str → Type 0
 Next rest = (up_to 47 91 rest ≡ 0) × (starts 91 rest ≡ false)
 
 element_next : (e : Elem) (rest : Str) → Next (elem_text e ++ rest)
-unfolding elem_text until starts if◌then◌else◌
+unfolding elem_text until starts whether◌then◌else◌
 element_next e rest = (refl, refl)
 
 keys_next : (ks : List Key) (rest : Str) → up_to 47 91 rest ≡ 0 → up_to 47 91 (joined key_text ks ++ rest) ≡ 0
-unfolding joined key_text until if◌then◌else◌
+unfolding joined key_text until whether◌then◌else◌
 keys_next [] rest h = h
 keys_next (k ∷ ks) rest h = refl
 

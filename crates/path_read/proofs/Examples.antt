@@ -2,7 +2,7 @@
 use mathlib.Core.Path.{◌≡◌, refl}
 use mathlib.Core.List.{[], ◌∷◌}
 use mathlib.Core.Option.{some}
-use Rattle.text.specs.Test.{◌and◌, ◌or◌, if◌then◌else◌, any, twice}
+use Rattle.text.specs.Test.{◌and◌, ◌or◌, whether◌then◌else◌, any, twice}
 use Rattle.text.specs.String.{bytes, same, joined}
 use Rattle.text.specs.Frame.{◌>>=◌, ret, string_bytes}
 use Rattle.text_search.specs.Search.{until}
@@ -13,6 +13,6 @@ use Rattle.path_read.specs.TextReader.{literal, name, item, value, each, key, el
 use Rattle.path_read.specs.Calls.{bytes_for}
 
 wildcard : bytes_for (bytes "/a[k=*]") ≡ some (1 ∷ 1 ∷ 97 ∷ 1 ∷ 1 ∷ 107 ∷ 1 ∷ 42 ∷ [])
-unfolding bytes_for read_text elements element key each value item name until literal whole same ◌>>=◌ ret ◌and◌ ◌or◌ if◌then◌else◌ any twice
+unfolding bytes_for read_text elements element key each value item name until literal whole same ◌>>=◌ ret ◌and◌ ◌or◌ whether◌then◌else◌ any twice
     good_path over_limit elem_over key_over unsized stray_byte elem_stray key_stray outside_name outside_value misplaced elem_misplaced key_misplaced half_wild key_twice path_bytes elem_bytes key_bytes counted string_bytes joined
 wildcard = refl

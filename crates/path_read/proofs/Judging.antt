@@ -11,7 +11,7 @@ use lib.ListN.{length, take, drop, get_or, length-drop}
 use lib.Seq.{get_or-drop}
 use Rattle.limits.specs.Limits.{max_elements, max_keys, max_string}
 use Rattle.limits.specs.Sizes.{max_string_bytes, max_key_bytes, max_keys_bytes, max_elem_bytes}
-use Rattle.text.specs.Test.{◌and◌, ◌or◌, if◌then◌else◌, all, any, twice}
+use Rattle.text.specs.Test.{◌and◌, ◌or◌, whether◌then◌else◌, all, any, twice}
 use Rattle.text.specs.Byte.{is_name}
 use Rattle.text.specs.String.{Str, bytes, same, joined}
 use Rattle.text.specs.Frame.{Parsed, got, unread, and_then, Reader, ◌>>=◌, ret, part, string_bytes, times}
@@ -44,11 +44,11 @@ use Rattle.path_read.proofs.Reading.{name_low, name_high, name_room, part_length
 module _ {A : Type 0} (ok : A → Bool) where
   module _ {x : Parsed A} {a : A} {t : ℕ} (e : x ≡ got a t) where
     pub pass_good : ok a ≡ true → pass ok x ≡ got a t
-    unfolding pass if◌then◌else◌
+    unfolding pass whether◌then◌else◌
     pass_good h = rw (e, h)
 
     pub pass_bad : ok a ≡ false → pass ok x ≡ unread
-    unfolding pass if◌then◌else◌
+    unfolding pass whether◌then◌else◌
     pass_bad h = rw (e, h)
 
   pub pass_none : {x : Parsed A} → x ≡ unread → pass ok x ≡ unread
@@ -56,7 +56,7 @@ module _ {A : Type 0} (ok : A → Bool) where
   pass_none e = rw e
 
   pub pass_got : (x : Parsed A) {a : A} {t : ℕ} → pass ok x ≡ got a t → (x ≡ got a t) × (ok a ≡ true)
-  unfolding pass if◌then◌else◌
+  unfolding pass whether◌then◌else◌
   pass_got (got b u) e =
       by (ok b)
       (λ h. let e' = rw h at e in (e', got_move (λ c q. ok c ≡ true) e' h))
@@ -66,7 +66,7 @@ module _ {A : Type 0} (ok : A → Bool) where
   -- a first part that does not pass lets nothing pass
   pub pass_first : {B : Type 0} (fine : B → Bool) (x : Parsed A) (k : A → ℕ → Parsed B) → ((a : A) (p : ℕ) (b : B) (t : ℕ) → k a p ≡ got b t → fine b ≡ true → ok a ≡ true)
       → pass ok x ≡ unread → pass fine (and_then x k) ≡ unread
-  unfolding pass if◌then◌else◌
+  unfolding pass whether◌then◌else◌
   pass_first fine unread k h e = refl
   pass_first {B} fine (got a p) k h e = go (k a p) refl
     where
@@ -80,29 +80,29 @@ module _ {A : Type 0} (ok : A → Bool) where
   -- a part that passes where the whole does
   pub pass_then : {B : Type 0} (fine : B → Bool) (make : A → B) (x : Parsed A) → ((a : A) (t : ℕ) → x ≡ got a t → fine (make a) ≡ ok a)
       → pass fine (and_then x (λ a t. got (make a) t)) ≡ and_then (pass ok x) (λ a t. got (make a) t)
-  unfolding pass if◌then◌else◌
+  unfolding pass whether◌then◌else◌
   pass_then fine make (got a t) h = rw (h a t refl) (by (ok a) (λ k. rw k) (λ k. rw k))
   pass_then fine make unread h = refl
 
   -- one test after another
   pass_both : (also : A → Bool) (x : Parsed A) → pass (λ a. ok a and also a) x ≡ pass also (pass ok x)
-  unfolding pass if◌then◌else◌ ◌and◌
+  unfolding pass whether◌then◌else◌ ◌and◌
   pass_both also (got a t) = by (ok a) (λ k. rw k) (λ k. rw k)
   pass_both also unread = refl
 
-  pass_list : (x : A) (y : Parsed (List A)) → pass (all ok) (and_then y (λ xs t. got (x ∷ xs) t)) ≡ (if ok x then and_then (pass (all ok) y) (λ xs t. got (x ∷ xs) t) else unread)
-  unfolding pass all if◌then◌else◌ ◌and◌
+  pass_list : (x : A) (y : Parsed (List A)) → pass (all ok) (and_then y (λ xs t. got (x ∷ xs) t)) ≡ (whether ok x then and_then (pass (all ok) y) (λ xs t. got (x ∷ xs) t) else unread)
+  unfolding pass all whether◌then◌else◌ ◌and◌
   pass_list x (got xs t) = by (ok x) (λ h. by (all ok xs) (λ k. rw (h, k)) (λ k. rw (h, k))) (λ h. rw h)
   pass_list x unread = by (ok x) (λ h. rw h) (λ h. rw h)
 
   pass_cons : (y : Parsed A) (k : ℕ → Parsed (List A))
       → pass (all ok) (and_then y (λ x p. and_then (k p) (λ xs t. got (x ∷ xs) t))) ≡ and_then (pass ok y) (λ x p. and_then (pass (all ok) (k p)) (λ xs t. got (x ∷ xs) t))
-  unfolding pass if◌then◌else◌
+  unfolding pass whether◌then◌else◌
   pass_cons (got x p) k = pass_list x (k p) ∙ by (ok x) (λ h. rw h) (λ h. rw h)
   pass_cons unread k = refl
 
   pass_nothing : (at : ℕ) → pass (all ok) (got [] at) ≡ got [] at
-  unfolding pass all if◌then◌else◌
+  unfolding pass all whether◌then◌else◌
   pass_nothing at = refl
 
   then_same : (y : Parsed A) (j k : ℕ → Parsed (List A)) → ((p : ℕ) → j p ≡ k p)
@@ -131,7 +131,7 @@ each_few b (suc n) r s at xs t e =
 -- ---- read_name
 
 run_plain : (s : Str) → any no_name (take (name_run s) s) ≡ false
-unfolding until any if◌then◌else◌ ◌or◌
+unfolding until any whether◌then◌else◌ ◌or◌
 run_plain [] = refl
 run_plain (x ∷ s) = by (is_name x) (λ u. rw u (rw u (run_plain s))) (λ u. rw u)
 
@@ -142,7 +142,7 @@ module _ (a b : ℕ) (p : is_name a ≡ false) (q : is_name b ≡ false) where
 
   -- a name that a, b or nothing comes after
   run_whole : (s : Str) → (name_run s < length s → (eqb (get_or s (name_run s) 0) a || eqb (get_or s (name_run s) 0) b) ≡ true) → up_to a b s ≡ name_run s
-  unfolding until if◌then◌else◌
+  unfolding until whether◌then◌else◌
   run_whole [] h = refl
   run_whole (x ∷ s) h =
       by (is_name x)
@@ -151,7 +151,7 @@ module _ (a b : ℕ) (p : is_name a ≡ false) (q : is_name b ≡ false) where
 
   -- another byte comes after it
   run_broken : (s : Str) → name_run s < length s → (eqb (get_or s (name_run s) 0) a || eqb (get_or s (name_run s) 0) b) ≡ false → any no_name (take (up_to a b s) s) ≡ true
-  unfolding until any if◌then◌else◌ ◌or◌
+  unfolding until any whether◌then◌else◌ ◌or◌
   run_broken [] k h = absurd (omega arith)
   run_broken (x ∷ s) k h =
       by (is_name x)
@@ -181,7 +181,7 @@ module _ (a b : ℕ) (p : is_name a ≡ false) (q : is_name b ≡ false) (s : St
       omega arith
 
   pub name_broken : ((ltb n (length s) && not (eqb c a)) && not (eqb c b)) ≡ true → good_name a b s at ≡ unread
-  unfolding name if◌then◌else◌
+  unfolding name whether◌then◌else◌
   name_broken t =
       let u = up_to a b (drop at s) in
       let v = and_left (ltb n (length s) && not (eqb c a)) (not (eqb c b)) t in
@@ -202,7 +202,7 @@ module _ (a b : ℕ) (p : is_name a ≡ false) (q : is_name b ≡ false) (s : St
     sized = sym (size (part s at n)) ∙ ap unsized_by (sym (part_length s at n (omega arith) (omega (arith, until_fits no_name (drop at s), length-drop at s))))
 
     pub name_unsized : unsized_by (n - at) ≡ true → good_name a b s at ≡ unread
-    unfolding name if◌then◌else◌
+    unfolding name whether◌then◌else◌
     name_unsized t =
         let u = up_to a b (drop at s) in
         let k : at + u ≡ n = sym m in
@@ -319,7 +319,7 @@ keys_twice d to ks n d' end r w h l e =
 -- ---- read_element
 
 name_part : (a b : ℕ) (s : Str) (at : ℕ) (n : Str) (m : ℕ) → name a b s at ≡ got n m → n ≡ part s at m
-unfolding name if◌then◌else◌
+unfolding name whether◌then◌else◌
 name_part a b s at n m e =
     by (ltb max_string (up_to a b (drop at s)))
     (λ u. let e' = rw u at e in never_got refl e')
@@ -367,7 +367,7 @@ module _ (s : Str) (at : ℕ) where
 
 module _ (s : Str) where
   pub elements_bad : good_elements s 0 ≡ unread → whole s (each 47 max_elements element s 0) ≡ none
-  unfolding whole pass if◌then◌else◌ ◌and◌
+  unfolding whole pass whether◌then◌else◌ ◌and◌
   elements_bad e = go (each 47 max_elements element s 0) refl (each_pass (good elem_refusal) 47 max_elements element s 0 ∙ e)
     where
       go : (y : Parsed Path) → each 47 max_elements element s 0 ≡ y → pass (all (good elem_refusal)) y ≡ unread → whole s y ≡ none

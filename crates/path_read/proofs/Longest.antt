@@ -10,7 +10,7 @@ use lib.Dec.{ltb}
 use lib.ListN.{length, length-append}
 use Rattle.limits.specs.Limits.{max_elements, max_keys, max_string}
 use Rattle.limits.specs.Sizes.{max_key_bytes, max_elem_bytes, max_path_bytes, max_key_text, max_elem_text, max_path_text}
-use Rattle.text.specs.Test.{◌or◌, if◌then◌else◌, any}
+use Rattle.text.specs.Test.{◌or◌, whether◌then◌else◌, any}
 use Rattle.text.specs.String.{Str, joined}
 use Rattle.text.specs.Frame.{string_bytes}
 use Rattle.text.proofs.Tests.{by, or_false_l, or_false_r}
@@ -26,7 +26,7 @@ use Rattle.path_read.specs.Calls.{bytes_for, text_for}
 use Rattle.path_read.proofs.RoundTrip.{within_limits, text_reader}
 
 escaped_length : (b : ℕ) → length (escaped b) ≤ 2
-unfolding escaped if◌then◌else◌
+unfolding escaped whether◌then◌else◌
 escaped_length b = by (is_mark b) (λ e. rw e (omega arith)) (λ e. rw e (omega arith))
 
 pub value_length : (v : Str) → length (joined escaped v) ≤ 2 * length v

@@ -10,7 +10,7 @@ use lib.ListN.{length, drop, get_or, set, length-drop, get_or-eq_default}
 use lib.Seq.{length-take-le}
 use Rattle.limits.specs.Limits.{max_string}
 use Rattle.limits.specs.Sizes.{max_string_bytes}
-use Rattle.text.specs.Test.{if◌then◌else◌}
+use Rattle.text.specs.Test.{whether◌then◌else◌}
 use Rattle.text.specs.String.{Str, joined}
 use Rattle.text.specs.Frame.{Parsed, got, unread, and_then, Reader, ◌>>=◌, ret, part, string_bytes}
 use Rattle.text.specs.Fill.{put}
@@ -33,24 +33,24 @@ use Rattle.path_read.proofs.Storing.{room_end}
 
 module _ (s : Str) (at : ℕ) where
   pub item_past : length s ≤ at → item_of s at ≡ items.Unread
-  unfolding item_of item_in item if◌then◌else◌
+  unfolding item_of item_in item whether◌then◌else◌
   item_past h = rw (get_or-eq_default s 0 h, le-ltb at (length s) h)
 
   pub item_end : get_or s at 0 ≡ 93 → item_of s at ≡ items.End
-  unfolding item_of if◌then◌else◌
+  unfolding item_of whether◌then◌else◌
   item_end e = rw e
 
   module _ (h : at < length s) (n : get_or s at 0 ≡ 93 → ⊥) where
     pub item_plain : (get_or s at 0 ≡ 92 → ⊥) → item_of s at ≡ items.Byte (get_or s at 0) (at + 1)
-    unfolding item_of item_in item if◌then◌else◌
+    unfolding item_of item_in item whether◌then◌else◌
     item_plain m = rw (ne_eqb _ 93 n, lt-ltb at (length s) h, ne_eqb _ 92 m)
 
     pub item_mark : get_or s at 0 ≡ 92 → is_mark (get_or s (at + 1) 0) ≡ true → item_of s at ≡ items.Byte (get_or s (at + 1) 0) (at + 2)
-    unfolding item_of item_in item if◌then◌else◌
+    unfolding item_of item_in item whether◌then◌else◌
     item_mark e m = rw (ne_eqb _ 93 n, lt-ltb at (length s) h, eq-eqb _ 92 e, m)
 
     pub item_bad : get_or s at 0 ≡ 92 → is_mark (get_or s (at + 1) 0) ≡ false → item_of s at ≡ items.Unread
-    unfolding item_of item_in item if◌then◌else◌
+    unfolding item_of item_in item whether◌then◌else◌
     item_bad e m = rw (ne_eqb _ 93 n, lt-ltb at (length s) h, eq-eqb _ 92 e, m)
 
 -- ---- read_plain
@@ -71,25 +71,25 @@ item_never (got c u) e = let z : ◌≡◌ {A = ℕ} 0 1 = cc in omega arith
 item_never unread e = let z : ◌≡◌ {A = ℕ} 0 1 = cc in omega arith
 
 value_none : (n : ℕ) (s : Str) (at : ℕ) → eqb (get_or s at 0) 93 ≡ false → item s at ≡ unread → value n s at ≡ unread
-unfolding value if◌then◌else◌ ◌>>=◌
+unfolding value whether◌then◌else◌ ◌>>=◌
 value_none zero s at e i = rw e
 value_none (suc n) s at e i = rw (e, i)
 
 -- r is the item at `at`
 module _ (s : Str) (at : ℕ) (r : Item) (i : r ≡ item_of s at) where
   ended : r ≡ items.End → eqb (get_or s at 0) 93 ≡ true
-  unfolding item_of if◌then◌else◌
+  unfolding item_of whether◌then◌else◌
   ended e = by (eqb (get_or s at 0) 93) (λ u. u) (λ u. let j : items.End ≡ item_in (item s at) = sym e ∙ i ∙ rw u in absurd (item_never (item s at) (sym j)))
 
   went_on : (b t : ℕ) → r ≡ items.Byte b t → (eqb (get_or s at 0) 93 ≡ false) × (item s at ≡ got b t)
-  unfolding item_of if◌then◌else◌
+  unfolding item_of whether◌then◌else◌
   went_on b t e =
       by (eqb (get_or s at 0) 93)
       (λ u. let j : items.Byte b t ≡ items.End = sym e ∙ i ∙ rw u in let z : ◌≡◌ {A = ℕ} 0 1 = cc in absurd (omega arith))
       (λ u. let j : items.Byte b t ≡ item_in (item s at) = sym e ∙ i ∙ rw u in (u, item_in_lem (item s at) b t (sym j)))
 
   stopped : r ≡ items.Unread → (eqb (get_or s at 0) 93 ≡ false) × (item s at ≡ unread)
-  unfolding item_of if◌then◌else◌
+  unfolding item_of whether◌then◌else◌
   stopped e =
       by (eqb (get_or s at 0) 93)
       (λ u. let j : items.Unread ≡ items.End = sym e ∙ i ∙ rw u in let z : ◌≡◌ {A = ℕ} 0 1 = cc in absurd (omega arith))
@@ -109,7 +109,7 @@ module _ (s : Str) (at : ℕ) (r : Item) (i : r ≡ item_of s at) where
   value_stop n e = let h = stopped e in value_none n s at h.0 h.1
 
   pub value_full : (n b t : ℕ) → n ≡ 0 → r ≡ items.Byte b t → value n s at ≡ unread
-  unfolding value if◌then◌else◌
+  unfolding value whether◌then◌else◌
   value_full n b t z e = rw (z, (went_on b t e).0)
 
   pub value_turn : (n b t : ℕ) → (n ≡ 0 → ⊥) → r ≡ items.Byte b t → value n s at ≡ and_then (value (n - 1) s t) (λ v u. got (b ∷ v) u)
@@ -152,7 +152,7 @@ module _ (a b : ℕ) (s : Str) (at n : ℕ) (h : at ≤ length s) (e : n ≡ at 
   name_high = found_high (is_either a b) s at n h e
 
   pub name_got : n - at ≤ max_string → name a b s at ≡ got (part s at n) n
-  unfolding name if◌then◌else◌
+  unfolding name whether◌then◌else◌
   name_got k = rw (le-ltb max_string (up_to a b (drop at s)) (omega arith)) (let i : at + up_to a b (drop at s) ≡ n = omega arith in rw i)
 
   module _ (to : ℕ) (k : n - at ≤ max_string) where
@@ -201,11 +201,11 @@ wrote_value d to v d' end h w =
 -- ---- read_key
 
 pub key_unequal : (s : Str) (at : ℕ) (n : Str) (m : ℕ) → name 61 61 s at ≡ got n m → (get_or s m 0 ≡ 61 → ⊥) → key s at ≡ unread
-unfolding key ◌>>=◌ literal if◌then◌else◌
+unfolding key ◌>>=◌ literal whether◌then◌else◌
 key_unequal s at n m e h = rw (e, ne_eqb _ 61 h)
 
 pub key_open : (s : Str) (at : ℕ) (n : Str) (m : ℕ) → name 61 61 s at ≡ got n m → get_or s m 0 ≡ 61 → key s at ≡ and_then (value max_string s (m + 1)) (λ v t. got (record { name = n; value = v }) t)
-unfolding key ◌>>=◌ literal ret if◌then◌else◌
+unfolding key ◌>>=◌ literal ret whether◌then◌else◌
 key_open s at n m e h = rw (e, eq-eqb _ 61 h)
 
 -- ---- read_keys, read_elements

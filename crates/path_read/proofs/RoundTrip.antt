@@ -9,7 +9,7 @@ use borrow.Author.Tests.{eq-eqb, ne_eqb, eqb-false, not-true}
 use lib.Dec.{eqb, ltb}
 use lib.ListN.{length, length-drop, length-append}
 use Rattle.limits.specs.Limits.{max_elements}
-use Rattle.text.specs.Test.{◌and◌, ◌or◌, if◌then◌else◌, any}
+use Rattle.text.specs.Test.{◌and◌, ◌or◌, whether◌then◌else◌, any}
 use Rattle.text.specs.String.{Str, bytes, same, joined}
 use Rattle.text.specs.Frame.{got}
 use Rattle.text.proofs.Tests.{by, clash, same→≡, or_false_l, or_false_r}
@@ -45,7 +45,7 @@ taken s [] t n e l =
 taken s (x ∷ q) t n e l = took_whole (joined elem_text) s (x ∷ q) t l (elements_took s (x ∷ q) t e)
 
 text_only : (s : Str) (p : Path) → read_text s ≡ some p → Spells path_text s p
-unfolding read_text if◌then◌else◌
+unfolding read_text whether◌then◌else◌
 text_only s p e =
     by (same s (bytes "/"))
     (λ u. let e' = rw u at e in
@@ -85,7 +85,7 @@ text_long x q h =
     omega (arith, length-append (elem_text x) (joined elem_text q), l)
 
 long_text : (s : Str) (p : Path) → 2 ≤ length s → whole s (elements s 0) ≡ some p → read_text s ≡ some p
-unfolding read_text if◌then◌else◌
+unfolding read_text whether◌then◌else◌
 long_text s p h e =
     let a : same s (bytes "/") ≡ false = by (same s (bytes "/")) (λ u. let l : length s ≡ 1 = ap length (same→≡ s (bytes "/") u) in absurd (omega arith)) (λ u. u) in
     rw (a, ne_eqb (length s) 0 (λ z. omega arith)) e
@@ -105,7 +105,7 @@ unfolding path_text
 good_text [] g = root_read
   where
     root_read : read_text (bytes "/") ≡ some []
-    root_read = unfold read_text same ◌and◌ if◌then◌else◌ in refl
+    root_read = unfold read_text same ◌and◌ whether◌then◌else◌ in refl
 good_text (x ∷ q) g = long_text (joined elem_text (x ∷ q)) (x ∷ q) (text_long x q (within_limits (x ∷ q) g)) (elements_whole (x ∷ q) g)
 
 -- path text is read to a path exactly where it is that good path's

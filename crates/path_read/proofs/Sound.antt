@@ -10,7 +10,7 @@ use lib.Dec.{eqb, ltb}
 use lib.ListN.{length, drop, get_or, length-drop, take-append-drop, get_or-eq_default}
 use lib.Seq.{drop-cons, drop-drop}
 use Rattle.limits.specs.Limits.{max_elements, max_keys, max_string}
-use Rattle.text.specs.Test.{if◌then◌else◌}
+use Rattle.text.specs.Test.{whether◌then◌else◌}
 use Rattle.text.specs.String.{Str, joined}
 use Rattle.text.specs.Frame.{got, Reader, ◌>>=◌, ret, part}
 use Rattle.text.proofs.Tests.{by}
@@ -34,7 +34,7 @@ module _ (s : Str) (at : ℕ) where
   byte_took b h e = rw (← e) (one_took (inside b h e))
 
   pub literal_took : (b c t : ℕ) → 0 < b → literal b s at ≡ got c t → Took s at (b ∷ []) t
-  unfolding literal if◌then◌else◌
+  unfolding literal whether◌then◌else◌
   literal_took b c t h e =
       by (eqb (get_or s at 0) b)
       (λ u. let e' = rw u at e in got_move (λ x q. Took s at (b ∷ []) q) e' (byte_took b h (eqb-true _ _ u)))
@@ -47,18 +47,18 @@ split s at u h k =
     record { same = rw (d, ← drop-drop u at s) (sym (take-append-drop u (drop at s))); fits = omega (arith, length-drop at s) }
 
 name_took : (a b : ℕ) (s : Str) (at : ℕ) (n : Str) (t : ℕ) → at ≤ length s → name a b s at ≡ got n t → Took s at n t
-unfolding name if◌then◌else◌
+unfolding name whether◌then◌else◌
 name_took a b s at n t h e =
     by (ltb max_string (up_to a b (drop at s)))
     (λ u. let e' = rw u at e in never_got refl e')
     (λ u. let e' = rw u at e in got_move (λ x q. Took s at x q) e' (split s at (up_to a b (drop at s)) h (until_fits (is_either a b) (drop at s))))
 
 pub escaped_plain : (b : ℕ) → is_mark b ≡ false → escaped b ≡ b ∷ []
-unfolding escaped if◌then◌else◌
+unfolding escaped whether◌then◌else◌
 escaped_plain b e = rw e
 
 pub escaped_mark : (b : ℕ) → is_mark b ≡ true → escaped b ≡ 92 ∷ b ∷ []
-unfolding escaped if◌then◌else◌
+unfolding escaped whether◌then◌else◌
 escaped_mark b e = rw e
 
 no_mark : (b : ℕ) → eqb b 93 ≡ false → eqb b 92 ≡ false → is_mark b ≡ false
@@ -79,7 +79,7 @@ pair_took s at e w =
     (took_both s at (at + 1) (at + 1 + 1) (92 ∷ []) _ (byte_took s at 92 (omega arith) e) (one_took s (at + 1) (mark_inside s (at + 1) w)))
 
 item_took : (s : Str) (at b t : ℕ) → eqb (get_or s at 0) 93 ≡ false → item s at ≡ got b t → Took s at (escaped b) t
-unfolding item if◌then◌else◌
+unfolding item whether◌then◌else◌
 item_took s at b t n e =
     by (ltb at (length s))
     (λ u. let h : at < length s = ltb-true _ _ u in
@@ -92,7 +92,7 @@ item_took s at b t n e =
 
 -- the next byte of a value stands within the text
 pub item_inside : (s : Str) (at b t : ℕ) → item s at ≡ got b t → (at < t) × (t ≤ length s)
-unfolding item if◌then◌else◌
+unfolding item whether◌then◌else◌
 item_inside s at b t e =
     by (ltb at (length s))
     (λ u. let h : at < length s = ltb-true _ _ u in
@@ -107,7 +107,7 @@ closed : (s : Str) (at : ℕ) → eqb (get_or s at 0) 93 ≡ true → Took s at 
 closed s at e = rw (joined_nil escaped) (byte_took s at 93 (omega arith) (eqb-true _ _ e))
 
 pub value_took : (n : ℕ) (s : Str) (at : ℕ) (v : Str) (t : ℕ) → value n s at ≡ got v t → Took s at (joined escaped v ++ 93 ∷ []) t
-unfolding value if◌then◌else◌ ◌>>=◌ ret
+unfolding value whether◌then◌else◌ ◌>>=◌ ret
 value_took zero s at v t e =
     by (eqb (get_or s at 0) 93)
     (λ u. let e' = rw u at e in got_move (λ x q. Took s at (joined escaped x ++ 93 ∷ []) q) e' (closed s at u))
@@ -126,7 +126,7 @@ value_took (suc n) s at v t e =
 module _ {A : Type 0} (b : ℕ) (r : Reader A) (w : A → Str) (s : Str) where
   each_took : ((at : ℕ) (a : A) (t : ℕ) → get_or s at 0 ≡ b → r s (at + 1) ≡ got a t → Took s at (w a) t)
       → (n at : ℕ) (xs : List A) (t : ℕ) → at ≤ length s → each b n r s at ≡ got xs t → Took s at (joined w xs) t
-  unfolding each if◌then◌else◌ ◌>>=◌ ret
+  unfolding each whether◌then◌else◌ ◌>>=◌ ret
   each_took h zero at xs t fits e = got_move (λ ys q. Took s at (joined w ys) q) e (rw (joined_nil w) (took_none s at fits))
   each_took h (suc n) at xs t fits e =
       by (eqb (get_or s at 0) b)

@@ -1,7 +1,7 @@
 -- What reading path text and writing it answer, and what they leave in the lent buffer.
 use Rattle.std.specs.Prelude.{ℕ, List, length, leb}
 use Rattle.std.proofs.Math.Option.{Option, none, some, map}
-use Rattle.text.specs.Test.{if◌then◌else◌}
+use Rattle.text.specs.Test.{whether◌then◌else◌}
 use Rattle.text.specs.String.{Str}
 use Rattle.text.specs.Fill.{put}
 use Rattle.path.specs.Bytes.{path_bytes}
@@ -22,9 +22,9 @@ text_for f = map path_text (read_bytes f)
 -- 22: "path text, or path bytes given to the writer"; 23: "the path result doesn't fit the lent buffer"
 unfoldable pub answer : List ℕ → Option Str → Filled
 answer out none = Refused 22
-answer out (some s) = if leb (length s) (length out) then Length (length s) else Refused 23
+answer out (some s) = whether leb (length s) (length out) then Length (length s) else Refused 23
 
 -- "fill the start of a lent buffer, report the length, and store nothing beyond it"; with a refusal "nothing lent is stored to"
 unfoldable pub lent : List ℕ → Option Str → List ℕ
 lent out none = out
-lent out (some s) = if leb (length s) (length out) then put out 0 s else out
+lent out (some s) = whether leb (length s) (length out) then put out 0 s else out

@@ -2,7 +2,7 @@
 use Rattle.std.specs.Prelude.{ℕ, ◌+◌, ◌-◌, ◌≤◌, ◌≡◌, Bool, not, List, eqb, length, get_or}
 use Rattle.std.proofs.Math.Option.{Option, none, some}
 use Rattle.limits.specs.Limits.{max_elements, max_keys, max_string}
-use Rattle.text.specs.Test.{if◌then◌else◌, twice}
+use Rattle.text.specs.Test.{whether◌then◌else◌, twice}
 use Rattle.text.specs.String.{Str}
 use Rattle.text.specs.Frame.{Parsed, got, unread, Reader}
 use Rattle.text.specs.Fill.{put}
@@ -37,7 +37,7 @@ item_in unread = items.Unread
 
 -- and the end of the value, where its ] (93) stands
 unfoldable pub item_of : Str → ℕ → Item
-item_of s at = if eqb (get_or s at 0) 93 then items.End else item_in (item s at)
+item_of s at = whether eqb (get_or s at 0) 93 then items.End else item_in (item s at)
 
 -- how many bytes at the start belong to a name
 abbrev pub name_run : Str → ℕ
@@ -45,7 +45,7 @@ name_run s = until no_name s
 
 -- what was read, where it passes
 unfoldable pub pass : {A : Type 0} → (A → Bool) → Parsed A → Parsed A
-pass ok (got a t) = if ok a then got a t else unread
+pass ok (got a t) = whether ok a then got a t else unread
 pass ok unread = unread
 
 abbrev pub passing : {A : Type 0} → (A → Bool) → Reader A → Reader A

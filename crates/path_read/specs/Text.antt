@@ -1,6 +1,6 @@
 -- Path text.
 use Rattle.std.specs.Prelude.{ℕ, Bool, ◌||◌, [], ◌∷◌, ◌++◌, eqb}
-use Rattle.text.specs.Test.{if◌then◌else◌}
+use Rattle.text.specs.Test.{whether◌then◌else◌}
 use Rattle.text.specs.String.{Str, bytes, joined}
 use Rattle.path.specs.Path.{Key, Elem, Path}
 
@@ -10,7 +10,7 @@ is_mark b = eqb b 93 || eqb b 92
 
 -- "In a value ] and \ are preceded by \, and nothing else is"
 unfoldable pub escaped : ℕ → Str
-escaped b = if is_mark b then 92 ∷ b ∷ [] else b ∷ []
+escaped b = whether is_mark b then 92 ∷ b ∷ [] else b ∷ []
 
 -- "[key=value]"
 unfoldable pub key_text : Key → Str

@@ -7,7 +7,7 @@ use Prim.Native.Nat.{ℕ, ◌-◌, ◌/◌, ◌≤◌}
 use native.Mathlib.Omega.{arith}
 use lib.ListN.{length}
 use Rattle.limits.specs.Sizes.{max_path_text}
-use Rattle.text.specs.Test.{◌and◌, if◌then◌else◌}
+use Rattle.text.specs.Test.{◌and◌, whether◌then◌else◌}
 use Rattle.text.specs.String.{Str}
 use Rattle.text.specs.Frame.{Parsed, got, unread}
 use Rattle.text.proofs.Tests.{clash, and_r}
@@ -21,12 +21,12 @@ use Rattle.path_write.specs.Steps.{is_read, written}
 use Rattle.path_read.proofs.Longest.{text_length, text_twice}
 
 text_told : (f : Str) (x : Parsed Path) → is_path_in f x ≡ true → (map path_text (whole f x) ≡ some (written path_text x)) × (is_read x ≡ true) × (length (written path_text x) ≤ max_path_text)
-unfolding is_path_in whole if◌then◌else◌
+unfolding is_path_in whole whether◌then◌else◌
 text_told f (got p t) h = (rw h, refl, text_length p (and_r _ _ h))
 text_told f unread h = clash h refl
 
 text_none : (f : Str) (x : Parsed Path) → is_path_in f x ≡ false → map path_text (whole f x) ≡ none
-unfolding is_path_in whole if◌then◌else◌
+unfolding is_path_in whole whether◌then◌else◌
 text_none f (got p t) h = rw h
 text_none f unread h = refl
 

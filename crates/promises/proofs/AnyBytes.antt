@@ -5,7 +5,7 @@ use mathlib.Core.Option.{Option, none, some}
 use native.Mathlib.Omega.{arith}
 use lib.Dec.{leb}
 use lib.ListN.{length}
-use Rattle.text.specs.Test.{if◌then◌else◌}
+use Rattle.text.specs.Test.{whether◌then◌else◌}
 use Rattle.text.specs.String.{Str}
 use Rattle.text.proofs.Tests.{by}
 use Rattle.path_read.specs.Calls.{bytes_for, text_for, answer, lent}
@@ -23,12 +23,12 @@ length_word : (n : ℕ) → upper n % 2 ^ 8 ≡ 0
 length_word n = omega arith
 
 bytes_kept : (out : Str) (o : Option Str) → (filled_word (answer out o) % 2 ^ 8 ≡ 0 → ⊥) → lent out o ≡ out
-unfolding answer lent filled_word if◌then◌else◌
+unfolding answer lent filled_word whether◌then◌else◌
 bytes_kept out none bad = refl
 bytes_kept out (some s) bad = by (leb (length s) (length out)) (λ t. absurd ((rw t at bad) (length_word (length s)))) (λ t. rw t)
 
 report_kept : (c : Checked) (text out : Str) → (reported_word (answered c text out) % 2 ^ 8 ≡ 0 → ⊥) → stored c text out ≡ out
-unfolding answered stored reported_word if◌then◌else◌
+unfolding answered stored reported_word whether◌then◌else◌
 report_kept (Refused n l) text out bad = refl
 report_kept Accepted text out bad = by (leb (length text) (length out)) (λ t. absurd ((rw t at bad) (length_word (length text)))) (λ t. rw t)
 

@@ -2,7 +2,7 @@
 use mathlib.Core.Path.{refl}
 use mathlib.Core.Bool.{xor}
 use mathlib.Core.Option.{bind}
-use Rattle.text.specs.Test.{◌and◌, ◌or◌, if◌then◌else◌, all, any, only, twice, absent, or_nothing}
+use Rattle.text.specs.Test.{◌and◌, ◌or◌, whether◌then◌else◌, all, any, only, twice, absent, or_nothing}
 use Rattle.text.specs.String.{same, more, before, joined}
 use Rattle.text.specs.Frame.{◌>>=◌, ret, byte, run, string, times}
 use Rattle.text_search.specs.Search.{until}
@@ -34,7 +34,7 @@ use Rattle.season.specs.Calls.{first_fault, fault, report_of}
 use Rattle.promises.specs.Examples.{examples, Examples}
 
 pub marked : Examples
-unfolding xor ◌and◌ ◌or◌ if◌then◌else◌ all any only twice same more before ◌>>=◌ ret byte run string times key element
+unfolding xor ◌and◌ ◌or◌ whether◌then◌else◌ all any only twice same more before ◌>>=◌ ret byte run string times key element
     path unsized key_over elem_over over_limit outside_name outside_value key_stray elem_stray stray_byte half_wild key_misplaced
     elem_misplaced misplaced key_twice least_refusal path_refusal good_path whole read_bytes literal until name item value
     each elements read_text reader.key reader.element onto lines pair pairs nonempty frame unknown code version_body

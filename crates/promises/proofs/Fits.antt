@@ -12,7 +12,7 @@ use borrow.Author.Tests.{ltb-false, eqb-true, eqb-false}
 use lib.Dec.{eqb, ltb, leb}
 use lib.ListN.{length}
 use Rattle.limits.specs.Limits.{max_table_text, max_groups, max_list_rules, max_policy_text, max_log_lines}
-use Rattle.text.specs.Test.{◌and◌, if◌then◌else◌, absent}
+use Rattle.text.specs.Test.{◌and◌, whether◌then◌else◌, absent}
 use Rattle.text.specs.String.{Str, bytes, same}
 use Rattle.text.specs.Refusal.{◌when◌else◌, clear}
 use Rattle.text.proofs.Tests.{by, same→≡}
@@ -150,7 +150,7 @@ none_at_all : Refusal clear 0
 none_at_all = bare clear (omega arith) (omega arith)
 
 either : (t : Bool) (n m : ℕ) → Refusal n 0 → Refusal m 0 → Refusal (n when t else m) 0
-unfolding if◌then◌else◌
+unfolding whether◌then◌else◌
 either true n m a b = a
 either false n m a b = b
 
@@ -159,13 +159,13 @@ or_else : (t : Bool) (n m : ℕ) → 0 < n → n < 2 ^ 8 → Refusal m 0 → Ref
 or_else t n m p b h = either t n m (bare n p b) h
 
 unless_fits : (n : ℕ) (c : Checked) → Refusal n 0 → CheckedFits c → CheckedFits (unless n 0 c)
-unfolding unless if◌then◌else◌
+unfolding unless whether◌then◌else◌
 unless_fits n c a b = by (eqb n clear) (λ t. rw t b) (λ t. rw t a)
 
 -- ---- paths
 
 answer_fits : (out : Str) (o : Option Str) → ((s : Str) → o ≡ some s → length s < 2 ^ 32) → FilledFits (answer out o)
-unfolding answer if◌then◌else◌
+unfolding answer whether◌then◌else◌
 answer_fits out none h = bare 22 (omega arith) (omega arith)
 answer_fits out (some s) h = by (leb (length s) (length out)) (λ t. rw t (h s refl)) (λ t. rw t (bare 23 (omega arith) (omega arith)))
 
@@ -193,7 +193,7 @@ abbrev OfLine : ℕ → Type 0
 OfLine n = (0 < n) × ((n ≤ 9) ⊎ (n ≡ clear))
 
 line_when : (t : Bool) (n m : ℕ) → 0 < n → n ≤ 9 → OfLine m → OfLine (n when t else m)
-unfolding if◌then◌else◌
+unfolding whether◌then◌else◌
 line_when true n m p q h = (p, inl q)
 line_when false n m p q h = h
 
@@ -210,7 +210,7 @@ at_line n line (p, inl q) b bad = record { number = p; byte = omega arith; bits 
 at_line n line (p, inr q) b bad = absurd (bad q)
 
 judge_fits : (number : ℕ) (b : Earlier) (ls : List Str) → number + length ls < 2 ^ 32 → CheckedFits (judge number b ls)
-unfolding judge unless if◌then◌else◌
+unfolding judge unless whether◌then◌else◌
 judge_fits number b [] h = tt
 judge_fits number b (l ∷ ls) h =
     by (eqb (refusal b (line_of l)) clear)
@@ -218,7 +218,7 @@ judge_fits number b (l ∷ ls) h =
     (λ t. rw t (at_line (refusal b (line_of l)) number (line_number_lem b (line_of l)) (omega arith) (eqb-false _ _ t)))
 
 pub check_fits : (x : Str) → CheckedFits (check x)
-unfolding check if◌then◌else◌
+unfolding check whether◌then◌else◌
 check_fits x =
     by (ltb max_table_text (length x))
     (λ t. rw t (bare 1 (omega arith) (omega arith)))
@@ -229,7 +229,7 @@ check_fits x =
 -- ---- a user's groups
 
 numbered_few : (t : Bool) (i : ℕ) (ns : List ℕ) → length (numbered t i ns) ≤ length ns + 1
-unfolding numbered if◌then◌else◌
+unfolding numbered whether◌then◌else◌
 numbered_few true i ns = omega arith
 numbered_few false i ns = omega arith
 
@@ -242,7 +242,7 @@ few_groups ms user i (g ∷ gs) =
     omega arith
 
 first_below : (ms : List Member) (user : Str) (i : ℕ) (gs : List Str) (g : ℕ) (rest : List ℕ) → memberships ms user i gs ≡ g ∷ rest → g < i + length gs
-unfolding memberships numbered if◌then◌else◌
+unfolding memberships numbered whether◌then◌else◌
 first_below ms user i [] g rest e = let z : ◌≡◌ {A = ℕ} 0 1 = cc in absurd (omega arith)
 first_below ms user i (x ∷ gs) g rest e =
     by (lists ms user x)
@@ -261,7 +261,7 @@ count_fits x user = go (check x) refl (check_fits x)
     go : (c : Checked) → check x ≡ c → CheckedFits c → CountedFits (count_for c (table_of x) user)
     go (checked.Refused n l) e h = unfold count_for in h
     go checked.Accepted e h =
-        unfold count_for if◌then◌else◌ groups_of in
+        unfold count_for whether◌then◌else◌ groups_of in
         by (bad_user user)
         (λ t. rw t (bare 20 (omega arith) (omega arith)))
         (λ t. rw t (counted_fits _ (length (table_of x).groups) (accepted_whole x e).few_groups (few_groups (table_of x).members user 0 (table_of x).groups)
@@ -283,13 +283,13 @@ rule_number x ok over test n e =
     omega arith
 
 decided_fits : (o : Option Numbered) → ((n : Numbered) → o ≡ some n → Number n.number) → PathFits (decided_by o)
-unfolding decided_by if◌then◌else◌
+unfolding decided_by whether◌then◌else◌
 decided_fits none h = tt
 decided_fits (some n) h = by n.rule.permit (λ t. rw t (h n refl)) (λ t. rw t (h n refl))
 
 path_answer_fits : (c : Checked) (number : ℕ) (o : Option Numbered) → CheckedFits c → Refusal number 0
     → (c ≡ checked.Accepted → (n : Numbered) → o ≡ some n → Number n.number) → PathFits (path_answer c number o)
-unfolding path_answer if◌then◌else◌
+unfolding path_answer whether◌then◌else◌
 path_answer_fits (checked.Refused n l) number o a b h = a
 path_answer_fits checked.Accepted number o a b h = by (eqb number clear) (λ t. rw t (decided_fits o (h refl))) (λ t. rw t b)
 
@@ -307,7 +307,7 @@ spread_fits b (some n) h = h n refl
 
 tree_answer_fits : (c : Checked) (number : ℕ) (w : Tree) → CheckedFits c → Refusal number 0 → (c ≡ checked.Accepted → TreeFits (spread w))
     → TreeFits (tree_answer c number w)
-unfolding tree_answer if◌then◌else◌
+unfolding tree_answer whether◌then◌else◌
 tree_answer_fits (checked.Refused n l) number w a b h = a
 tree_answer_fits checked.Accepted number w a b h = by (eqb number clear) (λ t. rw t (h refl)) (λ t. rw t b)
 
@@ -325,7 +325,7 @@ log_line : (k : ℕ) → 0 < k → k ≤ max_log_lines → Refusal 51 k
 log_line k p h = record { number = omega arith; byte = omega arith; bits = omega arith; lineless = λ a b. absurd (b refl) }
 
 log_fits : (k : ℕ) (ls : List Str) → 0 < k → CheckedFits (judge_log k ls)
-unfolding judge_log if◌then◌else◌
+unfolding judge_log whether◌then◌else◌
 log_fits k [] p = tt
 log_fits k (l ∷ ls) p =
     by (ltb max_log_lines k)
@@ -333,7 +333,7 @@ log_fits k (l ∷ ls) p =
     (λ t. rw t (by (absent (request_of l)) (λ u. rw u (log_line k p (ltb-false max_log_lines k t))) (λ u. rw u (log_fits (k + 1) ls (omega arith)))))
 
 filled_fits : (text out : Str) → length text < 2 ^ 32 → ReportedFits (answered checked.Accepted text out)
-unfolding answered if◌then◌else◌
+unfolding answered whether◌then◌else◌
 filled_fits text out h = by (leb (length text) (length out)) (λ t. rw t h) (λ t. rw t (bare 23 (omega arith) (omega arith)))
 
 module _ (x log out : Str) where
@@ -413,7 +413,7 @@ unfolding policy_refusal
 policy_number s = or_else _ 30 _ (omega arith) (omega arith) (parsed_fits (parse s))
 
 pub policy_fits : (s : Str) → PolicyFits (check_of (policy_refusal s))
-unfolding check_of if◌then◌else◌
+unfolding check_of whether◌then◌else◌
 policy_fits s = by (eqb (policy_refusal s) clear) (λ t. rw t tt) (λ t. rw t (policy_number s))
 
 -- ---- an accepted policy has at most 64 rules in a list
@@ -429,7 +429,7 @@ list_few (jlist l) h = row_few row.Rules (length (list_of l)) (above_least 37 _ 
 list_few (jobject m) h = absurd (omega arith)
 
 found_few : (n : Str) → kind_named Top n ≡ some (Listing row.Rules) → (m : Members) → 37 < members_refusal Top m → length (items (find n m)) ≤ max_list_rules
-unfolding find if◌then◌else◌ members_refusal Option-elim
+unfolding find whether◌then◌else◌ members_refusal Option-elim
 found_few n k mnil h = unfold items in omega arith
 found_few n k (mcons x j l) h =
     by (same x n)
@@ -440,7 +440,7 @@ found_few n k (mcons x j l) h =
     named e = let z = (above_least 37 _ _ h).0 in rw (e, k) at z
 
 past_schema : (t : Bool) (n : ℕ) → 37 < (33 when t else n) → 37 < n
-unfolding if◌then◌else◌
+unfolding whether◌then◌else◌
 past_schema true n h = absurd (omega arith)
 past_schema false n h = h
 
@@ -463,11 +463,11 @@ record Few (p : Policy) : Type 0 where
   allow : length p.allow ≤ max_list_rules
 
 deny_kind : kind_named Top (bytes "deny_rules") ≡ some (Listing row.Rules)
-unfolding kind_in fields same ◌and◌ if◌then◌else◌
+unfolding kind_in fields same ◌and◌ whether◌then◌else◌
 deny_kind = refl
 
 allow_kind : kind_named Top (bytes "allow_rules") ≡ some (Listing row.Rules)
-unfolding kind_in fields same ◌and◌ if◌then◌else◌
+unfolding kind_in fields same ◌and◌ whether◌then◌else◌
 allow_kind = refl
 
 few_in : (j : Json) → 37 < refusal_of policy_kind j → Few (policy_in j)
@@ -478,13 +478,13 @@ few_in j h = record {
 }
 
 past_twice : (t u : Bool) (n : ℕ) → (32 when t else least n (38 when u else clear)) ≡ clear → 37 < n
-unfolding if◌then◌else◌
+unfolding whether◌then◌else◌
 past_twice true u n e = absurd (omega arith)
 past_twice false true n e = (above_least 37 n 38 (omega arith)).0
 past_twice false false n e = (above_least 37 n clear (omega arith)).0
 
 within_length : (t : Bool) (n : ℕ) → (30 when t else n) ≡ clear → n ≡ clear
-unfolding if◌then◌else◌
+unfolding whether◌then◌else◌
 within_length true n e = absurd (omega arith)
 within_length false n e = e
 
@@ -497,7 +497,7 @@ few_parsed (some j) p c k =
     rw m at f
 
 accepted_few : (s : Str) (p : Policy) → policy_of s ≡ some p → Few p
-unfolding policy_of policy_refusal if◌then◌else◌
+unfolding policy_of policy_refusal whether◌then◌else◌
 accepted_few s p e =
     by (eqb (policy_refusal s) clear)
     (λ t. let e' = rw t at e in few_parsed (parse s) p (within_length (ltb max_policy_text (length s)) _ (eqb-true _ _ t)) e')
@@ -510,7 +510,7 @@ unfolding rpc_refusal
 rpc_number identity path headers = or_else _ 40 _ (omega arith) (omega arith) (or_else _ 41 clear (omega arith) (omega arith) none_at_all)
 
 first_fits : {A : Type 0} (f : A → Bool) (xs : List A) (k n : ℕ) → first_from k f xs ≡ some n → n < k + length xs
-unfolding first_from if◌then◌else◌
+unfolding first_from whether◌then◌else◌
 first_fits f [] k n e = let z : ◌≡◌ {A = ℕ} 0 1 = cc in absurd (omega arith)
 first_fits f (x ∷ xs) k n e =
     by (f x)
@@ -535,7 +535,7 @@ judged_fits none r h = tt
 judged_fits (some p) r h = verdict_fits p r (h p refl)
 
 refused_else_lem : (n : ℕ) (v : Verdict) → Refusal n 0 → RpcFits v → RpcFits (refused_else n v)
-unfolding refused_else if◌then◌else◌
+unfolding refused_else whether◌then◌else◌
 refused_else_lem n v a b = by (eqb n clear) (λ t. rw t b) (λ t. rw t a)
 
 pub rpc_fits : (s identity path headers : Str) → RpcFits (rpc_verdict s identity path headers)
@@ -579,7 +579,7 @@ of_policy_fits policy.Accepted h = tt
 of_policy_fits (policy.Refused n) h = h
 
 offered_fits : (kind : ℕ) (text : Str) → CheckedFits (offered_check kind text)
-unfolding offered_check if◌then◌else◌
+unfolding offered_check whether◌then◌else◌
 offered_fits kind text = by (eqb kind 1) (λ t. rw t (of_policy_fits _ (policy_fits text))) (λ t. rw t (check_fits text))
 
 pub upload_fits : (r : Record) (n : ℕ) (text : Str) → CheckedFits (upload offered_check r n text).answer
@@ -595,7 +595,7 @@ probe_number kind r n = record_fits r n _ (or_else _ 16 clear (omega arith) (ome
 -- by cases of `probed`
 probed_fits : {A : Type 0} (Fits : A → Type 0) (refused : ℕ → A) (judged : InForce → A) (kind : ℕ) (r : Record) (n : ℕ)
     → ((m : ℕ) → Refusal m 0 → Fits (refused m)) → ((f : InForce) → Fits (judged f)) → Fits (probed refused judged kind r n)
-unfolding probed if◌then◌else◌
+unfolding probed whether◌then◌else◌
 probed_fits Fits refused judged kind r n h k =
     by (eqb (probe_refusal kind r n) clear) (λ t. rw t (k (in_force r))) (λ t. rw t (h (probe_refusal kind r n) (probe_number kind r n)))
 
@@ -620,7 +620,7 @@ probe_tree_fits r store user mode origin text =
     judged force.Factory = unfold tree_on spread in tree_answer_fits checked.Accepted _ NONE tt (request_fits user mode origin text) (λ _. tt)
 
 factory_fits : (n : ℕ) → Refusal n 0 → ProbeFits (factory_rpc n)
-unfolding factory_rpc if◌then◌else◌
+unfolding factory_rpc whether◌then◌else◌
 factory_fits n h = by (eqb n clear) (λ t. rw t tt) (λ t. rw t h)
 
 pub probe_rpc_fits : (r : Record) (store identity path headers : Str) → ProbeFits (probe_rpc r store identity path headers)

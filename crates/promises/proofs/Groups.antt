@@ -5,7 +5,7 @@ use mathlib.Core.List.{List, [], ◌∷◌}
 use Prim.Native.Nat.{ℕ, suc, ◌+◌}
 use native.Mathlib.Omega.{arith}
 use lib.ListN.{length}
-use Rattle.text.specs.Test.{◌or◌, if◌then◌else◌, any, only}
+use Rattle.text.specs.Test.{◌or◌, whether◌then◌else◌, any, only}
 use Rattle.text.specs.String.{Str}
 use Rattle.text.proofs.Tests.{by, clash}
 use Rattle.table.specs.Table.{Member}
@@ -21,19 +21,19 @@ module _ (members : List Member) (user : Str) where
   listing = lists members user
 
   as_many : (i : ℕ) (gs : List Str) → length (memberships members user i gs) ≡ length (only listing gs)
-  unfolding memberships numbered only if◌then◌else◌
+  unfolding memberships numbered only whether◌then◌else◌
   as_many i [] = refl
   as_many i (g ∷ gs) = by (listing g) (λ t. rw t (ap suc (as_many (suc i) gs))) (λ t. rw t (as_many (suc i) gs))
 
   no_number : (i : ℕ) (gs : List Str) → any listing gs ≡ false → memberships members user i gs ≡ []
-  unfolding memberships numbered any ◌or◌ if◌then◌else◌
+  unfolding memberships numbered any ◌or◌ whether◌then◌else◌
   no_number i [] e = refl
   no_number i (g ∷ gs) e = by (listing g) (λ t. clash (rw t) e) (λ t. rw t (no_number (suc i) gs (rw t at e)))
 
   -- the numbers begin with the first's, counted from i
   first_number : (i : ℕ) (gs : List Str) → any listing gs ≡ true
       → (m : ℕ) × (rest : List ℕ) × (memberships members user i gs ≡ ((i + m) ∷ rest)) × First listing m gs
-  unfolding memberships numbered any ◌or◌ if◌then◌else◌
+  unfolding memberships numbered any ◌or◌ whether◌then◌else◌
   first_number i [] e = clash e refl
   first_number i (g ∷ gs) e =
       by (listing g) (λ t. rw t (0, memberships members user (suc i) gs, ap (λ (k : ℕ). k ∷ memberships members user (suc i) gs) (omega arith), here t))
@@ -46,7 +46,7 @@ count_of ns rest g n e l = rw e (ap (λ (m : ℕ). Count m (record { 0 = g })) (
 
 module _ (x user : Str) (ok : check x ≡ Accepted) (fine : bad_user user ≡ false) where
   answers : group_count x user ≡ counted (groups_of (table_of x) user)
-  unfolding group_count count_for if◌then◌else◌
+  unfolding group_count count_for whether◌then◌else◌
   answers = rw (ok, fine)
 
   pub group_promise : GroupPromise x user ok fine
@@ -65,7 +65,7 @@ module _ (x user : Str) where
   text_declined n l e = rw e
 
   user_declined : check x ≡ Accepted → bad_user user ≡ true → group_count x user ≡ Declined 20 0
-  unfolding group_count count_for if◌then◌else◌
+  unfolding group_count count_for whether◌then◌else◌
   user_declined e bad = rw (e, bad)
 
   pub count_refusals : CountRefusals x user

@@ -8,7 +8,7 @@ use lib.Dec.{ltb}
 use lib.ListN.{length}
 use borrow.Author.Tests.{ltb-true, ltb-false, lt-ltb, le-ltb}
 use Rattle.limits.specs.Limits.{max_policy_text}
-use Rattle.text.specs.Test.{if◌then◌else◌}
+use Rattle.text.specs.Test.{whether◌then◌else◌}
 use Rattle.text.specs.String.{Str}
 use Rattle.text.specs.Refusal.{◌when◌else◌, clear}
 use Rattle.text.proofs.Tests.{by}
@@ -26,7 +26,7 @@ use Rattle.promises.specs.Json.{IsJson, JsonPromise}
 -- ---- the numbers of a tree
 
 late_told : (u : Bool) → Told (38 when u else clear)
-unfolding if◌then◌else◌
+unfolding whether◌then◌else◌
 late_told true = (omega arith, omega arith)
 late_told false = (omega arith, omega arith)
 
@@ -36,7 +36,7 @@ unfolding tree_refusal
 tree_told j e = told_least _ _ (subst Told (agrees policy_kind j e) (told_walk policy_kind j)) (late_told (rule_twice (policy_in j)))
 
 above : (j : Json) → 32 ≤ (32 when repeats j else tree_refusal j)
-unfolding if◌then◌else◌
+unfolding whether◌then◌else◌
 above j = by (repeats j) (λ h. rw h (omega arith)) (λ h. rw h (omega (arith, (tree_told j h).0)))
 
 -- ---- the text
@@ -48,11 +48,11 @@ data Answer (s : Str) : ℕ → Type 0 where
 
 module _ (s : Str) where
   too_long : max_policy_text < length s → policy_refusal s ≡ 30
-  unfolding policy_refusal if◌then◌else◌
+  unfolding policy_refusal whether◌then◌else◌
   too_long h = rw (lt-ltb max_policy_text (length s) h)
 
   fits : length s ≤ max_policy_text → policy_refusal s ≡ parsed_refusal (parse s)
-  unfolding policy_refusal if◌then◌else◌
+  unfolding policy_refusal whether◌then◌else◌
   fits h = rw (le-ltb max_policy_text (length s) h)
 
   tree_judged : (j : Json) → length s ≤ max_policy_text → JsonText s j → policy_refusal s ≡ (32 when repeats j else tree_refusal j)
@@ -91,7 +91,7 @@ module _ (s : Str) where
   no_tree_read bad (some j) e = absurd (bad (j, parse_sound s j e))
 
   policy_held : (j : Json) → policy_refusal s ≡ clear → JsonText s j → policy_of s ≡ some (policy_in j)
-  unfolding policy_of if◌then◌else◌
+  unfolding policy_of whether◌then◌else◌
   policy_held j e t = rw (e, parse_complete t)
 
   pub json : JsonPromise s

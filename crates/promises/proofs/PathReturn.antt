@@ -9,7 +9,7 @@ use borrow.Author.Tests.{le-leb, lt-leb}
 use lib.Dec.{ltb}
 use lib.ListN.{length, length-append, drop}
 use Rattle.limits.specs.Limits.{max_elements}
-use Rattle.text.specs.Test.{◌and◌, ◌or◌, if◌then◌else◌, any, twice}
+use Rattle.text.specs.Test.{◌and◌, ◌or◌, whether◌then◌else◌, any, twice}
 use Rattle.text.specs.String.{Str, same, joined}
 use Rattle.text.specs.Frame.{string_bytes}
 use Rattle.text.specs.Fill.{put}
@@ -85,7 +85,7 @@ long_good = rw (
 )
 
 elem_text_lem : length (elem_text long_elem) ≡ 845
-unfolding long_elem long_key copies elem_text key_text joined escaped if◌then◌else◌
+unfolding long_elem long_key copies elem_text key_text joined escaped whether◌then◌else◌
 elem_text_lem = refl
 
 elem_bytes_lem : length (elem_bytes long_elem) ≡ 586
@@ -121,7 +121,7 @@ path_return = record {
 
 module _ (out : Str) (result : Option Str) where
   fits : (s : Str) → result ≡ some s → length s ≤ length out → (answer out result ≡ Length (length s)) × (lent out result ≡ s ++ drop (length s) out)
-  unfolding answer lent put if◌then◌else◌
+  unfolding answer lent put whether◌then◌else◌
   fits s e h = let i : 0 + length s ≡ length s = omega arith in rw (e, le-leb _ _ h) (refl, ap (λ (k : ℕ). s ++ drop k out) i)
 
   unspelled : result ≡ none → answer out result ≡ Refused 22
@@ -129,7 +129,7 @@ module _ (out : Str) (result : Option Str) where
   unspelled e = rw e
 
   too_long : (s : Str) → result ≡ some s → length out < length s → answer out result ≡ Refused 23
-  unfolding answer if◌then◌else◌
+  unfolding answer whether◌then◌else◌
   too_long s e h = rw (e, lt-leb _ _ h)
 
   pub fill_promise : FillPromise out result

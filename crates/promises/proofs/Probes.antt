@@ -6,7 +6,7 @@ use Prim.Native.Nat.{ℕ}
 use native.Mathlib.Omega.{arith}
 use lib.ListN.{length}
 use borrow.Author.Tests.{eq-eqb, ne_eqb}
-use Rattle.text.specs.Test.{if◌then◌else◌}
+use Rattle.text.specs.Test.{whether◌then◌else◌}
 use Rattle.text.specs.String.{Str}
 use Rattle.text.specs.Refusal.{clear}
 use Rattle.verdict_request.specs.Calls.{decided_by, path_answer, spread, tree_answer}
@@ -36,23 +36,23 @@ module _ {A : Type 0} (p : Probe A) (l : Lent) (judged : InForce → A) (j : Jud
 
   -- the record's refusal, and what is judged without one
   refuses : (n : ℕ) → number ≡ n → ¬ (n ≡ clear) → answer ≡ p.refused n
-  unfolding probed if◌then◌else◌
+  unfolding probed whether◌then◌else◌
   refuses n e h = rw (e, ne_eqb n clear h)
 
   eleven : short_store (length l.store) ≡ true → number ≡ 11
-  unfolding probe_refusal record_refusal if◌then◌else◌
+  unfolding probe_refusal record_refusal whether◌then◌else◌
   eleven e = rw e
 
   fifteen : short_store (length l.store) ≡ false → bad_record l.state ≡ true → number ≡ 15
-  unfolding probe_refusal record_refusal if◌then◌else◌
+  unfolding probe_refusal record_refusal whether◌then◌else◌
   fifteen e f = rw (e, f)
 
   sixteen : Whole l → ¬ (l.state.kind ≡ p.kind) → number ≡ 16
-  unfolding probe_refusal record_refusal other_kind if◌then◌else◌
+  unfolding probe_refusal record_refusal other_kind whether◌then◌else◌
   sixteen w other = rw (w.long, w.good, ne_eqb l.state.kind p.kind other)
 
   judges : Taken p.kind l → answer ≡ judged (in_force l.state)
-  unfolding probed probe_refusal record_refusal other_kind if◌then◌else◌
+  unfolding probed probe_refusal record_refusal other_kind whether◌then◌else◌
   judges t = rw (t.whole.long, t.whole.good, eq-eqb _ _ t.same_kind)
 
   by_text : (f : InForce) (text : Str) → force_text l.store f ≡ some text → judged f ≡ p.verdict text
@@ -66,7 +66,7 @@ module _ {A : Type 0} (p : Probe A) (l : Lent) (judged : InForce → A) (j : Jud
   by_factory Factory h = refl
 
   candidate : given l.state.candidate_len ≡ true → in_force l.state ≡ Text (candidate_slot l.state) l.state.candidate_len
-  unfolding in_force if◌then◌else◌
+  unfolding in_force whether◌then◌else◌
   candidate e = rw e
 
   answers : Answers p l answer
@@ -84,11 +84,11 @@ module _ {A : Type 0} (p : Probe A) (l : Lent) (judged : InForce → A) (j : Jud
 
 module _ (user : Str) (mode : ℕ) (origin text : Str) (l : Lent) where
   path_judges : Judges (path_probe user mode origin text) l.store (path_on l.store user mode origin text)
-  unfolding path_on path_answer decided_by if◌then◌else◌
+  unfolding path_on path_answer decided_by whether◌then◌else◌
   path_judges = record { text = λ slot len. refl; refusal = λ bad. rw (ne_eqb _ _ bad); factory = λ fine. rw fine }
 
   tree_judges : Judges (tree_probe user mode origin text) l.store (tree_on l.store user mode origin text)
-  unfolding tree_on tree_answer spread if◌then◌else◌
+  unfolding tree_on tree_answer spread whether◌then◌else◌
   tree_judges = record { text = λ slot len. refl; refusal = λ bad. rw (ne_eqb _ _ bad); factory = λ fine. rw fine }
 
   pub table_probes : TableProbePromise user mode origin text l
@@ -100,7 +100,7 @@ module _ (user : Str) (mode : ℕ) (origin text : Str) (l : Lent) where
 
 module _ (identity path headers : Str) (l : Lent) where
   rpc_judges : Judges (rpc_probe identity path headers) l.store (rpc_on l.store identity path headers)
-  unfolding rpc_on factory_rpc if◌then◌else◌
+  unfolding rpc_on factory_rpc whether◌then◌else◌
   rpc_judges = record { text = λ slot len. refl; refusal = λ bad. rw (ne_eqb _ _ bad); factory = λ fine. rw fine }
 
   pub policy_probes : PolicyProbePromise identity path headers l

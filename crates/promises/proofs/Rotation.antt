@@ -5,7 +5,7 @@ use mathlib.Core.List.{List, [], ◌∷◌}
 use mathlib.Core.Option.{Option, none, some}
 use Prim.Native.Nat.{ℕ}
 use lib.ListN.{length}
-use Rattle.text.specs.Test.{if◌then◌else◌, absent}
+use Rattle.text.specs.Test.{whether◌then◌else◌, absent}
 use Rattle.text.specs.String.{Str}
 use Rattle.text.specs.Fill.{put}
 use Rattle.text.specs.Refusal.{◌when◌else◌, clear}
@@ -44,11 +44,11 @@ module _ (a : Checked) (r next : Record) where
 -- the numbers that every call shares
 module _ (r : Record) (n own : ℕ) (a : Checked) where
   eleven : short_store n ≡ true → unless (record_refusal r n own) 0 a ≡ Refused 11 0
-  unfolding unless record_refusal if◌then◌else◌
+  unfolding unless record_refusal whether◌then◌else◌
   eleven e = rw e
 
   fifteen : short_store n ≡ false → bad_record r ≡ true → unless (record_refusal r n own) 0 a ≡ Refused 15 0
-  unfolding unless record_refusal if◌then◌else◌
+  unfolding unless record_refusal whether◌then◌else◌
   fifteen e f = rw (e, f)
 
 lent_same : (r s : Record) (x y : Str) → r ≡ s → x ≡ y → ◌≡◌ {A = Lent} (record { state = r; store = x }) (record { state = s; store = y })
@@ -107,8 +107,8 @@ module _ (l : Lent) where
 -- ---- the machine
 
 -- what a step leaves live
-if_live : (b : Bool) (m n : Machine) (x : Option Str) → m.live ≡ x → n.live ≡ x → (if b then m else n).live ≡ x
-unfolding if◌then◌else◌
+if_live : (b : Bool) (m n : Machine) (x : Option Str) → m.live ≡ x → n.live ≡ x → (whether b then m else n).live ≡ x
+unfolding whether◌then◌else◌
 if_live true m n x e f = e
 if_live false m n x e f = f
 
@@ -117,24 +117,25 @@ unfolding machine_end machine_step machine_next
 keeps_live [] promise.none m = refl
 keeps_live (Start ∷ cs) (promise.start t) m = keeps_live cs t (machine_step offered_check Start m) ∙ if_live _ _ m m.live refl refl
 keeps_live (Upload text ∷ cs) (promise.upload t) m = keeps_live cs t (machine_step offered_check (Upload text) m) ∙ if_live _ _ m m.live refl refl
+keeps_live (Finalize ∷ cs) t m = elim t [ ]
 keeps_live (Close ∷ cs) (promise.close t) m = keeps_live cs t (machine_step offered_check Close m) ∙ if_live _ _ m m.live refl refl
 
 -- an accepted step
 went : (c : Call) (m : Machine) → machine_answer offered_check c m ≡ Accepted → machine_step offered_check c m ≡ machine_next c m
-unfolding machine_step is_accepted if◌then◌else◌
+unfolding machine_step is_accepted whether◌then◌else◌
 went c m e = rw e
 
 closed_force : (m : Machine) → machine_force (machine_next Close m) ≡ m.live
-unfolding machine_force machine_next absent if◌then◌else◌
+unfolding machine_force machine_next absent whether◌then◌else◌
 closed_force m = refl
 
 uploaded_force : (text : Str) (m : Machine) → machine_force (machine_next (Upload text) m) ≡ some text
-unfolding machine_force machine_next absent if◌then◌else◌
+unfolding machine_force machine_next absent whether◌then◌else◌
 uploaded_force text m = refl
 
 -- finalize is refused without a candidate
-with_candidate : (r : Bool) (o : Option Str) (x : Option Str) → unless (13 when r else 14 when absent o else clear) 0 Accepted ≡ Accepted → o ≡ (if absent o then x else o)
-unfolding unless absent if◌then◌else◌
+with_candidate : (r : Bool) (o : Option Str) (x : Option Str) → unless (13 when r else 14 when absent o else clear) 0 Accepted ≡ Accepted → o ≡ (whether absent o then x else o)
+unfolding unless absent whether◌then◌else◌
 with_candidate true o x e = never 13 0 e
 with_candidate false none x e = never 14 0 e
 with_candidate false (some text) x e = refl

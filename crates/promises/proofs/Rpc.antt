@@ -9,7 +9,7 @@ use borrow.Author.Tests.{ne_eqb}
 use lib.Dec.{ltb}
 use lib.ListN.{length}
 use Rattle.limits.specs.Limits.{max_policy_text}
-use Rattle.text.specs.Test.{if◌then◌else◌}
+use Rattle.text.specs.Test.{whether◌then◌else◌}
 use Rattle.text.specs.String.{Str}
 use Rattle.text.specs.Refusal.{clear}
 use Rattle.text.proofs.Tests.{by}
@@ -34,7 +34,7 @@ never_some e = let z : ◌≡◌ {A = ℕ} 0 1 = cc in absurd (omega arith)
 
 module _ {A : Type 0} (f : A → Bool) where
   first_at : (k n : ℕ) (l : List A) → first_from k f l ≡ some n → (m : ℕ) × (n ≡ k + m) × First f m l
-  unfolding first_from if◌then◌else◌
+  unfolding first_from whether◌then◌else◌
   first_at k n [] e = never_some e
   first_at k n (x ∷ l) e =
       by (f x) (λ t. let i : k ≡ n = some_is (rw t at e) in (0, omega arith, here t))
@@ -70,18 +70,18 @@ tree_of_lem none e = absurd (omega arith)
 tree_of_lem (some j) e = (_, refl)
 
 tree_judged : (s : Str) → policy_refusal s ≡ clear → parsed_refusal (parse s) ≡ clear
-unfolding policy_refusal if◌then◌else◌
+unfolding policy_refusal whether◌then◌else◌
 tree_judged s e = by (ltb max_policy_text (length s)) (λ t. let i : 30 ≡ clear = rw t at e in absurd (omega arith)) (λ t. rw t at e)
 
 policy_of_lem : (s : Str) → policy_refusal s ≡ clear → (p : Policy) × (policy_of s ≡ some p)
-unfolding policy_of if◌then◌else◌
+unfolding policy_of whether◌then◌else◌
 policy_of_lem s e = rw e (tree_of_lem (parse s) (tree_judged s e))
 
 -- ---- the promise
 
 module _ (policy identity path headers : Str) (ok : policy_refusal policy ≡ clear) (fine : rpc_refusal identity path headers ≡ clear) where
   answers : (p : Policy) → policy_of policy ≡ some p → rpc_verdict policy identity path headers ≡ verdict p (request identity path headers)
-  unfolding rpc_verdict refused_else verdict_by if◌then◌else◌
+  unfolding rpc_verdict refused_else verdict_by whether◌then◌else◌
   answers p e = rw (ok, fine, e)
 
   pub rpc_promise : RpcPromise policy identity path headers ok fine
@@ -104,12 +104,12 @@ module _ (policy identity path headers : Str) (ok : policy_refusal policy ≡ cl
 
 module _ (policy identity path headers : Str) where
   text_refused : ¬ (policy_refusal policy ≡ clear) → rpc_verdict policy identity path headers ≡ Refused (policy_refusal policy)
-  unfolding rpc_verdict refused_else if◌then◌else◌
+  unfolding rpc_verdict refused_else whether◌then◌else◌
   text_refused bad = rw (ne_eqb _ _ bad)
 
   request_refused : policy_refusal policy ≡ clear → ¬ (rpc_refusal identity path headers ≡ clear)
       → rpc_verdict policy identity path headers ≡ Refused (rpc_refusal identity path headers)
-  unfolding rpc_verdict refused_else if◌then◌else◌
+  unfolding rpc_verdict refused_else whether◌then◌else◌
   request_refused e bad = rw (e, ne_eqb (rpc_refusal identity path headers) clear bad)
 
   pub rpc_refusals : RpcRefusals policy identity path headers

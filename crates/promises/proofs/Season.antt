@@ -8,7 +8,7 @@ use mathlib.Core.List.{List, [], ◌∷◌, ◌++◌, Permᴰ}
 use lib.Dec.{eqb, ltb, leb}
 use lib.ListN.{length, drop}
 use Rattle.limits.specs.Limits.{max_rules, max_log_lines}
-use Rattle.text.specs.Test.{◌and◌, if◌then◌else◌, ◌∈◌, absent}
+use Rattle.text.specs.Test.{◌and◌, whether◌then◌else◌, ◌∈◌, absent}
 use Rattle.text.specs.String.{Str, joined}
 use Rattle.text.specs.Fill.{put}
 use Rattle.text.proofs.Tests.{by, none_any}
@@ -133,14 +133,15 @@ bad l = absent (request_of l)
 
 -- the lines count from k + 1
 judged_bad : (k n : ℕ) (ls : List Str) → k + n < max_log_lines → First bad n ls → judge_log (k + 1) ls ≡ Refused 51 (k + n + 1)
-unfolding judge_log if◌then◌else◌
+unfolding judge_log whether◌then◌else◌
+judged_bad k n [] h x = elim x [ ]
 judged_bad k n (l ∷ ls) h (here e) = rw (le-ltb max_log_lines (k + 1) (omega arith), e) (ap (Refused 51) (omega arith))
 judged_bad k n (l ∷ ls) h (later {n = m} e f) =
     rw (le-ltb max_log_lines (k + 1) (omega arith), e) (judged_bad (k + 1) m ls (omega arith) f ∙ ap (Refused 51) (omega arith))
 
 judged_many : (k : ℕ) (ls : List Str) → max_log_lines < k + length ls → ((n : ℕ) → First bad n ls → max_log_lines ≤ k + n) → k ≤ max_log_lines
     → judge_log (k + 1) ls ≡ Refused 50 0
-unfolding judge_log if◌then◌else◌
+unfolding judge_log whether◌then◌else◌
 judged_many k [] h f b = absurd (omega arith)
 judged_many k (l ∷ ls) h f b =
     by (ltb max_log_lines (k + 1)) (λ u. rw u)
@@ -151,7 +152,7 @@ judged_many k (l ∷ ls) h f b =
 
 -- where it is refused, the buffer stays
 stays : (c : Checked) (text : Str) (out : List ℕ) (n l : ℕ) → answered c text out ≡ reported.Refused n l → stored c text out ≡ out
-unfolding answered stored if◌then◌else◌
+unfolding answered stored whether◌then◌else◌
 stays (Refused m k) text out n l e = refl
 stays Accepted text out n l e =
     by (leb (length text) (length out)) (λ u. let e' = rw u at e in let z : ◌≡◌ {A = ℕ} 0 1 = cc in absurd (omega arith)) (λ u. rw u)
@@ -167,13 +168,13 @@ module _ (x log : Str) (out : List ℕ) where
 
   fits : check x ≡ Accepted → check_log log ≡ Accepted → length (report_of x log) ≤ length out
       → (season_answer x log out ≡ reported.Length (length (report_of x log))) × (season_lent x log out ≡ report_of x log ++ drop (length (report_of x log)) out)
-  unfolding season_answer season_lent fault first_fault answered stored put if◌then◌else◌
+  unfolding season_answer season_lent fault first_fault answered stored put whether◌then◌else◌
   fits e f h =
       let i : 0 + length (report_of x log) ≡ length (report_of x log) = omega arith in
       rw (e, f, le-leb _ _ h) (refl, ap (λ (k : ℕ). report_of x log ++ drop k out) i)
 
   too_long : check x ≡ Accepted → check_log log ≡ Accepted → length out < length (report_of x log) → season_answer x log out ≡ reported.Refused 23 0
-  unfolding season_answer fault first_fault answered if◌then◌else◌
+  unfolding season_answer fault first_fault answered whether◌then◌else◌
   too_long e f h = rw (e, f, lt-leb _ _ h)
 
   pub report_answers : ReportAnswers x log out

@@ -5,7 +5,7 @@ use mathlib.Core.Option.{Option, none, some}
 use Prim.Native.Nat.{ℕ}
 use native.Mathlib.Omega.{arith}
 use borrow.Author.Tests.{ne_eqb}
-use Rattle.text.specs.Test.{◌or◌, if◌then◌else◌, absent, or_nothing}
+use Rattle.text.specs.Test.{◌or◌, whether◌then◌else◌, absent, or_nothing}
 use Rattle.text.specs.String.{Str}
 use Rattle.text.specs.Refusal.{◌when◌else◌, clear}
 use Rattle.text.proofs.Tests.{clash}
@@ -30,7 +30,7 @@ use Rattle.promises.specs.Verdicts.{PathPromise, TreePromise, OrderPromise, Verd
 -- ---- what an accepted request asks
 
 spelled_well : (a b c : Bool) → (20 when a else 21 when b else 22 when c else clear) ≡ clear → c ≡ false
-unfolding if◌then◌else◌
+unfolding whether◌then◌else◌
 spelled_well true b c e = absurd (omega arith)
 spelled_well false true c e = absurd (omega arith)
 spelled_well false false true e = absurd (omega arith)
@@ -56,11 +56,11 @@ module _ (x user : Str) (mode : ℕ) (origin text : Str) (ok : check x ≡ Accep
   asked_path = fit_of text (read_text text) refl (is_spelled user mode origin text fine)
 
   path_answers : path_verdict x user mode origin text ≡ decided_by (decider (table_of x) (request user mode origin text))
-  unfolding path_verdict path_answer if◌then◌else◌
+  unfolding path_verdict path_answer whether◌then◌else◌
   path_answers = rw (ok, fine)
 
   tree_answers : tree_verdict x user mode origin text ≡ spread (tree (table_of x) (request user mode origin text))
-  unfolding tree_verdict tree_answer if◌then◌else◌
+  unfolding tree_verdict tree_answer whether◌then◌else◌
   tree_answers = rw (ok, fine)
 
   pub path_promise : PathPromise x user mode origin text ok fine
@@ -94,11 +94,11 @@ module _ (x user : Str) (mode : ℕ) (origin text : Str) where
   tree_text n l e = rw e
 
   path_request : check x ≡ Accepted → ¬ (number ≡ clear) → path_verdict x user mode origin text ≡ path.Refused number 0
-  unfolding path_verdict path_answer if◌then◌else◌
+  unfolding path_verdict path_answer whether◌then◌else◌
   path_request e bad = rw (e, ne_eqb number clear bad)
 
   tree_request : check x ≡ Accepted → ¬ (number ≡ clear) → tree_verdict x user mode origin text ≡ trees.Refused number 0
-  unfolding tree_verdict tree_answer if◌then◌else◌
+  unfolding tree_verdict tree_answer whether◌then◌else◌
   tree_request e bad = rw (e, ne_eqb number clear bad)
 
   pub verdict_refusals : VerdictRefusals x user mode origin text

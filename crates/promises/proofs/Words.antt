@@ -6,7 +6,7 @@ use native.Mathlib.Omega.{arith}
 use borrow.Author.Tests.{eq-eqb, ne_eqb, eqb-false, le-leb, leb-false}
 use lib.Dec.{eqb, leb}
 use lib.ListN.{length}
-use Rattle.text.specs.Test.{◌and◌, ◌or◌, if◌then◌else◌}
+use Rattle.text.specs.Test.{◌and◌, ◌or◌, whether◌then◌else◌}
 use Rattle.text.proofs.Tests.{by}
 use Rattle.path_read.specs.declared.Filled.{Filled}
 use Rattle.path_read.specs.declared.Filled.TheVariants as filled
@@ -51,7 +51,7 @@ line_bits n l b c =
     rw (d, e) d
 
 line_read : (n l : ℕ) → Refusal n l → line (refusal_word n l) ≡ l
-unfolding line if◌then◌else◌ ◌and◌ ◌or◌ refusal_word
+unfolding line whether◌then◌else◌ ◌and◌ ◌or◌ refusal_word
 line_read n l h =
     let r = number_read n l h in
     by (leb n 9)
@@ -65,12 +65,12 @@ unfolding refusal_word
 word_whole n l h = let b = h.bits in let d : l % 2 ^ 32 ≡ l = omega arith in rw d
 
 kept : {A : Type 0} (x y : ℕ) (a : Option A) → x ≡ y → only_if (eqb x y) a ≡ a
-unfolding only_if if◌then◌else◌
+unfolding only_if whether◌then◌else◌
 kept x y a e = rw (eq-eqb x y e)
 
 refused : {A : Type 0} (n l : ℕ) (a : A) (b : Option A) → Refusal n l
-    → (if eqb (refusal (refusal_word n l)) 0 then b else only_if (eqb (refusal_word n l) (refusal (refusal_word n l) + line (refusal_word n l) * 2 ^ 8)) (some a)) ≡ some a
-unfolding if◌then◌else◌
+    → (whether eqb (refusal (refusal_word n l)) 0 then b else only_if (eqb (refusal_word n l) (refusal (refusal_word n l) + line (refusal_word n l) * 2 ^ 8)) (some a)) ≡ some a
+unfolding whether◌then◌else◌
 refused n l a b h =
     let e = number_read n l h in
     let p = h.number in
@@ -79,12 +79,12 @@ refused n l a b h =
 
 -- ---- an accepted word
 
-given : {A : Type 0} (w : ℕ) (a b : A) → refusal w ≡ 0 → (if eqb (refusal w) 0 then b else a) ≡ b
-unfolding if◌then◌else◌
+given : {A : Type 0} (w : ℕ) (a b : A) → refusal w ≡ 0 → (whether eqb (refusal w) 0 then b else a) ≡ b
+unfolding whether◌then◌else◌
 given w a b z = rw (eq-eqb _ _ z)
 
 upper_bits : (w : ℕ) → refusal w ≡ 0 → accepted w ≡ w / 2 ^ 8
-unfolding accepted if◌then◌else◌
+unfolding accepted whether◌then◌else◌
 upper_bits w z = rw (eq-eqb _ _ z)
 
 beside_less : (a n : ℕ) → beside a (less_one n) ≡ a + n * 2 ^ 8
@@ -94,7 +94,7 @@ beside_less a (suc n) = refl
 
 -- a in bits 8 to 15, of which a reader gives `g`, and n in bits 16 to 31
 by_fields : {A : Type 0} (f : ℕ → Option ℕ → Option A) (g : ℕ → ℕ) (x : Option A) (w a n : ℕ) → w ≡ a * 2 ^ 8 + n * 2 ^ 16 → a < 2 ^ 8 → n < 2 ^ 16 → g a ≡ a
-    → (if eqb (refusal w) 0 then only_if (eqb (accepted w) (beside (g (accepted w % 2 ^ 8)) (number w))) (f (accepted w % 2 ^ 8) (number w)) else x) ≡ f a (less_one n)
+    → (whether eqb (refusal w) 0 then only_if (eqb (accepted w) (beside (g (accepted w % 2 ^ 8)) (number w))) (f (accepted w % 2 ^ 8) (number w)) else x) ≡ f a (less_one n)
 unfolding number
 by_fields f g x w a n e p q r =
     let z : w % 2 ^ 8 ≡ 0 = omega arith in
@@ -106,10 +106,10 @@ by_fields f g x w a n e p q r =
 
 -- the byte of an action, and of a tree, as the readers give it
 abbrev read_action : ℕ → ℕ
-read_action a = if eqb a 1 then 1 else 0
+read_action a = whether eqb a 1 then 1 else 0
 
 abbrev read_tree : ℕ → ℕ
-read_tree a = if leb a 2 then a else 0
+read_tree a = whether leb a 2 then a else 0
 
 -- ---- each answer
 
@@ -122,7 +122,7 @@ upper_read n h =
 
 -- a length alone
 length_told : {A : Type 0} (f : ℕ → A) (n : ℕ) → n < 2 ^ 32 → (x : Option A)
-    → (if eqb (refusal (upper n)) 0 then only_if (eqb (accepted (upper n)) (filled_length (upper n))) (some (f (filled_length (upper n)))) else x) ≡ some (f n)
+    → (whether eqb (refusal (upper n)) 0 then only_if (eqb (accepted (upper n)) (filled_length (upper n))) (some (f (filled_length (upper n)))) else x) ≡ some (f n)
 length_told f n h x =
     let z : upper n % 2 ^ 8 ≡ 0 = omega arith in
     let d : n % 2 ^ 32 ≡ n = omega arith in
@@ -135,12 +135,12 @@ filled_told (filled.Length n) h = length_told filled.Length n h _
 filled_told (filled.Refused n) h = refused n 0 _ _ h ∙ rw (number_read n 0 h)
 
 checked_told : (c : Checked) → CheckedFits c → told_checked (checked_word c) ≡ some c
-unfolding checked_word only_if accepted if◌then◌else◌
+unfolding checked_word only_if accepted whether◌then◌else◌
 checked_told checked.Accepted h = refl
 checked_told (checked.Refused n l) h = refused n l _ _ h ∙ rw (number_read n l h, line_read n l h)
 
 counted_told : (c : Counted) → CountedFits c → told_counted (counted_word c) ≡ some c
-unfolding counted_word counted_by only_if less_one if◌then◌else◌
+unfolding counted_word counted_by only_if less_one whether◌then◌else◌
 counted_told (counted.Count n g) h =
     let b = h.1 in
     by_fields counted_by (λ (a : ℕ). a) _ (n * 2 ^ 8 + (g.0 + 1) * 2 ^ 16) n (suc g.0) (omega arith) h.0 (omega arith) refl
@@ -148,14 +148,14 @@ counted_told counted.NoGroup h = by_fields counted_by (λ (a : ℕ). a) none 0 0
 counted_told (counted.Declined n l) h = refused n l _ _ h ∙ rw (number_read n l h, line_read n l h)
 
 path_told : (a : PathAnswer) → PathFits a → told_path (path_word a) ≡ some a
-unfolding path_word path_by less_one if◌then◌else◌
+unfolding path_word path_by less_one whether◌then◌else◌
 path_told (path.Permit r) h = by_fields (λ (a : ℕ). path_by (eqb a 1)) read_action _ (2 ^ 8 + (r.0 + 1) * 2 ^ 16) 1 (suc r.0) (omega arith) (omega arith) (omega arith) refl
 path_told (path.Deny r) h = by_fields (λ (a : ℕ). path_by (eqb a 1)) read_action _ ((r.0 + 1) * 2 ^ 16) 0 (suc r.0) (omega arith) (omega arith) (omega arith) refl
 path_told path.Default h = by_fields (λ (a : ℕ). path_by (eqb a 1)) read_action none 0 0 0 refl (omega arith) (omega arith) refl
 path_told (path.Refused n l) h = refused n l _ _ h ∙ rw (number_read n l h, line_read n l h)
 
 tree_told : (a : TreeAnswer) → TreeFits a → told_tree (tree_word a) ≡ some a
-unfolding tree_word tree tree_by less_one if◌then◌else◌
+unfolding tree_word tree tree_by less_one whether◌then◌else◌
 tree_told trees.All h = by_fields (λ (a : ℕ). tree_by (read_tree a)) read_tree none (2 ^ 8) 1 0 refl (omega arith) (omega arith) refl
 tree_told trees.None h = by_fields (λ (a : ℕ). tree_by (read_tree a)) read_tree none 0 0 0 refl (omega arith) (omega arith) refl
 tree_told (trees.Mixed r) h =
@@ -168,19 +168,19 @@ reported_told (reported.Length n) h = length_told reported.Length n h _
 reported_told (reported.Refused n l) h = refused n l _ _ h ∙ rw (number_read n l h, line_read n l h)
 
 policy_told : (c : Check) → PolicyFits c → told_policy (policy_word c) ≡ some c
-unfolding policy_word only_if accepted if◌then◌else◌
+unfolding policy_word only_if accepted whether◌then◌else◌
 policy_told policy.Accepted h = refl
 policy_told (policy.Refused n) h = refused n 0 _ _ h ∙ rw (number_read n 0 h)
 
 rpc_told : (v : Verdict) → RpcFits v → told_rpc (rpc_word v) ≡ some v
-unfolding rpc_word rpc_by less_one if◌then◌else◌
+unfolding rpc_word rpc_by less_one whether◌then◌else◌
 rpc_told (rpc.Refused n) h = refused n 0 _ _ h ∙ rw (number_read n 0 h)
 rpc_told (rpc.Denied n) h = by_fields (λ (a : ℕ). rpc_by (eqb a 1)) read_action _ ((n % 2 ^ 16 + 1) * 2 ^ 16) 0 (suc n) (omega arith) (omega arith) (omega arith) refl
 rpc_told (rpc.Permitted n) h = by_fields (λ (a : ℕ). rpc_by (eqb a 1)) read_action _ (2 ^ 8 + (n % 2 ^ 16 + 1) * 2 ^ 16) 1 (suc n) (omega arith) (omega arith) (omega arith) refl
 rpc_told rpc.Default h = by_fields (λ (a : ℕ). rpc_by (eqb a 1)) read_action none 0 0 0 refl (omega arith) (omega arith) refl
 
 probe_told : (a : RpcAnswer) → ProbeFits a → told_probe (rpc_probe_word a) ≡ some a
-unfolding rpc_probe_word rpc_word probe_by less_one if◌then◌else◌
+unfolding rpc_probe_word rpc_word probe_by less_one whether◌then◌else◌
 probe_told probe.PermitAll h = by_fields (λ (a : ℕ). probe_by (eqb a 1)) read_action none (2 ^ 8) 1 0 refl (omega arith) (omega arith) refl
 probe_told (probe.Judged (rpc.Refused n)) h = refused n 0 _ _ h ∙ rw (number_read n 0 h)
 probe_told (probe.Judged (rpc.Denied n)) h =
@@ -217,9 +217,9 @@ words = record {
 }
 
 nothing_accepted : (w : ℕ) → (refusal w ≡ 0 → ⊥) → accepted w ≡ 0
-unfolding accepted if◌then◌else◌
+unfolding accepted whether◌then◌else◌
 nothing_accepted w bad = rw (ne_eqb _ 0 bad)
 
 pub safe : (w : ℕ) (bad : refusal w ≡ 0 → ⊥) → Safe w bad
-unfolding tree number less_one if◌then◌else◌
+unfolding tree number less_one whether◌then◌else◌
 safe w bad = let z = nothing_accepted w bad in record { denies = rw z; none_of_tree = rw z; unnumbered = rw z; uncounted = rw z; unfilled = rw z }

@@ -2,7 +2,7 @@
 -- So nothing of an answer is left out of its word, no two answers of a call share one, and nothing else stands in it: the answer determines the word.
 use Rattle.std.specs.Prelude.{ℕ, zero, suc, ◌+◌, ◌*◌, ◌/◌, ◌%◌, ◌^◌, ◌≡◌, Bool, false, eqb, leb}
 use Rattle.std.proofs.Math.Option.{Option, none, some}
-use Rattle.text.specs.Test.{◌and◌, ◌or◌, if◌then◌else◌}
+use Rattle.text.specs.Test.{◌and◌, ◌or◌, whether◌then◌else◌}
 use Rattle.text.specs.String.{Str}
 use Rattle.path_read.specs.Calls.{bytes_for, text_for, answer}
 use Rattle.path_read.specs.declared.Filled.{Filled}
@@ -47,11 +47,11 @@ refusal w = w % 2 ^ 8
 
 -- burgee_answer_line: with numbers 1 to 9, and 51
 unfoldable pub line : ℕ → ℕ
-line w = if leb 1 (refusal w) and leb (refusal w) 9 or eqb (refusal w) 51 then w / 2 ^ 8 % 2 ^ 32 else 0
+line w = whether leb 1 (refusal w) and leb (refusal w) 9 or eqb (refusal w) 51 then w / 2 ^ 8 % 2 ^ 32 else 0
 
 -- burgee_answer_accepted: the bits from 8 on; 0 of a refusal
 unfoldable pub accepted : ℕ → ℕ
-accepted w = if eqb (refusal w) 0 then w / 2 ^ 8 else 0
+accepted w = whether eqb (refusal w) 0 then w / 2 ^ 8 else 0
 
 -- burgee_answer_length
 abbrev pub filled_length : ℕ → ℕ
@@ -67,11 +67,11 @@ permitted w = eqb (accepted w % 2 ^ 8) 1
 
 -- burgee_answer_action: 0 deny, 1 permit
 abbrev pub action : ℕ → ℕ
-action w = if permitted w then 1 else 0
+action w = whether permitted w then 1 else 0
 
 -- burgee_answer_tree: 0 NONE, 1 ALL, 2 MIXED
 unfoldable pub tree : ℕ → ℕ
-tree w = if leb (accepted w % 2 ^ 8) 2 then accepted w % 2 ^ 8 else 0
+tree w = whether leb (accepted w % 2 ^ 8) 2 then accepted w % 2 ^ 8 else 0
 
 -- one less; none for 0, where C has -1
 unfoldable pub less_one : ℕ → Option ℕ
@@ -85,12 +85,12 @@ number w = less_one (accepted w / 2 ^ 8 % 2 ^ 16)
 -- ---- an answer as the readers tell it; none where their parts are no answer's, or the word has more than these
 
 unfoldable pub only_if : {A : Type 0} → Bool → Option A → Option A
-only_if b a = if b then a else none
+only_if b a = whether b then a else none
 
 -- by whether the call was refused; `parts` is what the readers read of the bits from 8 on
 abbrev told : {A : Type 0} → A → Option A → ℕ → ℕ → Option A
 told refused given parts w =
-    if eqb (refusal w) 0 then only_if (eqb (accepted w) parts) given else only_if (eqb w (refusal w + line w * 2 ^ 8)) (some refused)
+    whether eqb (refusal w) 0 then only_if (eqb (accepted w) parts) given else only_if (eqb w (refusal w + line w * 2 ^ 8)) (some refused)
 
 -- the parts of a byte and a number
 unfoldable pub beside : ℕ → Option ℕ → ℕ
@@ -111,15 +111,15 @@ abbrev pub told_counted : ℕ → Option Counted
 told_counted w = told (counted.Declined (refusal w) (line w)) (counted_by (count w) (number w)) (beside (count w) (number w)) w
 
 unfoldable pub path_by : Bool → Option ℕ → Option PathAnswer
-path_by permits none = if permits then none else some path.Default
-path_by permits (some r) = some (if permits then path.Permit (record { 0 = r }) else path.Deny (record { 0 = r }))
+path_by permits none = whether permits then none else some path.Default
+path_by permits (some r) = some (whether permits then path.Permit (record { 0 = r }) else path.Deny (record { 0 = r }))
 
 abbrev pub told_path : ℕ → Option PathAnswer
 told_path w = told (path.Refused (refusal w) (line w)) (path_by (permitted w) (number w)) (beside (action w) (number w)) w
 
 unfoldable pub tree_by : ℕ → Option ℕ → Option TreeAnswer
-tree_by n none = if eqb n 0 then some trees.None else if eqb n 1 then some trees.All else none
-tree_by n (some r) = if eqb n 2 then some (trees.Mixed (record { 0 = r })) else none
+tree_by n none = whether eqb n 0 then some trees.None else whether eqb n 1 then some trees.All else none
+tree_by n (some r) = whether eqb n 2 then some (trees.Mixed (record { 0 = r })) else none
 
 abbrev pub told_tree : ℕ → Option TreeAnswer
 told_tree w = told (trees.Refused (refusal w) (line w)) (tree_by (tree w) (number w)) (beside (tree w) (number w)) w
@@ -131,10 +131,10 @@ abbrev pub told_policy : ℕ → Option Check
 told_policy w = told (policy.Refused (refusal w)) (some policy.Accepted) 0 w
 
 abbrev by_rule : Bool → ℕ → Verdict
-by_rule permits r = if permits then rpc.Permitted r else rpc.Denied r
+by_rule permits r = whether permits then rpc.Permitted r else rpc.Denied r
 
 unfoldable pub rpc_by : Bool → Option ℕ → Option Verdict
-rpc_by permits none = if permits then none else some rpc.Default
+rpc_by permits none = whether permits then none else some rpc.Default
 rpc_by permits (some r) = some (by_rule permits r)
 
 abbrev pub told_rpc : ℕ → Option Verdict
@@ -142,7 +142,7 @@ told_rpc w = told (rpc.Refused (refusal w)) (rpc_by (permitted w) (number w)) (b
 
 -- a permit that names no rule is factory's
 unfoldable pub probe_by : Bool → Option ℕ → Option RpcAnswer
-probe_by permits none = some (if permits then probe.PermitAll else probe.Judged rpc.Default)
+probe_by permits none = some (whether permits then probe.PermitAll else probe.Judged rpc.Default)
 probe_by permits (some r) = some (probe.Judged (by_rule permits r))
 
 abbrev pub told_probe : ℕ → Option RpcAnswer

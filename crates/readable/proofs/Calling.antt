@@ -9,7 +9,7 @@ use borrow.Author.Tests.{ltb-false, leb-true, le-leb, lt-leb}
 use lib.Dec.{leb, ltb}
 use lib.ListN.{length, take, length-append}
 use Rattle.limits.specs.Limits.{max_table_text}
-use Rattle.text.specs.Test.{if◌then◌else◌}
+use Rattle.text.specs.Test.{whether◌then◌else◌}
 use Rattle.text.specs.String.{Str}
 use Rattle.text.specs.Fill.{put}
 use Rattle.text.proofs.Tests.{by}
@@ -28,7 +28,7 @@ use Rattle.readable_parts.proofs.Stored.{front}
 -- ---- show
 
 pub accepted_short : (t : Str) → check t ≡ checked.Accepted → length t ≤ max_table_text
-unfolding check if◌then◌else◌
+unfolding check whether◌then◌else◌
 accepted_short t e =
     by (ltb max_table_text (length t))
     (λ u. let f : checked.Refused 1 0 ≡ checked.Accepted = rw u at e in let z : ◌≡◌ {A = ℕ} 0 1 = cc in absurd (omega arith))
@@ -41,7 +41,7 @@ module _ (t : Str) (out : List ℕ) (c : Checked) (i : c ≡ check t) where
 
   module _ (g : c ≡ checked.Accepted) (out' : List ℕ) (e : Ended) (x : e ≡ ending (line_by false false) (length out) 1 0 (lines t)) (y : out' ≡ put out 0 (stored (line_by false false) (length out) 0 (lines t))) where
     pub show_ended : (r : Converted) → r ≡ shown_as e → (r ≡ show_answer (check t) t out) × (out' ≡ show_lent (check t) t out)
-    unfolding show_answer show_lent line_by shown_for shown_line if◌then◌else◌
+    unfolding show_answer show_lent line_by shown_for shown_line whether◌then◌else◌
     show_ended r k = let h : check t ≡ checked.Accepted = sym i ∙ g in (k ∙ rw (h, x), rw h y)
 
     pub show_all : (n : ℕ) → e ≡ ended.All n → (converted.Length n ≡ show_answer (check t) t out) × (out' ≡ show_lent (check t) t out)
@@ -65,11 +65,11 @@ module _ (t : Str) (out : List ℕ) (c : Checked) (i : c ≡ check t) where
 
   module _ (g : c ≡ checked.Accepted) where
     pub made_unfit : length out < length t → (converted.NoRoom ≡ made_answer (check t) t out) × (out ≡ made_lent (check t) t out)
-    unfolding made_answer made_lent if◌then◌else◌
+    unfolding made_answer made_lent whether◌then◌else◌
     made_unfit l = let h : check t ≡ checked.Accepted = sym i ∙ g in (rw (h, lt-leb _ _ l), rw (h, lt-leb _ _ l))
 
     pub made_there : length t ≤ length out → (out' : List ℕ) → out' ≡ put out 0 t → (converted.Length (length t) ≡ made_answer (check t) t out) × (out' ≡ made_lent (check t) t out)
-    unfolding made_answer made_lent if◌then◌else◌
+    unfolding made_answer made_lent whether◌then◌else◌
     made_there l out' e = let h : check t ≡ checked.Accepted = sym i ∙ g in (rw (h, le-leb _ _ l), rw (h, le-leb _ _ l) e)
 
 -- ---- pack
@@ -77,7 +77,7 @@ module _ (t : Str) (out : List ℕ) (c : Checked) (i : c ≡ check t) where
 -- where all lines were converted, so many bytes were stored
 module _ (g : Str → Option Str) (room : ℕ) where
   pub stored_length : (ls : List Str) (n at m : ℕ) → at ≤ room → ending g room n at ls ≡ ended.All m → (m ≡ at + length (stored g room at ls)) × (m ≤ room)
-  unfolding ending onward stored storing if◌then◌else◌
+  unfolding ending onward stored storing whether◌then◌else◌
   stored_length [] n at m h e = let i : at ≡ m = cc in (omega arith, omega arith)
   stored_length (l ∷ ls) n at m h e = go (λ n' at' h' e'. stored_length ls n' at' m h' e') (g l) refl e
     where
@@ -95,7 +95,7 @@ module _ (g : Str → Option Str) (room : ℕ) where
 
 module _ (text : Str) (out z table : List ℕ) (e : Ended) (x : e ≡ ending (line_by false true) (length z) 1 0 (lines text)) (y : table ≡ put z 0 (stored (line_by false true) (length z) 0 (lines text))) (l : length z ≡ max_table_text) where
   end_is : packed_end text ≡ e
-  unfolding packed_end line_by packed_for packed_line if◌then◌else◌
+  unfolding packed_end line_by packed_for packed_line whether◌then◌else◌
   end_is = sym (rw l at x)
 
   pub pack_unread : (n : ℕ) → e ≡ ended.Unread n → (converted.Unread n ≡ pack_answer (packed_end text) (packed_table text) out) × (out ≡ pack_lent (packed_end text) (packed_table text) out)
@@ -114,7 +114,7 @@ module _ (text : Str) (out z table : List ℕ) (e : Ended) (x : e ≡ ending (li
     pack_size = omega (arith, sizes.1)
 
     table_is : take n table ≡ packed_table text
-    unfolding packed_table line_by packed_for packed_line if◌then◌else◌
+    unfolding packed_table line_by packed_for packed_line whether◌then◌else◌
     table_is = rw l at (front z _ table n (record { ends = sizes.0; same = y }))
 
     pub pack_made : (r : Converted) (out' : List ℕ) → (r ≡ made_answer (check (take n table)) (take n table) out) × (out' ≡ made_lent (check (take n table)) (take n table) out)

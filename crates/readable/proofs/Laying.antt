@@ -6,7 +6,7 @@ use Prim.Native.Nat.{ℕ, ◌+◌, ◌-◌, ◌≤◌, ◌<◌}
 use native.Mathlib.Omega.{arith}
 use borrow.Author.Tests.{le-leb, lt-leb}
 use lib.ListN.{length, take, drop, drop_of_length-le}
-use Rattle.text.specs.Test.{if◌then◌else◌}
+use Rattle.text.specs.Test.{whether◌then◌else◌}
 use Rattle.text.specs.String.{Str}
 use Rattle.text.specs.Fill.{put}
 use Rattle.text.specs.Steps.{Wrote}
@@ -23,12 +23,12 @@ module _ (g : Str → Option Str) (room n at : ℕ) (l : Str) (ls : List Str) wh
   end_none e = (rw e, rw e)
 
   end_full : (w : Str) → g l ≡ some w → room - at < length w → (ending g room n at (l ∷ ls) ≡ ended.Full) × (stored g room at (l ∷ ls) ≡ [])
-  unfolding ending onward stored storing if◌then◌else◌
+  unfolding ending onward stored storing whether◌then◌else◌
   end_full w e h = (rw (e, lt-leb _ _ h), rw (e, lt-leb _ _ h))
 
   end_some : (w : Str) → g l ≡ some w → length w ≤ room - at
       → (ending g room n at (l ∷ ls) ≡ ending g room (n + 1) (at + length w) ls) × (stored g room at (l ∷ ls) ≡ w ++ stored g room (at + length w) ls)
-  unfolding ending onward stored storing if◌then◌else◌
+  unfolding ending onward stored storing whether◌then◌else◌
   end_some w e h = (rw (e, le-leb _ _ h), rw (e, le-leb _ _ h))
 
 -- the lines before `from` were converted, so that `out` has come of d; the next line has that number, and is to be stored at `at`

@@ -2,7 +2,7 @@
 use Rattle.std.specs.Prelude.{ℕ, ◌+◌, ◌-◌, ◌≡◌, List, [], ◌∷◌, ◌++◌, leb, length}
 use Rattle.std.proofs.Math.Option.{Option, none, some}
 use Rattle.limits.specs.Limits.{max_table_text}
-use Rattle.text.specs.Test.{if◌then◌else◌}
+use Rattle.text.specs.Test.{whether◌then◌else◌}
 use Rattle.text.specs.String.{Str}
 use Rattle.text.specs.Fill.{put}
 use Rattle.table_line.specs.Lines.{lines}
@@ -20,7 +20,7 @@ use Rattle.readable.specs.declared.Ended.TheVariants as ended
 -- one line, and then k, from where the next is to be stored
 unfoldable pub onward : ℕ → ℕ → ℕ → Option Str → (ℕ → Ended) → Ended
 onward room n at none k = ended.Unread n
-onward room n at (some w) k = if leb (length w) (room - at) then k (at + length w) else ended.Full
+onward room n at (some w) k = whether leb (length w) (room - at) then k (at + length w) else ended.Full
 
 -- all lines were converted, to so many bytes; or the number of the first that g does not convert; or there is no room for one
 unfoldable pub ending : (Str → Option Str) → ℕ → ℕ → ℕ → List Str → Ended
@@ -30,7 +30,7 @@ ending g room n at (l ∷ ls) = onward room n at (g l) (λ to. ending g room (n 
 -- the same of what is stored
 unfoldable pub storing : ℕ → ℕ → Option Str → (ℕ → Str) → Str
 storing room at none k = []
-storing room at (some w) k = if leb (length w) (room - at) then w ++ k (at + length w) else []
+storing room at (some w) k = whether leb (length w) (room - at) then w ++ k (at + length w) else []
 
 -- what was stored before the end
 unfoldable pub stored : (Str → Option Str) → ℕ → ℕ → List Str → Str
@@ -58,11 +58,11 @@ show_lent checked.Accepted text out = put out 0 (stored shown_line (length out) 
 -- the refusal of the table that was made; or that table, where there is room
 unfoldable pub made_answer : Checked → Str → List ℕ → Converted
 made_answer (checked.Refused n l) table out = Refused n l
-made_answer checked.Accepted table out = if leb (length table) (length out) then Length (length table) else NoRoom
+made_answer checked.Accepted table out = whether leb (length table) (length out) then Length (length table) else NoRoom
 
 unfoldable pub made_lent : Checked → Str → List ℕ → List ℕ
 made_lent (checked.Refused n l) table out = out
-made_lent checked.Accepted table out = if leb (length table) (length out) then put out 0 table else out
+made_lent checked.Accepted table out = whether leb (length table) (length out) then put out 0 table else out
 
 -- the number of the first line that is not of the readable form; 1 for "table text over 32,768 bytes (line 0)"; or by the table that was made
 unfoldable pub pack_answer : Ended → Str → List ℕ → Converted

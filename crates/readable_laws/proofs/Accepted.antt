@@ -9,7 +9,7 @@ use borrow.Author.Tests.{eq-eqb, eqb-true, ltb-true, ltb-false, leb-true, not-fa
 use lib.Dec.{eqb, leb, ltb}
 use lib.ListN.{length, drop, get_or}
 use Rattle.limits.specs.Limits.{max_table_text, max_rules, max_short_string, max_string}
-use Rattle.text.specs.Test.{◌and◌, ◌or◌, if◌then◌else◌, all, any}
+use Rattle.text.specs.Test.{◌and◌, ◌or◌, whether◌then◌else◌, all, any}
 use Rattle.text.specs.Byte.{is_print}
 use Rattle.text.specs.String.{Str, bytes}
 use Rattle.text.specs.Frame.{got, ◌>>=◌, ret, run, string}
@@ -87,7 +87,7 @@ fine b (rule r) h =
 -- ---- each kind
 
 run_told : (f : Str) (p : ℕ) (t : Str) (q : ℕ) → run 8 f p ≡ got t q → (q ≡ p + 8) × (8 ≤ length f - p)
-unfolding run if◌then◌else◌
+unfolding run whether◌then◌else◌
 run_told f p t q e =
     by (leb 8 (length f - p))
     (λ u. got_move (λ d z. (z ≡ p + 8) × (8 ≤ length f - p)) (rw u at e) (refl, leb-true _ _ u))
@@ -134,11 +134,11 @@ module _ (f : Str) (m : Small f) where
       let p = then_got (path f o.1) _ o.3 in
       got_move (λ y z. Fine (rule y) → z ≡ length f → Reads (bytes "rule A M K S id S origin S P") f 1) p.3
       (λ w l. plain_then (bytes "rule ") _ f 1 (unfold plain ◌and◌ in refl)
-      (a_code f 65 0 1 (bytes "deny") (bytes "permit") _ 1 a.0 a.1 (unfold part_of shown if◌then◌else◌ in refl) refl a.2 (unfold all ◌and◌ in refl) (unfold all ◌and◌ in refl)
+      (a_code f 65 0 1 (bytes "deny") (bytes "permit") _ 1 a.0 a.1 (unfold part_of shown whether◌then◌else◌ in refl) refl a.2 (unfold all ◌and◌ in refl) (unfold all ◌and◌ in refl)
       (plain_then (bytes " ") _ f a.1 (unfold plain ◌and◌ in refl)
-      (a_code f 77 1 2 (bytes "read") (bytes "write") _ a.1 b.0 b.1 (unfold part_of shown if◌then◌else◌ in refl) refl b.2 (unfold all ◌and◌ in refl) (unfold all ◌and◌ in refl)
+      (a_code f 77 1 2 (bytes "read") (bytes "write") _ a.1 b.0 b.1 (unfold part_of shown whether◌then◌else◌ in refl) refl b.2 (unfold all ◌and◌ in refl) (unfold all ◌and◌ in refl)
       (plain_then (bytes " ") _ f b.1 (unfold plain ◌and◌ in refl)
-      (a_code f 75 0 1 (bytes "user") (bytes "group") _ b.1 c.0 c.1 (unfold part_of shown if◌then◌else◌ in refl) refl c.2 (unfold all ◌and◌ in refl) (unfold all ◌and◌ in refl)
+      (a_code f 75 0 1 (bytes "user") (bytes "group") _ b.1 c.0 c.1 (unfold part_of shown whether◌then◌else◌ in refl) refl c.2 (unfold all ◌and◌ in refl) (unfold all ◌and◌ in refl)
       (plain_then (bytes " ") _ f c.1 (unfold plain ◌and◌ in refl)
       (a_string f _ c.1 s.0 s.1 s.2 w.0
       (plain_then (bytes " id ") _ f s.1 (unfold plain ◌and◌ in refl)
@@ -155,7 +155,7 @@ module _ (f : Str) (m : Small f) where
       got_move (λ x q. Fine x → q ≡ length f → Reads (bytes "rule A M K S id S origin S P") f 1) z.3 (body_reads z.0 z.1 z.2)
 
   kind_reads : (k : ℕ) (e : Entry) → body k f 1 ≡ got e (length f) → Fine e → (w : Str) × (form_by shown k f 1 ≡ got w (length f)) × (all is_print w ≡ true)
-  unfolding body if◌then◌else◌ unknown
+  unfolding body whether◌then◌else◌ unknown
   kind_reads k e h g =
       by (eqb k 1) (λ u. let r = version_reads e (length f) (rw u at h) g refl in (r.text, kind_version_lem shown k f 1 (eqb-true _ _ u) ∙ r.is, r.prints))
       (λ u₁. by (eqb k 2) (λ u. let r = group_reads e (length f) (rw (u₁, u) at h) g refl in (r.text, kind_group_lem shown k f 1 (eqb-true _ _ u) ∙ r.is, r.prints))
@@ -173,7 +173,7 @@ module _ (f : Str) (m : Small f) where
       (λ u. never_got refl (rw (byte_unread f 0 (ltb-false _ _ u)) at w))
 
   frame_shows : (e : Entry) → entry_of f ≡ some e → Fine e → (s : Str) × (shown_frame f ≡ some s)
-  unfolding shown_frame shown_by whole printed if◌then◌else◌
+  unfolding shown_frame shown_by whole printed whether◌then◌else◌
   frame_shows e h g = let r = kind_reads (get_or f 0 0) e (kind_told e h) g in (r.0, rw (r.1, eq-eqb (length f) (length f) refl, r.2))
 
 -- ---- each line
@@ -203,7 +203,7 @@ line_shows b l h =
 -- ---- all lines
 
 shows_all : (ls : List Str) (n : ℕ) (b : Earlier) → judge n b ls ≡ Accepted → (room m at l : ℕ) → ending shown_line room m at ls ≡ ended.Unread l → ⊥
-unfolding judge unless ending onward if◌then◌else◌
+unfolding judge unless ending onward whether◌then◌else◌
 shows_all [] n b j room m at l e = let z : ◌≡◌ {A = ℕ} 0 1 = cc in absurd (omega arith)
 shows_all (x ∷ ls) n b j room m at l e =
     by (eqb (refusal b (line_of x)) clear)
@@ -216,7 +216,7 @@ shows_all (x ∷ ls) n b j room m at l e =
 
 -- `show` of an accepted table has no line that it cannot show: there is room, or there is not
 pub accepted_shows : (t : Str) → check t ≡ Accepted → (room l : ℕ) → ending shown_line room 1 0 (lines t) ≡ ended.Unread l → ⊥
-unfolding check if◌then◌else◌
+unfolding check whether◌then◌else◌
 accepted_shows t e room l =
     by (ltb max_table_text (length t))
     (λ u. let z : Refused 1 0 ≡ Accepted = rw u at e in let y : ◌≡◌ {A = ℕ} 0 1 = cc in absurd (omega arith))

@@ -9,7 +9,7 @@ use lib.Dec.{eqb}
 use lib.ListN.{length, drop, length-drop}
 use lib.Seq.{drop-length}
 use Rattle.limits.specs.Limits.{max_string}
-use Rattle.text.specs.Test.{◌and◌, ◌or◌, if◌then◌else◌, all}
+use Rattle.text.specs.Test.{◌and◌, ◌or◌, whether◌then◌else◌, all}
 use Rattle.text.specs.Byte.{is_print}
 use Rattle.text.specs.String.{Str, same}
 use Rattle.text.specs.Frame.{got, Reader, ◌>>=◌, ret, byte, string}
@@ -67,11 +67,11 @@ plain_then (c ∷ xs) cs f at h r =
     part_then c (xs ++ cs) f at (c ∷ []) at (plain_part c f at (not-true (is_letter c) (and_l _ _ a))) (one_print c (and_r (not (is_letter c)) _ a)) (plain_then xs cs f at (and_r _ _ h) r)
 
 string_part : (f : Str) (at : ℕ) (v : Str) (u : ℕ) → string f at ≡ got v u → length v ≤ max_string → part_of shown 83 f at ≡ got (quoted v) u
-unfolding part_of shown shown_string ◌>>=◌ ret if◌then◌else◌
+unfolding part_of shown shown_string ◌>>=◌ ret whether◌then◌else◌
 string_part f at v u e h = rw (e, le-leb (length v) max_string h)
 
 pub time_part : (f : Str) (at : ℕ) → length f - at ≡ 8 → part_of shown 84 f at ≡ got (hex_text (drop at f)) (length f)
-unfolding part_of shown shown_time if◌then◌else◌
+unfolding part_of shown shown_time whether◌then◌else◌
 time_part f at h = rw (eq-eqb (length f - at) 8 h)
 
 bytes_long : (p : Path) → 0 < length (path_bytes p)
@@ -79,7 +79,7 @@ unfolding path_bytes counted
 bytes_long p = omega arith
 
 path_part : (f : Str) (at : ℕ) (p : Path) → path f at ≡ got p (length f) → good_path p ≡ true → part_of shown 80 f at ≡ got (path_text p) (length f)
-unfolding part_of shown shown_path of_rest text_for rest if◌then◌else◌
+unfolding part_of shown shown_path of_rest text_for rest whether◌then◌else◌
 path_part f at p e g =
     let t = path_took f at p (length f) e in
     let d : drop at f ≡ path_bytes p = t.same ∙ ap (λ (z : Str). path_bytes p ++ z) (drop-length f) ∙ append-nil (path_bytes p) in
@@ -88,16 +88,16 @@ path_part f at p e g =
 
 module _ (n : ℕ) (a b f : Str) (at w p : ℕ) (e : byte f at ≡ got w p) where
   pub first_word : eqb w n ≡ true → shown_code n a b f at ≡ got a p
-  unfolding shown_code ◌>>=◌ ret if◌then◌else◌
+  unfolding shown_code ◌>>=◌ ret whether◌then◌else◌
   first_word s = rw (e, s)
 
   pub second_word : eqb w n ≡ false → eqb w (n + 1) ≡ true → shown_code n a b f at ≡ got b p
-  unfolding shown_code ◌>>=◌ ret if◌then◌else◌
+  unfolding shown_code ◌>>=◌ ret whether◌then◌else◌
   second_word s r = rw (e, s, r)
 
 code_told : (n k : ℕ) (a b f : Str) (at m u : ℕ) → k ≡ n + 1 → code n k f at ≡ got m u → all is_print a ≡ true → all is_print b ≡ true
     → (v : Str) × (shown_code n a b f at ≡ got v u) × (all is_print v ≡ true)
-unfolding code ◌>>=◌ ret if◌then◌else◌ unknown ◌or◌
+unfolding code ◌>>=◌ ret whether◌then◌else◌ unknown ◌or◌
 code_told n k a b f at m u i e x y =
     let c = then_got (byte f at) _ e in
     by (eqb c.0 n)

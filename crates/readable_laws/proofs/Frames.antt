@@ -9,7 +9,7 @@ use borrow.Author.Tests.{eq-eqb, eqb-true, eqb-false}
 use lib.Dec.{eqb}
 use lib.ListN.{length, drop, get_or, length-drop}
 use lib.Seq.{drop-length}
-use Rattle.text.specs.Test.{◌and◌, if◌then◌else◌, all}
+use Rattle.text.specs.Test.{◌and◌, whether◌then◌else◌, all}
 use Rattle.text.specs.Byte.{is_print}
 use Rattle.text.specs.String.{Str, bytes}
 use Rattle.text.specs.Frame.{Parsed, got, unread, Reader, ◌>>=◌, ret}
@@ -74,7 +74,7 @@ module _ (c : ℕ) (l : is_last c ≡ true) where
 -- ---- every form
 
 time_inside : (f : Str) (at : ℕ) (w : Str) (t : ℕ) → shown_time f at ≡ got w t → t ≤ length f
-unfolding shown_time if◌then◌else◌
+unfolding shown_time whether◌then◌else◌
 time_inside f at w t e = by (eqb (length f - at) 8) (λ u. got_move (λ d q. q ≤ length f) (rw u at e) (omega arith)) (λ u. never_got refl (rw u at e))
 
 shown_stays : (c : ℕ) (s : Str) (at : ℕ) (b : Str) (t : ℕ) → at ≤ length s → part_of shown c s at ≡ got b t → t ≤ length s
@@ -137,7 +137,7 @@ shown_kind = kind_back Small shown packed (λ c l. shown_each c l Small) shown_l
 -- ---- frames
 
 pub whole_some : {A : Type 0} (s : Str) (x : Parsed A) (a : A) → whole s x ≡ some a → x ≡ got a (length s)
-unfolding whole if◌then◌else◌
+unfolding whole whether◌then◌else◌
 whole_some s (got b t) a e =
     by (eqb t (length s))
     (λ u. let i : some b ≡ some a = rw u at e in let j : b ≡ a = cc in rw (j, eqb-true t (length s) u))
@@ -145,7 +145,7 @@ whole_some s (got b t) a e =
 whole_some s unread a e = let z : ◌≡◌ {A = ℕ} 0 1 = cc in absurd (omega arith)
 
 pub printed_some : (o : Option Str) (w : Str) → printed o ≡ some w → (o ≡ some w) × (all is_print w ≡ true)
-unfolding printed if◌then◌else◌
+unfolding printed whether◌then◌else◌
 printed_some none w e = let z : ◌≡◌ {A = ℕ} 0 1 = cc in absurd (omega arith)
 printed_some (some v) w e =
     by (all is_print v)
@@ -153,7 +153,7 @@ printed_some (some v) w e =
     (λ u. let i : none ≡ some w = rw u at e in let z : ◌≡◌ {A = ℕ} 0 1 = cc in absurd (omega arith))
 
 whole_got : (s w : Str) → whole s (got w (length s)) ≡ some w
-unfolding whole if◌then◌else◌
+unfolding whole whether◌then◌else◌
 whole_got s w = rw (eq-eqb (length s) (length s) refl)
 
 -- what was taken whole is all there is
@@ -162,7 +162,7 @@ took_all s w t = t.same ∙ ap (λ (z : Str). w ++ z) (drop-length s) ∙ append
 
 -- a line that r packs, and that stands at the end of a frame so, is shown by r'
 pub pack_show_by : (r r' : Reader Str) → Returns Any r r' → (s b f : Str) (at : ℕ) → at ≤ length f → drop at f ≡ b → packed_by r s ≡ some b → shown_by r' at f ≡ some s
-unfolding packed_by shown_by whole printed if◌then◌else◌
+unfolding packed_by shown_by whole printed whether◌then◌else◌
 pack_show_by r r' back s b f at l d e =
     by (all is_print s)
     (λ u. let g = whole_some s (r s 0) b (rw u at e) in
@@ -175,7 +175,7 @@ pack_show_by r r' back s b f at l d e =
 
 -- what r shows of the end of a frame is packed to it by r'
 pub show_pack_by : (r r' : Reader Str) → Returns Small r r' → (f : Str) (at : ℕ) → at ≤ length f → Small f → (s : Str) → shown_by r at f ≡ some s → packed_by r' s ≡ some (drop at f)
-unfolding packed_by shown_by if◌then◌else◌
+unfolding packed_by shown_by whether◌then◌else◌
 show_pack_by r r' back f at l x s e =
     let p = printed_some (whole f (r f at)) s e in
     let m = back f at s (length f) x l (whole_some f (r f at) s p.0) in
@@ -210,10 +210,10 @@ lead c cs f at w t i e =
 
 letter : (k : ℕ) (f : Str) (at : ℕ) (w : Str) (t : ℕ) → form_by shown k f at ≡ got w t → kind_by (get_or w 0 0) ≡ k
 letter k f at w t e =
-    by (eqb k 1) (λ u. is 118 1 (eqb-true _ _ u) (lead 118 _ f at w t (unfold part_of shown shown_plain ret if◌then◌else◌ in refl) (sym (kind_version_lem shown k f at (eqb-true _ _ u)) ∙ e)) (unfold kind_by if◌then◌else◌ in refl))
-    (λ u₁. by (eqb k 2) (λ u. is 103 2 (eqb-true _ _ u) (lead 103 _ f at w t (unfold part_of shown shown_plain ret if◌then◌else◌ in refl) (sym (kind_group_lem shown k f at (eqb-true _ _ u)) ∙ e)) (unfold kind_by if◌then◌else◌ in refl))
-    (λ u₂. by (eqb k 3) (λ u. is 109 3 (eqb-true _ _ u) (lead 109 _ f at w t (unfold part_of shown shown_plain ret if◌then◌else◌ in refl) (sym (kind_member_lem shown k f at (eqb-true _ _ u)) ∙ e)) (unfold kind_by if◌then◌else◌ in refl))
-    (λ u₃. by (eqb k 4) (λ u. is 114 4 (eqb-true _ _ u) (lead 114 _ f at w t (unfold part_of shown shown_plain ret if◌then◌else◌ in refl) (sym (kind_rule_lem shown k f at (eqb-true _ _ u)) ∙ e)) (unfold kind_by if◌then◌else◌ in refl))
+    by (eqb k 1) (λ u. is 118 1 (eqb-true _ _ u) (lead 118 _ f at w t (unfold part_of shown shown_plain ret whether◌then◌else◌ in refl) (sym (kind_version_lem shown k f at (eqb-true _ _ u)) ∙ e)) (unfold kind_by whether◌then◌else◌ in refl))
+    (λ u₁. by (eqb k 2) (λ u. is 103 2 (eqb-true _ _ u) (lead 103 _ f at w t (unfold part_of shown shown_plain ret whether◌then◌else◌ in refl) (sym (kind_group_lem shown k f at (eqb-true _ _ u)) ∙ e)) (unfold kind_by whether◌then◌else◌ in refl))
+    (λ u₂. by (eqb k 3) (λ u. is 109 3 (eqb-true _ _ u) (lead 109 _ f at w t (unfold part_of shown shown_plain ret whether◌then◌else◌ in refl) (sym (kind_member_lem shown k f at (eqb-true _ _ u)) ∙ e)) (unfold kind_by whether◌then◌else◌ in refl))
+    (λ u₃. by (eqb k 4) (λ u. is 114 4 (eqb-true _ _ u) (lead 114 _ f at w t (unfold part_of shown shown_plain ret whether◌then◌else◌ in refl) (sym (kind_rule_lem shown k f at (eqb-true _ _ u)) ∙ e)) (unfold kind_by whether◌then◌else◌ in refl))
     (λ u₄. never_got (kind_none shown k f at (eqb-false _ _ u₁) (eqb-false _ _ u₂) (eqb-false _ _ u₃) (eqb-false _ _ u₄)) e))))
   where
     is : (c n : ℕ) → k ≡ n → get_or w 0 0 ≡ c → kind_by c ≡ n → kind_by (get_or w 0 0) ≡ k

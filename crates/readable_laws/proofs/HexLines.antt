@@ -8,7 +8,7 @@ use native.Mathlib.Omega.{arith}
 use borrow.Author.Tests.{eqb-true, lt-ltb, le-ltb, ltb-true, ltb-false, le-leb, lt-leb, leb-true}
 use lib.Dec.{eqb, leb, ltb}
 use lib.ListN.{length}
-use Rattle.text.specs.Test.{◌and◌, if◌then◌else◌}
+use Rattle.text.specs.Test.{◌and◌, whether◌then◌else◌}
 use Rattle.text.specs.Byte.{within, is_digit, is_hex, hex_value}
 use Rattle.text.specs.String.{Str, joined}
 use Rattle.text.proofs.Tests.{by, and_l, and_r, and_left, and_right}
@@ -71,7 +71,7 @@ told x y (some g) f e =
     (λ u. let z : none ≡ some f = rw u at e in let w : ◌≡◌ {A = ℕ} 0 1 = cc in absurd (omega arith))
 
 pub pairs_text : (l f : Str) → pairs l ≡ some f → (l ≡ hex_text f ++ (10 ∷ [])) × Small f
-unfolding pairs hex_text joined hex_pair if◌then◌else◌
+unfolding pairs hex_text joined hex_pair whether◌then◌else◌
 pairs_text [] f e = let w : ◌≡◌ {A = ℕ} 0 1 = cc in absurd (omega arith)
 pairs_text (x ∷ []) f e =
     by (eqb x 10)
@@ -90,7 +90,7 @@ pairs_text (x ∷ y ∷ s) f e =
     ((rw (hi, lo, a.1, b.1) (ap (λ (z : Str). x ∷ y ∷ z) r.0)), and_more {b = hex_value x * 16 + hex_value y} (omega (arith, a.0, b.0)) r.1)
 
 pub text_pairs : (f : Str) → Small f → pairs (hex_text f ++ (10 ∷ [])) ≡ some f
-unfolding pairs hex_text joined hex_pair pair ◌and◌ if◌then◌else◌
+unfolding pairs hex_text joined hex_pair pair ◌and◌ whether◌then◌else◌
 text_pairs [] h = refl
 text_pairs (b ∷ f) (and_more l h) =
     let x = digit_back (b / 16) (omega arith) in

@@ -9,7 +9,7 @@ use lib.Dec.{eqb, leb, ltb}
 use lib.ListN.{length, drop, length-append, length-drop}
 use Rattle.limits.specs.Limits.{max_string}
 use Rattle.limits.specs.Sizes.{max_path_text, max_quoted, max_readable_line}
-use Rattle.text.specs.Test.{if◌then◌else◌}
+use Rattle.text.specs.Test.{whether◌then◌else◌}
 use Rattle.text.specs.String.{Str, joined}
 use Rattle.text.specs.Frame.{got, unread, Reader, ◌>>=◌, ret, byte, string}
 use Rattle.text.proofs.Tests.{by}
@@ -39,7 +39,7 @@ abbrev Short : ℕ → Reader Str → Type 0
 Short n r = (f : Str) (at : ℕ) (w : Str) (t : ℕ) → r f at ≡ got w t → length w ≤ n
 
 string_short : Short max_quoted shown_string
-unfolding shown_string ◌>>=◌ ret if◌then◌else◌ unknown quoted
+unfolding shown_string ◌>>=◌ ret whether◌then◌else◌ unknown quoted
 string_short f at w t e =
     let a = then_got (string f at) _ e in
     by (leb (length a.0) max_string)
@@ -47,14 +47,14 @@ string_short f at w t e =
     (λ u. never_got refl (rw u at a.3))
 
 time_short : Short 16 shown_time
-unfolding shown_time if◌then◌else◌
+unfolding shown_time whether◌then◌else◌
 time_short f at w t e =
     by (eqb (length f - at) 8)
     (λ u. got_move (λ z q. length z ≤ 16) (rw u at e) (omega (arith, eqb-true (length f - at) 8 u, hex_length (drop at f), length-drop at f)))
     (λ u. never_got refl (rw u at e))
 
 path_short : Short max_path_text shown_path
-unfolding shown_path of_rest if◌then◌else◌
+unfolding shown_path of_rest whether◌then◌else◌
 path_short f at w t e = by (ltb at (length f)) (λ u. go (text_for (drop at f)) refl (rw u at e)) (λ u. never_got refl (rw u at e))
   where
     go : (o : Option Str) → text_for (drop at f) ≡ o → rest o (length f) ≡ got w t → length w ≤ max_path_text
@@ -62,7 +62,7 @@ path_short f at w t e = by (ltb at (length f)) (λ u. go (text_for (drop at f)) 
     go (some s) i k = let k' : got s (length f) ≡ got w t = (unfold rest in k) in got_move (λ z q. length z ≤ max_path_text) k' (text_bound (drop at f) s i)
 
 code_short : (n : ℕ) (a b : Str) → length a ≤ 6 → length b ≤ 6 → Short 6 (shown_code n a b)
-unfolding shown_code ◌>>=◌ ret if◌then◌else◌ unknown
+unfolding shown_code ◌>>=◌ ret whether◌then◌else◌ unknown
 code_short n a b x y f at w t e =
     let c = then_got (byte f at) _ e in
     by (eqb c.0 n) (λ u. got_move (λ z q. length z ≤ 6) (rw u at c.3) x)

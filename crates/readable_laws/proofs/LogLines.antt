@@ -10,7 +10,7 @@ use lib.Dec.{eqb, leb, ltb}
 use lib.ListN.{length, length-append}
 use Rattle.limits.specs.Limits.{max_short_string, max_keys, max_elements}
 use Rattle.limits.specs.Sizes.{max_log_line}
-use Rattle.text.specs.Test.{◌and◌, ◌or◌, if◌then◌else◌, all, any, absent}
+use Rattle.text.specs.Test.{◌and◌, ◌or◌, whether◌then◌else◌, all, any, absent}
 use Rattle.text.specs.Byte.{is_print}
 use Rattle.text.specs.String.{Str, bytes, joined}
 use Rattle.text.specs.Refusal.{◌when◌else◌, clear}
@@ -47,7 +47,7 @@ use Rattle.readable_laws.proofs.Forward.{Reads, part_then, plain, plain_then, fi
 
 -- none of the three numbers
 unnumbered : (a b c : Bool) → (20 when a else 21 when b else 22 when c else clear) ≡ clear → (a ≡ false) × (b ≡ false) × (c ≡ false)
-unfolding if◌then◌else◌
+unfolding whether◌then◌else◌
 unnumbered true b c e = absurd (omega arith)
 unnumbered false true c e = absurd (omega arith)
 unnumbered false false true e = absurd (omega arith)
@@ -94,7 +94,7 @@ framed f q e =
     (λ l. record { user_at = a.1; origin_at_lem = u.1; path_at_lem = o.1; mode = a.2; user = u.2; origin = o.2; path_last = p.2 ∙ ap (got p.0) l }) refl
 
 unrefused_some : (o : Option Request) (q : Request) → unrefused o ≡ some q → (o ≡ some q) × (framed_refusal q ≡ clear)
-unfolding unrefused if◌then◌else◌
+unfolding unrefused whether◌then◌else◌
 unrefused_some none q e = let z : ◌≡◌ {A = ℕ} 0 1 = cc in absurd (omega arith)
 unrefused_some (some p) q e =
     by (eqb (framed_refusal p) clear)
@@ -111,9 +111,9 @@ mode_reads : (f : Str) (m p : ℕ) → byte f 0 ≡ got m p → bad_mode m ≡ f
 unfolding bad_mode ◌or◌
 mode_reads f m p e b cs r =
     by (eqb m 1)
-    (λ u. part_then 77 cs f 0 (bytes "read") p (unfold part_of shown if◌then◌else◌ in first_word 1 (bytes "read") (bytes "write") f 0 m p e u) (unfold all ◌and◌ in refl) r)
+    (λ u. part_then 77 cs f 0 (bytes "read") p (unfold part_of shown whether◌then◌else◌ in first_word 1 (bytes "read") (bytes "write") f 0 m p e u) (unfold all ◌and◌ in refl) r)
     (λ u. by (eqb m 2)
-    (λ v. part_then 77 cs f 0 (bytes "write") p (unfold part_of shown if◌then◌else◌ in second_word 1 (bytes "read") (bytes "write") f 0 m p e u v) (unfold all ◌and◌ in refl) r)
+    (λ v. part_then 77 cs f 0 (bytes "write") p (unfold part_of shown whether◌then◌else◌ in second_word 1 (bytes "read") (bytes "write") f 0 m p e u v) (unfold all ◌and◌ in refl) r)
     (λ v. clash refl (rw (u, v) at b)))
 
 request_reads : (f : Str) (q : Request) → Framed f q → Fine q → Reads request_form f 0
@@ -127,7 +127,7 @@ request_reads f q a w =
     (a_path f a.path_at_lem q.path a.path_last w.path))))))
 
 good_shown : (f : Str) (q : Request) → good_request f ≡ some q → (s : Str) × (shown_request f ≡ some s)
-unfolding shown_request good absent bind shown_by whole printed if◌then◌else◌
+unfolding shown_request good absent bind shown_by whole printed whether◌then◌else◌
 good_shown f q e =
     let a = good_told f q e in
     let r = request_reads f q a.0 a.1 in
@@ -143,9 +143,9 @@ good_some : (f g : Str) → good f ≡ some g → (f ≡ g) × (q : Request) × 
 unfolding good
 good_some f g e = go (good_request f) refl e
   where
-    go : (o : Option Request) → good_request f ≡ o → (if absent o then none else some f) ≡ some g → (f ≡ g) × (q : Request) × (good_request f ≡ some q)
-    go none i h = let h' : none ≡ some g = (unfold absent if◌then◌else◌ in h) in let z : ◌≡◌ {A = ℕ} 0 1 = cc in absurd (omega arith)
-    go (some q) i h = let h' : some f ≡ some g = (unfold absent if◌then◌else◌ in h) in let j : f ≡ g = cc in (j, q, i)
+    go : (o : Option Request) → good_request f ≡ o → (whether absent o then none else some f) ≡ some g → (f ≡ g) × (q : Request) × (good_request f ≡ some q)
+    go none i h = let h' : none ≡ some g = (unfold absent whether◌then◌else◌ in h) in let z : ◌≡◌ {A = ℕ} 0 1 = cc in absurd (omega arith)
+    go (some q) i h = let h' : some f ≡ some g = (unfold absent whether◌then◌else◌ in h) in let j : f ≡ g = cc in (j, q, i)
 
 request_pack_show : (s f : Str) → packed_request s ≡ some f → shown_request f ≡ some s
 unfolding packed_request shown_request bind

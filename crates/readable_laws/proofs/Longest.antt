@@ -11,7 +11,7 @@ use lib.Dec.{eqb, leb, ltb}
 use lib.ListN.{length, drop, get_or, length-append, length-drop}
 use Rattle.limits.specs.Limits.{max_table_text, max_groups, max_members, max_rules, max_short_string, max_string}
 use Rattle.limits.specs.Sizes.{max_readable_text}
-use Rattle.text.specs.Test.{◌or◌, if◌then◌else◌}
+use Rattle.text.specs.Test.{◌or◌, whether◌then◌else◌}
 use Rattle.text.specs.String.{Str, bytes, joined}
 use Rattle.text.specs.Frame.{got, unread, ◌>>=◌, ret, byte, run, string, string_bytes}
 use Rattle.text.specs.Refusal.{clear}
@@ -44,12 +44,12 @@ use Rattle.readable_laws.proofs.Accepted.{frame_told, entry_told, kind_told, lin
 -- by how much a part can be longer than two digits for each of its bytes: the words for the code bytes, and what stands for itself
 unfoldable extra : ℕ → ℕ
 extra c =
-    if eqb c 83 then 0
-    else if eqb c 84 then 0
-    else if eqb c 80 then 0
-    else if eqb c 65 then 4
-    else if eqb c 77 then 3
-    else if eqb c 75 then 3
+    whether eqb c 83 then 0
+    else whether eqb c 84 then 0
+    else whether eqb c 80 then 0
+    else whether eqb c 65 then 4
+    else whether eqb c 77 then 3
+    else whether eqb c 75 then 3
     else 1
 
 unfoldable extras : Str → ℕ
@@ -61,7 +61,7 @@ abbrev Longer : ℕ → Str → ℕ → ℕ → Type 0
 Longer n w at t = length w + 2 * at ≤ 2 * t + n
 
 string_longer : (f : Str) (at : ℕ) (w : Str) (t : ℕ) → shown_string f at ≡ got w t → Longer 0 w at t
-unfolding shown_string ◌>>=◌ ret if◌then◌else◌ unknown quoted string_bytes
+unfolding shown_string ◌>>=◌ ret whether◌then◌else◌ unknown quoted string_bytes
 string_longer f at w t e =
     let a = then_got (string f at) _ e in
     let k = string_took f at a.0 a.1 a.2 in
@@ -71,7 +71,7 @@ string_longer f at w t e =
     (λ u. never_got refl (rw u at a.3))
 
 time_longer : (f : Str) (at : ℕ) (w : Str) (t : ℕ) → shown_time f at ≡ got w t → Longer 0 w at t
-unfolding shown_time if◌then◌else◌
+unfolding shown_time whether◌then◌else◌
 time_longer f at w t e =
     by (eqb (length f - at) 8)
     (λ u. let h : length f - at ≡ 8 = eqb-true _ _ u in
@@ -79,7 +79,7 @@ time_longer f at w t e =
     (λ u. never_got refl (rw u at e))
 
 path_longer : (f : Str) (at : ℕ) (w : Str) (t : ℕ) → shown_path f at ≡ got w t → Longer 0 w at t
-unfolding shown_path of_rest if◌then◌else◌
+unfolding shown_path of_rest whether◌then◌else◌
 path_longer f at w t e =
     by (ltb at (length f)) (λ u. go (text_for (drop at f)) refl (rw u at e) (ltb-true _ _ u)) (λ u. never_got refl (rw u at e))
   where
@@ -88,7 +88,7 @@ path_longer f at w t e =
     go (some s) i k h = let k' : got s (length f) ≡ got w t = (unfold rest in k) in got_move (λ z q. Longer 0 z at q) k' (omega (arith, text_twice (drop at f) s i, length-drop at f))
 
 code_longer : (n m : ℕ) (a b f : Str) (at : ℕ) (w : Str) (t : ℕ) → length a ≤ m + 2 → length b ≤ m + 2 → shown_code n a b f at ≡ got w t → Longer m w at t
-unfolding shown_code ◌>>=◌ ret if◌then◌else◌ unknown
+unfolding shown_code ◌>>=◌ ret whether◌then◌else◌ unknown
 code_longer n m a b f at w t x y e =
     let c = then_got (byte f at) _ e in
     let k = byte_took f at c.0 c.1 c.2 in
@@ -100,7 +100,7 @@ code_longer n m a b f at w t x y e =
     (λ v. never_got refl (rw (u, v) at c.3)))
 
 part_longer : (c : ℕ) (f : Str) (at : ℕ) (w : Str) (t : ℕ) → part_of shown c f at ≡ got w t → Longer (extra c) w at t
-unfolding part_of extra shown if◌then◌else◌
+unfolding part_of extra shown whether◌then◌else◌
 part_longer c f at w t e =
     by (eqb c 83) (λ u. rw u (string_longer f at w t (rw u at e)))
     (λ u₁. by (eqb c 84) (λ u. rw (u₁, u) (time_longer f at w t (rw (u₁, u) at e)))
@@ -141,29 +141,29 @@ module _ (f : Str) (e : Entry) (w : Str) where
   form_longer cs n i g = omega (arith, parts_longer cs f 1 w (length f) g)
 
   version_longer : version_body f 1 ≡ got e (length f) → parts shown (bytes "version S time T") f 1 ≡ got w (length f) → Close e
-  unfolding version_body ◌>>=◌ ret slack extras extra if◌then◌else◌
+  unfolding version_body ◌>>=◌ ret slack extras extra whether◌then◌else◌
   version_longer h g =
       let a = then_got (string f 1) _ h in
       let b = then_got (run 8 f a.1) _ a.3 in
       got_move (λ x q. Close x) b.3 (form_longer (bytes "version S time T") 12 refl g)
 
   group_longer : group_body f 1 ≡ got e (length f) → parts shown (bytes "group S") f 1 ≡ got w (length f) → Close e
-  unfolding group_body ◌>>=◌ ret slack extras extra if◌then◌else◌
+  unfolding group_body ◌>>=◌ ret slack extras extra whether◌then◌else◌
   group_longer h g = let a = then_got (string f 1) _ h in got_move (λ x q. Close x) a.3 (form_longer (bytes "group S") 4 refl g)
 
   member_longer : member_body f 1 ≡ got e (length f) → parts shown (bytes "member S S") f 1 ≡ got w (length f) → Close e
-  unfolding member_body ◌>>=◌ ret slack extras extra if◌then◌else◌
+  unfolding member_body ◌>>=◌ ret slack extras extra whether◌then◌else◌
   member_longer h g =
       let a = then_got (string f 1) _ h in
       let b = then_got (string f a.1) _ a.3 in
       got_move (λ x q. Close x) b.3 (form_longer (bytes "member S S") 6 refl g)
 
   rule_longer : rule_entry f 1 ≡ got e (length f) → parts shown (bytes "rule A M K S id S origin S P") f 1 ≡ got w (length f) → Close e
-  unfolding rule_entry ◌>>=◌ ret slack extras extra if◌then◌else◌
+  unfolding rule_entry ◌>>=◌ ret slack extras extra whether◌then◌else◌
   rule_longer h g = let a = then_got (rule_body f 1) _ h in got_move (λ x q. Close x) a.3 (form_longer (bytes "rule A M K S id S origin S P") 29 refl g)
 
   kind_longer : (k : ℕ) → body k f 1 ≡ got e (length f) → form_by shown k f 1 ≡ got w (length f) → Close e
-  unfolding body form_by if◌then◌else◌ unknown
+  unfolding body form_by whether◌then◌else◌ unknown
   kind_longer k h g =
       by (eqb k 1) (λ u. version_longer (rw u at h) (rw u at g))
       (λ u₁. by (eqb k 2) (λ u. group_longer (rw (u₁, u) at h) (rw (u₁, u) at g))
@@ -190,10 +190,10 @@ line_longer l f r e i j k =
 
 -- by how much the readable lines that can still follow are longer
 unfoldable spare : Earlier → ℕ
-spare b = (if eqb b.kind 0 then 12 else 0) + 4 * (max_groups - length b.groups) + 6 * (max_members - length b.members) + 29 * (max_rules - length b.rules)
+spare b = (whether eqb b.kind 0 then 12 else 0) + 4 * (max_groups - length b.groups) + 6 * (max_members - length b.members) + 29 * (max_rules - length b.rules)
 
 spends : (b : Earlier) (e : Entry) → refusal b (reads e) ≡ clear → slack e + spare (with b e) ≤ spare b
-unfolding slack spare with past_limit kind_of out_of_order if◌then◌else◌ ◌or◌
+unfolding slack spare with past_limit kind_of out_of_order whether◌then◌else◌ ◌or◌
 spends b (version v t) h =
     let c = refusal_clear b (version v t) h in
     by (eqb b.kind 0) (λ u. rw u (omega arith)) (λ u. let z : (true or ltb 1 b.kind) ≡ false = rw u at c.0 in clash refl z)
@@ -225,7 +225,7 @@ line_spends b l h =
     (r.0, r.1, rw (after_with b l a.0 c.0 a.1 c.1) (omega arith))
 
 fits_all : (ls : List Str) (n : ℕ) (b : Earlier) → judge n b ls ≡ Accepted → (room m at : ℕ) → at + length (joint ls) + spare b ≤ room → ending shown_line room m at ls ≡ ended.Full → ⊥
-unfolding judge unless ending onward if◌then◌else◌
+unfolding judge unless ending onward whether◌then◌else◌
 fits_all [] n b j room m at h e = let z : ◌≡◌ {A = ℕ} 0 1 = cc in absurd (omega arith)
 fits_all (l ∷ ls) n b j room m at h e =
     by (eqb (refusal b (line_of l)) clear)
@@ -238,7 +238,7 @@ fits_all (l ∷ ls) n b j room m at h e =
 
 -- `show` of an accepted table never lacks this room
 pub accepted_fits : (t : Str) → check t ≡ Accepted → (room : ℕ) → max_readable_text ≤ room → ending shown_line room 1 0 (lines t) ≡ ended.Full → ⊥
-unfolding check if◌then◌else◌
+unfolding check whether◌then◌else◌
 accepted_fits t e room h =
     by (ltb max_table_text (length t))
     (λ u. let z : Refused 1 0 ≡ Accepted = rw u at e in let y : ◌≡◌ {A = ℕ} 0 1 = cc in absurd (omega arith))
@@ -246,5 +246,5 @@ accepted_fits t e room h =
     (λ v. let z : Refused 4 1 ≡ Accepted = rw (u, v) at e in let y : ◌≡◌ {A = ℕ} 0 1 = cc in absurd (omega arith))
     (λ v. let l : length t ≤ max_table_text = ltb-false _ _ u in
     let k : length (joint (lines t)) ≡ length t = ap length (lines_text t) in
-    let s : spare first ≡ max_readable_text - max_table_text = (unfold spare first if◌then◌else◌ in refl) in
+    let s : spare first ≡ max_readable_text - max_table_text = (unfold spare first whether◌then◌else◌ in refl) in
     fits_all (lines t) 1 first (rw (u, v) at e) room 1 0 (omega arith)))

@@ -7,7 +7,7 @@ use borrow.Author.Tests.{le-leb}
 use lib.Dec.{leb}
 use lib.ListN.{length, take}
 use Rattle.limits.specs.Sizes.{max_readable_text}
-use Rattle.text.specs.Test.{if◌then◌else◌}
+use Rattle.text.specs.Test.{whether◌then◌else◌}
 use Rattle.text.specs.String.{Str}
 use Rattle.text.specs.Fill.{put}
 use Rattle.text.proofs.Tests.{by}
@@ -40,7 +40,7 @@ shown_told checked.Accepted t out n e = (refl, all_told (ending shown_line (leng
 -- a table that was shown, packed again: s is the readable text, which `show` left in `out`
 pub table_returns : (t : Str) (out out' : List ℕ) (n : ℕ) → show_answer (check t) t out ≡ Length n → length t ≤ length out' → (s : Str) → s ≡ take n (show_lent (check t) t out)
     → (pack_answer (packed_end s) (packed_table s) out' ≡ Length (length t)) × (pack_lent (packed_end s) (packed_table s) out' ≡ put out' 0 t)
-unfolding show_lent pack_answer pack_lent made_answer made_lent if◌then◌else◌
+unfolding show_lent pack_answer pack_lent made_answer made_lent whether◌then◌else◌
 table_returns t out out' n e h s i =
     let a = shown_told (check t) t out n e in
     let w = stored shown_line (length out) 0 (lines t) in
@@ -54,7 +54,7 @@ table_returns t out out' n e h s i =
 
 -- what an answer of `pack` tells
 made_told : (c : Checked) (t : Str) (out : List ℕ) (n : ℕ) → made_answer c t out ≡ Length n → (c ≡ checked.Accepted) × (n ≡ length t) × (made_lent c t out ≡ put out 0 t)
-unfolding made_answer made_lent if◌then◌else◌
+unfolding made_answer made_lent whether◌then◌else◌
 made_told (checked.Refused k l) t out n e = let z : ◌≡◌ {A = ℕ} 0 1 = cc in absurd (omega arith)
 made_told checked.Accepted t out n e =
     by (leb (length t) (length out))

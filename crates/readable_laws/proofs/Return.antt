@@ -10,7 +10,7 @@ use lib.Dec.{eqb, leb, ltb}
 use lib.ListN.{length, take, drop, get_or, length-append, length-drop, take-append-drop}
 use lib.Seq.{take_at, drop_at, drop-drop, drop-length}
 use Rattle.limits.specs.Limits.{max_string}
-use Rattle.text.specs.Test.{◌and◌, if◌then◌else◌}
+use Rattle.text.specs.Test.{◌and◌, whether◌then◌else◌}
 use Rattle.text.specs.String.{Str, same, joined}
 use Rattle.text.specs.Frame.{got, unread, ◌>>=◌, ret, byte, part, string, string_bytes}
 use Rattle.text.proofs.Tests.{by, and_l, and_r, same→≡, ≡→same}
@@ -30,7 +30,7 @@ use Rattle.readable_laws.proofs.Inverse.{Back, BackLast}
 -- ---- strings
 
 value_few : (n : ℕ) (s : Str) (at : ℕ) (v : Str) (t : ℕ) → value n s at ≡ got v t → length v ≤ n
-unfolding value if◌then◌else◌ ◌>>=◌ ret
+unfolding value whether◌then◌else◌ ◌>>=◌ ret
 value_few zero s at v t e =
     by (eqb (get_or s at 0) 93)
     (λ u. got_move (λ x q. length x ≤ 0) (rw u at e) (omega arith))
@@ -44,7 +44,7 @@ value_few (suc n) s at v t e =
     got_move (λ x q. length x ≤ suc n) b.3 (let h = value_few n s a.1 b.0 b.1 b.2 in omega arith))
 
 shown_gives : (v : Str) → length v ≤ max_string → (f : Str) (k : ℕ) (more : Str) → drop k f ≡ string_bytes v ++ more → Gives (shown_string f k) f (quoted v) more
-unfolding shown_string ◌>>=◌ ret if◌then◌else◌
+unfolding shown_string ◌>>=◌ ret whether◌then◌else◌
 shown_gives v h f k more i = then_gives (string f k) _ f v _ more more (string_gives f k v more i) (λ p j. (p, rw (le-leb (length v) max_string h), j))
 
 packed_gives : (v : Str) → length v ≤ max_string → (s : Str) (k : ℕ) (more : Str) → drop k s ≡ quoted v ++ more → Gives (packed_string s k) s (string_bytes v) more
@@ -68,7 +68,7 @@ module _ (P : Str → Type 0) where
       (quoted c.0, shown_took c.0 s at a.1 c.1 a.0 a.2 c.2, shown_gives c.0 (value_few max_string s a.1 c.0 c.1 c.2))
 
   pub string_shown : Back P shown_string packed_string
-  unfolding shown_string ◌>>=◌ ret if◌then◌else◌ unknown
+  unfolding shown_string ◌>>=◌ ret whether◌then◌else◌ unknown
   string_shown f at w t x l e =
       let a = then_got (string f at) _ e in
       by (leb (length a.0) max_string)
@@ -106,7 +106,7 @@ module _ (P : Str → Type 0) (n x y : ℕ) (xs ys : Str) (d : x ≡ y → ⊥) 
       (λ u. rw u)
 
   pub code_packed : Back P (packed_code n (x ∷ xs) (y ∷ ys)) (shown_code n (x ∷ xs) (y ∷ ys))
-  unfolding packed_code if◌then◌else◌
+  unfolding packed_code whether◌then◌else◌
   code_packed s at b t z l e =
       by (stands_at (x ∷ xs) s at)
       (λ u. got_move (λ c q. (w : Str) × Took s at w q × ((f : Str) (k : ℕ) (more : Str) → drop k f ≡ c ++ more → Gives (shown_code n (x ∷ xs) (y ∷ ys) f k) f w more)) (rw u at e)
@@ -125,14 +125,14 @@ module _ (P : Str → Type 0) (n x y : ℕ) (xs ys : Str) (d : x ≡ y → ⊥) 
           then_gives (byte f k) _ f (n + 1) _ more more (byte_gives f k (n + 1) more i) (λ p j. (p, rw (ne_eqb (n + 1) n (λ z. omega arith), eq-eqb (n + 1) (n + 1) refl), j))
 
   gives_first : (s : Str) (k : ℕ) (more : Str) → drop k s ≡ (x ∷ xs) ++ more → Gives (packed_code n (x ∷ xs) (y ∷ ys) s k) s (n ∷ []) more
-  unfolding packed_code if◌then◌else◌
+  unfolding packed_code whether◌then◌else◌
   gives_first s k more i =
       let b = first_byte s k x (xs ++ more) i in
       let h = gives_stands (x ∷ xs) s k more (omega (arith, b.0)) i in
       (k + length (x ∷ xs), rw h, sym (drop-drop (length (x ∷ xs)) k s) ∙ rw i (drop_at (x ∷ xs) more (length (x ∷ xs)) refl))
 
   gives_second : (s : Str) (k : ℕ) (more : Str) → drop k s ≡ (y ∷ ys) ++ more → Gives (packed_code n (x ∷ xs) (y ∷ ys) s k) s ((n + 1) ∷ []) more
-  unfolding packed_code if◌then◌else◌
+  unfolding packed_code whether◌then◌else◌
   gives_second s k more i =
       let b = first_byte s k y (ys ++ more) i in
       let h = gives_stands (y ∷ ys) s k more (omega (arith, b.0)) i in
@@ -140,7 +140,7 @@ module _ (P : Str → Type 0) (n x y : ℕ) (xs ys : Str) (d : x ≡ y → ⊥) 
       (k + length (y ∷ ys), rw (g, h), sym (drop-drop (length (y ∷ ys)) k s) ∙ rw i (drop_at (y ∷ ys) more (length (y ∷ ys)) refl))
 
   pub code_shown : Back P (shown_code n (x ∷ xs) (y ∷ ys)) (packed_code n (x ∷ xs) (y ∷ ys))
-  unfolding shown_code ◌>>=◌ ret if◌then◌else◌ unknown
+  unfolding shown_code ◌>>=◌ ret whether◌then◌else◌ unknown
   code_shown f at w t z l e =
       let a = then_got (byte f at) _ e in
       by (eqb a.0 n)
@@ -155,7 +155,7 @@ module _ (P : Str → Type 0) (n x y : ℕ) (xs ys : Str) (d : x ≡ y → ⊥) 
 
 module _ (P : Str → Type 0) (c : ℕ) where
   pub plain_packed : Back P (packed_plain c) (shown_plain c)
-  unfolding packed_plain ◌and◌ if◌then◌else◌ shown_plain ret
+  unfolding packed_plain ◌and◌ whether◌then◌else◌ shown_plain ret
   plain_packed s at b t z l e =
       by (ltb at (length s))
       (λ u. by (eqb (get_or s at 0) c)
@@ -165,7 +165,7 @@ module _ (P : Str → Type 0) (c : ℕ) where
       (λ u. never_got refl (rw u at e))
 
   plain_gives : (s : Str) (k : ℕ) (more : Str) → drop k s ≡ c ∷ more → Gives (packed_plain c s k) s [] more
-  unfolding packed_plain ◌and◌ if◌then◌else◌
+  unfolding packed_plain ◌and◌ whether◌then◌else◌
   plain_gives s k more i = let h = first_byte s k c more i in (k + 1, rw (lt-ltb k (length s) h.0, eq-eqb (get_or s k 0) c h.1), h.2)
 
   pub plain_shown : Back P (shown_plain c) (packed_plain c)
@@ -182,25 +182,25 @@ all_took s at = record { same = sym (append-nil (drop at s)) ∙ ap (λ (z : Str
 
 -- f and g are each other's inverse
 module _ (f g : Str → Option Str) (inverse : (s b : Str) → f s ≡ some b → g b ≡ some s) where
-  rest_gives : (w b : Str) → g b ≡ some w → (s : Str) (k : ℕ) → drop k s ≡ b → 0 < length b → Gives (if ltb k (length s) then rest (g (drop k s)) (length s) else unread) s w []
-  unfolding if◌then◌else◌ rest
+  rest_gives : (w b : Str) → g b ≡ some w → (s : Str) (k : ℕ) → drop k s ≡ b → 0 < length b → Gives (whether ltb k (length s) then rest (g (drop k s)) (length s) else unread) s w []
+  unfolding whether◌then◌else◌ rest
   rest_gives w b e s k i h =
       let l : length s - k ≡ length b = sym (length-drop k s) ∙ ap length i in
       (length s, rw (lt-ltb k (length s) (omega arith), i, e), drop-length s)
 
   rest_back : (s : Str) (at : ℕ) (o : Option Str) (b : Str) (t : ℕ) → f (drop at s) ≡ o → rest o (length s) ≡ got b t → ((b : Str) → g b ≡ some (drop at s) → 0 < length b)
-      → (w : Str) × Took s at w t × ((z : Str) (k : ℕ) → drop k z ≡ b → Gives (if ltb k (length z) then rest (g (drop k z)) (length z) else unread) z w [])
+      → (w : Str) × Took s at w t × ((z : Str) (k : ℕ) → drop k z ≡ b → Gives (whether ltb k (length z) then rest (g (drop k z)) (length z) else unread) z w [])
   unfolding rest
   rest_back s at none b t e h n = never_got refl h
   rest_back s at (some c) b t e h n =
-      got_move (λ d q. (w : Str) × Took s at w q × ((z : Str) (k : ℕ) → drop k z ≡ d → Gives (if ltb k (length z) then rest (g (drop k z)) (length z) else unread) z w [])) h
+      got_move (λ d q. (w : Str) × Took s at w q × ((z : Str) (k : ℕ) → drop k z ≡ d → Gives (whether ltb k (length z) then rest (g (drop k z)) (length z) else unread) z w [])) h
       (drop at s, all_took s at, λ z k i. rest_gives (drop at s) c (inverse (drop at s) c e) z k i (n c (inverse (drop at s) c e)))
 
 no_text : text_for [] ≡ none
-no_text = unfold text_for read_bytes path whole byte ◌>>=◌ if◌then◌else◌ in refl
+no_text = unfold text_for read_bytes path whole byte ◌>>=◌ whether◌then◌else◌ in refl
 
 no_bytes : bytes_for [] ≡ none
-no_bytes = unfold bytes_for read_text same if◌then◌else◌ in refl
+no_bytes = unfold bytes_for read_text same whether◌then◌else◌ in refl
 
 some_long : (f : Str → Option Str) → f [] ≡ none → (b w : Str) → f b ≡ some w → 0 < length b
 some_long f e [] w i = let z : none ≡ some w = sym e ∙ i in let y : ◌≡◌ {A = ℕ} 0 1 = cc in absurd (omega arith)
@@ -208,14 +208,14 @@ some_long f e (x ∷ b) w i = omega arith
 
 module _ (P : Str → Type 0) where
   pub path_packed : BackLast P packed_path shown_path
-  unfolding packed_path shown_path of_rest if◌then◌else◌
+  unfolding packed_path shown_path of_rest whether◌then◌else◌
   path_packed s at b t z l e =
       by (ltb at (length s))
       (λ u. rest_back bytes_for text_for read_write s at (bytes_for (drop at s)) b t refl (rw u at e) (λ c i. some_long text_for no_text c (drop at s) i))
       (λ u. never_got refl (rw u at e))
 
   pub path_shown : BackLast P shown_path packed_path
-  unfolding packed_path shown_path of_rest if◌then◌else◌
+  unfolding packed_path shown_path of_rest whether◌then◌else◌
   path_shown s at b t z l e =
       by (ltb at (length s))
       (λ u. rest_back text_for bytes_for write_read s at (text_for (drop at s)) b t refl (rw u at e) (λ c i. some_long bytes_for no_bytes c (drop at s) i))

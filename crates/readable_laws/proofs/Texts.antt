@@ -10,7 +10,7 @@ use lib.Dec.{eqb, leb, ltb}
 use lib.ListN.{length, take, drop, get_or, length-append, take-append-drop}
 use lib.Seq.{drop-cons, drop-length}
 use Rattle.limits.specs.Limits.{max_table_text}
-use Rattle.text.specs.Test.{if◌then◌else◌, all}
+use Rattle.text.specs.Test.{whether◌then◌else◌, all}
 use Rattle.text.specs.Byte.{is_print}
 use Rattle.text.specs.String.{Str, joined}
 use Rattle.text.specs.Refusal.{clear}
@@ -93,11 +93,11 @@ joint_cons l ls = refl
 -- where a line is converted and there is room for it
 module _ (g : Str → Option Str) (room n at : ℕ) (l w : Str) (ls : List Str) (e : g l ≡ some w) (h : length w ≤ room - at) where
   step_end : ending g room n at (l ∷ ls) ≡ ending g room (n + 1) (at + length w) ls
-  unfolding ending onward if◌then◌else◌
+  unfolding ending onward whether◌then◌else◌
   step_end = rw (e, le-leb _ _ h)
 
   step_stored : stored g room at (l ∷ ls) ≡ w ++ stored g room (at + length w) ls
-  unfolding stored storing if◌then◌else◌
+  unfolding stored storing whether◌then◌else◌
   step_stored = rw (e, le-leb _ _ h)
 
 -- it is, where all lines are
@@ -109,7 +109,7 @@ step_told g room n at m l ls e = go (g l) refl e
     go none j k = let k' : ended.Unread n ≡ ended.All m = unfold onward in k in let z : ◌≡◌ {A = ℕ} 0 1 = cc in absurd (omega arith)
     go (some w) j k =
         by (leb (length w) (room - at)) (λ u. (w, j, leb-true _ _ u))
-        (λ u. let k' : ended.Full ≡ ended.All m = (unfold onward if◌then◌else◌ in rw u at k) in let z : ◌≡◌ {A = ℕ} 0 1 = cc in absurd (omega arith))
+        (λ u. let k' : ended.Full ≡ ended.All m = (unfold onward whether◌then◌else◌ in rw u at k) in let z : ◌≡◌ {A = ℕ} 0 1 = cc in absurd (omega arith))
 
 -- g' takes each line back that g makes, where the lines made are well
 module _ (g g' : Str → Option Str) (Well : List Str → Type 0) (well-tail : (l : Str) (ls : List Str) → Well (l ∷ ls) → Well ls)
@@ -179,7 +179,7 @@ hex_same (b ∷ f) (c ∷ g) e =
     rw (n, hex_same f g k)
 
 unlined_some : (r s : Str) → unlined r ≡ some s → r ≡ s ++ (10 ∷ [])
-unfolding unlined if◌then◌else◌
+unfolding unlined whether◌then◌else◌
 unlined_some [] s e = let z : ◌≡◌ {A = ℕ} 0 1 = cc in absurd (omega arith)
 unlined_some (x ∷ r) s e =
     let n = length (x ∷ r) - 1 in
@@ -236,15 +236,15 @@ unfolding judge unless line_of
 judge_framed [] n b e = no_line
 judge_framed (l ∷ ls) n b e = go (λ m c i. judge_framed ls m c i) (frame l) refl e
   where
-    go : ((m : ℕ) (c : Earlier) → judge m c ls ≡ Accepted → Framed ls) → (o : Option Str) → frame l ≡ o → (if eqb (refusal b (decoded o)) clear then judge (n + 1) (after b (decoded o)) ls else Refused (refusal b (decoded o)) n) ≡ Accepted → Framed (l ∷ ls)
-    go ih none j k = let z : Refused 2 n ≡ Accepted = (unfold decoded refusal if◌then◌else◌ in k) in let y : ◌≡◌ {A = ℕ} 0 1 = cc in absurd (omega arith)
+    go : ((m : ℕ) (c : Earlier) → judge m c ls ≡ Accepted → Framed ls) → (o : Option Str) → frame l ≡ o → (whether eqb (refusal b (decoded o)) clear then judge (n + 1) (after b (decoded o)) ls else Refused (refusal b (decoded o)) n) ≡ Accepted → Framed (l ∷ ls)
+    go ih none j k = let z : Refused 2 n ≡ Accepted = (unfold decoded refusal whether◌then◌else◌ in k) in let y : ◌≡◌ {A = ℕ} 0 1 = cc in absurd (omega arith)
     go ih (some f) j k =
         by (eqb (refusal b (decoded (some f))) clear)
-        (λ u. a_line f j (ih (n + 1) (after b (decoded (some f))) (unfold if◌then◌else◌ in rw u at k)))
-        (λ u. let z : Refused (refusal b (decoded (some f))) n ≡ Accepted = (unfold if◌then◌else◌ in rw u at k) in let y : ◌≡◌ {A = ℕ} 0 1 = cc in absurd (omega arith))
+        (λ u. a_line f j (ih (n + 1) (after b (decoded (some f))) (unfold whether◌then◌else◌ in rw u at k)))
+        (λ u. let z : Refused (refusal b (decoded (some f))) n ≡ Accepted = (unfold whether◌then◌else◌ in rw u at k) in let y : ◌≡◌ {A = ℕ} 0 1 = cc in absurd (omega arith))
 
 check_framed : (t : Str) → check t ≡ Accepted → Framed (lines t)
-unfolding check if◌then◌else◌
+unfolding check whether◌then◌else◌
 check_framed t e =
     by (ltb max_table_text (length t))
     (λ u. let z : Refused 1 0 ≡ Accepted = rw u at e in let y : ◌≡◌ {A = ℕ} 0 1 = cc in absurd (omega arith))

@@ -9,7 +9,7 @@ use borrow.Author.Tests.{eq-eqb, ne_eqb, eqb-true}
 use lib.Dec.{eqb, ltb}
 use lib.ListN.{length, take, drop, length-append, length-drop}
 use lib.Seq.{take_at, drop-length}
-use Rattle.text.specs.Test.{if◌then◌else◌}
+use Rattle.text.specs.Test.{whether◌then◌else◌}
 use Rattle.text.specs.String.{Str, joined}
 use Rattle.text.specs.Frame.{got}
 use Rattle.text.proofs.Tests.{by}
@@ -79,13 +79,13 @@ small_drop (suc k) (x ∷ s) (and_more l h) = small_drop k s h
 -- ---- the time
 
 shown_time_lem : (f : Str) (k : ℕ) (b : Str) → length b ≡ 8 → drop k f ≡ b → Gives (shown_time f k) f (hex_text b) []
-unfolding shown_time if◌then◌else◌
+unfolding shown_time whether◌then◌else◌
 shown_time_lem f k b h i =
     let l : length f - k ≡ 8 = sym (length-drop k f) ∙ ap length i ∙ h in
     (length f, rw (eq-eqb (length f - k) 8 l, i), drop-length f)
 
 packed_time_lem : (s : Str) (k : ℕ) (x : Str) → Small x → length x ≡ 8 → drop k s ≡ hex_text x → Gives (packed_time s k) s x []
-unfolding packed_time if◌then◌else◌ rest alone
+unfolding packed_time whether◌then◌else◌ rest alone
 packed_time_lem s k x m h i =
     let l : length s - k ≡ 16 = sym (length-drop k s) ∙ ap length i ∙ (let z = hex_length x in let y : length (hex_text x) ≡ 16 = omega arith in y) in
     (length s, rw (eq-eqb (length s - k) 16 l, i, hex_line_lem x [], no_lines, text_frame x m (omega arith)), drop-length s)
@@ -95,7 +95,7 @@ packed_time_lem s k x m h i =
 
 module _ (P : Str → Type 0) where
   pub time_packed : BackLast P packed_time shown_time
-  unfolding packed_time if◌then◌else◌
+  unfolding packed_time whether◌then◌else◌
   time_packed s at b t z l e =
       by (eqb (length s - at) 16)
       (λ u. let r = rest_some (alone (lines (drop at s ++ (10 ∷ [])))) (length s) b t (rw u at e) in
@@ -105,7 +105,7 @@ module _ (P : Str → Type 0) where
       (λ u. never_got refl (rw u at e))
 
 pub time_shown : BackLast Small shown_time packed_time
-unfolding shown_time if◌then◌else◌
+unfolding shown_time whether◌then◌else◌
 time_shown f at w t z l e =
     by (eqb (length f - at) 8)
     (λ u. got_move (λ d q. (b : Str) × Took f at b q × ((s : Str) (k : ℕ) → drop k s ≡ d → Gives (packed_time s k) s b [])) (rw u at e)

@@ -11,7 +11,7 @@ use lib.Dec.{eqb}
 use lib.ListN.{length, take, drop, get_or, set, length-append, drop_of_length-le}
 use lib.Seq.{drop-cons}
 use Rattle.limits.specs.Sizes.{max_readable_line}
-use Rattle.text.specs.Test.{◌and◌, if◌then◌else◌, all}
+use Rattle.text.specs.Test.{◌and◌, whether◌then◌else◌, all}
 use Rattle.text.specs.Byte.{is_print}
 use Rattle.text.specs.String.{Str, bytes}
 use Rattle.text.specs.Frame.{Parsed, got, unread, and_then, Reader, ◌>>=◌, ret}
@@ -112,43 +112,43 @@ module _ (p : Parts) (form s : Str) (start : ℕ) (d : List ℕ) (to : ℕ) wher
 
 module _ (p : Parts) (k : ℕ) (s : Str) (at : ℕ) where
   pub kind_version_lem : k ≡ 1 → form_by p k s at ≡ parts p (bytes "version S time T") s at
-  unfolding form_by if◌then◌else◌
+  unfolding form_by whether◌then◌else◌
   kind_version_lem e = rw e
 
   pub kind_group_lem : k ≡ 2 → form_by p k s at ≡ parts p (bytes "group S") s at
-  unfolding form_by if◌then◌else◌
+  unfolding form_by whether◌then◌else◌
   kind_group_lem e = rw e
 
   pub kind_member_lem : k ≡ 3 → form_by p k s at ≡ parts p (bytes "member S S") s at
-  unfolding form_by if◌then◌else◌
+  unfolding form_by whether◌then◌else◌
   kind_member_lem e = rw e
 
   pub kind_rule_lem : k ≡ 4 → form_by p k s at ≡ parts p (bytes "rule A M K S id S origin S P") s at
-  unfolding form_by if◌then◌else◌
+  unfolding form_by whether◌then◌else◌
   kind_rule_lem e = rw e
 
   pub kind_none : (k ≡ 1 → ⊥) → (k ≡ 2 → ⊥) → (k ≡ 3 → ⊥) → (k ≡ 4 → ⊥) → form_by p k s at ≡ unread
-  unfolding form_by if◌then◌else◌ unknown
+  unfolding form_by whether◌then◌else◌ unknown
   kind_none a b c d = rw (ne_eqb k 1 a, ne_eqb k 2 b, ne_eqb k 3 c, ne_eqb k 4 d)
 
 pub room_version : room_for (bytes "version S time T") ≤ max_readable_line
-unfolding room_for longest if◌then◌else◌
+unfolding room_for longest whether◌then◌else◌
 room_version = omega arith
 
 pub room_group : room_for (bytes "group S") ≤ max_readable_line
-unfolding room_for longest if◌then◌else◌
+unfolding room_for longest whether◌then◌else◌
 room_group = omega arith
 
 pub room_member : room_for (bytes "member S S") ≤ max_readable_line
-unfolding room_for longest if◌then◌else◌
+unfolding room_for longest whether◌then◌else◌
 room_member = omega arith
 
 pub room_rule : room_for (bytes "rule A M K S id S origin S P") ≤ max_readable_line
-unfolding room_for longest if◌then◌else◌
+unfolding room_for longest whether◌then◌else◌
 room_rule = omega arith
 
 pub room_request : room_for request_form ≤ max_readable_line
-unfolding room_for longest if◌then◌else◌
+unfolding room_for longest whether◌then◌else◌
 room_request = omega arith
 
 -- ---- frames, shown
@@ -160,7 +160,7 @@ module _ (r : Reader Str) (f : Str) (at : ℕ) where
   shown_room (stops i) h = omega arith
 
   pub shown_fills : {d d' : List ℕ} {q : Stored} → Puts max_readable_line r f at d 0 d' q → Fills (shown_by r at f) d d' (closed (length f) d' q)
-  unfolding shown_by whole printed closed ◌and◌ if◌then◌else◌
+  unfolding shown_by whole printed closed ◌and◌ whether◌then◌else◌
   shown_fills (puts {w = w} {t = t} {d = d} {d' = d'} {end = end} i v b l) =
       let k : take end d' ≡ w = front d w d' end v in
       by (eqb t (length f))
@@ -169,38 +169,38 @@ module _ (r : Reader Str) (f : Str) (at : ℕ) where
   shown_fills (stops i) = rw i nothing
 
 pub frame_empty : (f : Str) → length f ≤ 0 → shown_frame f ≡ none
-frame_empty [] h = unfold shown_frame shown_by form_by if◌then◌else◌ unknown whole printed in refl
+frame_empty [] h = unfold shown_frame shown_by form_by whether◌then◌else◌ unknown whole printed in refl
 frame_empty (x ∷ f) h = absurd (omega arith)
 
 pub frame_fills : (f : Str) {d d' : List ℕ} {q : Stored} → Puts max_readable_line (form_by (parts_by false) (get_or f 0 0)) f 1 d 0 d' q → Fills (shown_frame f) d d' (closed (length f) d' q)
-unfolding shown_frame parts_by if◌then◌else◌
+unfolding shown_frame parts_by whether◌then◌else◌
 frame_fills f e = shown_fills _ f 1 e
 
 -- ---- readable lines, packed
 
 module _ (r : Reader Str) (s : Str) where
   pub packed_strange : all is_print s ≡ false → packed_by r s ≡ none
-  unfolding packed_by if◌then◌else◌
+  unfolding packed_by whether◌then◌else◌
   packed_strange e = rw e
 
   module _ (a : all is_print s ≡ true) {most to : ℕ} {d d' : List ℕ} {q : Stored} (e : Puts most r s 0 d to d' q) where
     pub packed_unread : q ≡ Unread → packed_by r s ≡ none
-    unfolding packed_by whole if◌then◌else◌
+    unfolding packed_by whole whether◌then◌else◌
     packed_unread g = rw (a, put_not e g)
 
     module _ {next end : ℕ} (g : q ≡ To next end) where
       pub packed_longer : (next ≡ length s → ⊥) → packed_by r s ≡ none
-      unfolding packed_by whole if◌then◌else◌
+      unfolding packed_by whole whether◌then◌else◌
       packed_longer n = rw (a, (put_to e g).1, ne_eqb _ _ n)
 
       pub packed_is : next ≡ length s → packed_by r s ≡ some (put_to e g).0
-      unfolding packed_by whole if◌then◌else◌
+      unfolding packed_by whole whether◌then◌else◌
       packed_is n = rw (a, (put_to e g).1, eq-eqb _ _ n)
 
 module _ (s : Str) where
   -- the kind byte before what is packed
   kinded : (k : ℕ) → k ≡ kind_by (get_or s 0 0) → {o : Option Str} → packed_by (form_by (parts_by true) k) s ≡ o → packed_frame s ≡ map (λ (f : Str). k ∷ f) o
-  unfolding packed_frame parts_by if◌then◌else◌
+  unfolding packed_frame parts_by whether◌then◌else◌
   kinded k i e = rw (← i, e)
 
   pub line_strange : all is_print s ≡ false → packed_frame s ≡ none
@@ -210,7 +210,7 @@ module _ (s : Str) where
   line_empty h = go s h
     where
       go : (g : Str) → length g ≤ 0 → packed_frame g ≡ none
-      go [] h = unfold packed_frame packed_by all kind_by form_by if◌then◌else◌ unknown whole in refl
+      go [] h = unfold packed_frame packed_by all kind_by form_by whether◌then◌else◌ unknown whole in refl
       go (x ∷ g) h = absurd (omega arith)
 
   module _ (a : all is_print s ≡ true) (k : ℕ) (i : k ≡ kind_by (get_or s 0 0)) (d d' : List ℕ) (r : Stored) (e : Puts max_readable_line (form_by (parts_by true) k) s 0 d 1 d' r) where

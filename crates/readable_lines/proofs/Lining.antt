@@ -9,7 +9,7 @@ use borrow.Author.Tests.{eqb-true}
 use lib.Dec.{eqb}
 use lib.ListN.{length, take, drop, get_or, set, length-append, length-drop, length-take}
 use lib.Seq.{take_at, drop-drop, get_or-append_seam}
-use Rattle.text.specs.Test.{if◌then◌else◌}
+use Rattle.text.specs.Test.{whether◌then◌else◌}
 use Rattle.text.specs.String.{Str}
 use Rattle.text.specs.Frame.{part}
 use Rattle.text.specs.Fill.{put}
@@ -35,7 +35,7 @@ use Rattle.readable_parts.proofs.Digits.{hex_length}
 
 -- a line with its LF, and the lines after it
 ended_line : (s : Str) → until (is 10) s < length s → lines s ≡ (take (until (is 10) s) s ++ (10 ∷ [])) ∷ lines (drop (suc (until (is 10) s)) s)
-unfolding lines onto until if◌then◌else◌
+unfolding lines onto until whether◌then◌else◌
 ended_line [] h = absurd (omega arith)
 ended_line (x ∷ s) h =
     by (eqb x 10)
@@ -44,13 +44,13 @@ ended_line (x ∷ s) h =
 
 -- no byte is an LF
 unended : (s : Str) → length s ≤ until (is 10) s → (i : ℕ) → i < length s → eqb (get_or s i 0) 10 ≡ false
-unfolding until if◌then◌else◌
+unfolding until whether◌then◌else◌
 unended [] h i l = absurd (omega arith)
 unended (x ∷ s) h zero l = by (eqb x 10) (λ u. let h' = rw u at h in absurd (omega arith)) (λ u. u)
 unended (x ∷ s) h (suc i) l = by (eqb x 10) (λ u. let h' = rw u at h in absurd (omega arith)) (λ u. let h' = rw u at h in unended s (omega arith) i (omega arith))
 
 pub unended_line : (s : Str) → 0 < length s → length s ≤ until (is 10) s → lines s ≡ s ∷ []
-unfolding lines onto until if◌then◌else◌
+unfolding lines onto until whether◌then◌else◌
 unended_line [] z h = absurd (omega arith)
 unended_line (x ∷ []) z h = by (eqb x 10) (λ u. let h' = rw u at h in absurd (omega arith)) (λ u. rw u)
 unended_line (x ∷ y ∷ s) z h =
@@ -58,13 +58,13 @@ unended_line (x ∷ y ∷ s) z h =
     (λ u. let h' = rw u at h in let i = unended_line (y ∷ s) (omega arith) (omega arith) in rw (u, i))
 
 pub unlined_line : (x : Str) → unlined (x ++ (10 ∷ [])) ≡ some x
-unfolding unlined if◌then◌else◌
+unfolding unlined whether◌then◌else◌
 unlined_line x =
     let l : length (x ++ (10 ∷ [])) - 1 ≡ length x = omega (arith, length-append x (10 ∷ [])) in
     rw (l, get_or-append_seam x 10 [] 0, take_at x (10 ∷ []) (length x) refl)
 
 unlined_none : (s : Str) → 0 < length s → length s ≤ until (is 10) s → unlined s ≡ none
-unfolding unlined if◌then◌else◌
+unfolding unlined whether◌then◌else◌
 unlined_none s z h = rw (unended s h (length s - 1) (omega arith))
 
 -- ---- a hex line, by what is shown of its frame

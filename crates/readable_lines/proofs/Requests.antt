@@ -8,7 +8,7 @@ use native.Mathlib.Omega.{arith}
 use borrow.Author.Tests.{not-true, not-false}
 use lib.ListN.{length, take}
 use Rattle.limits.specs.Sizes.{max_readable_line}
-use Rattle.text.specs.Test.{if◌then◌else◌, absent, all}
+use Rattle.text.specs.Test.{whether◌then◌else◌, absent, all}
 use Rattle.text.specs.Byte.{is_print}
 use Rattle.text.specs.String.{Str}
 use Rattle.text.specs.Refusal.{clear}
@@ -68,11 +68,11 @@ module _ (f : Str) {r : Heading} (e : r ≡ headed (heading f 0)) where
 
 module _ (f : Str) where
   pub good_no : not (absent (good_request f)) ≡ false → good f ≡ none
-  unfolding good if◌then◌else◌
+  unfolding good whether◌then◌else◌
   good_no e = rw (not-false (absent (good_request f)) e)
 
   pub good_yes : not (absent (good_request f)) ≡ true → good f ≡ some f
-  unfolding good if◌then◌else◌
+  unfolding good whether◌then◌else◌
   good_yes e = rw (not-true (absent (good_request f)) e)
 
   pub request_bad : not (absent (good_request f)) ≡ false → shown_request f ≡ none

@@ -1,7 +1,7 @@
 -- A line of a table or of a log, and its readable line.
 use Rattle.std.specs.Prelude.{◌-◌, Bool, [], ◌∷◌, ◌++◌, eqb, length, take, get_or}
 use Rattle.std.proofs.Math.Option.{Option, none, some, bind, map}
-use Rattle.text.specs.Test.{if◌then◌else◌}
+use Rattle.text.specs.Test.{whether◌then◌else◌}
 use Rattle.text.specs.String.{Str}
 use Rattle.table_line.specs.Lines.{frame}
 use Rattle.readable_parts.specs.Parts.{hex_text}
@@ -15,7 +15,7 @@ lined (some w) = some (w ++ (10 ∷ []))
 
 -- without its LF
 unfoldable pub unlined : Str → Option Str
-unlined l = if eqb (get_or l (length l - 1) 0) 10 then some (take (length l - 1) l) else none
+unlined l = whether eqb (get_or l (length l - 1) 0) 10 then some (take (length l - 1) l) else none
 
 -- a hex line to its readable line, by what is shown of its frame
 unfoldable pub shown_line_by : (Str → Option Str) → (Str → Option Str)
@@ -45,10 +45,10 @@ packed_log_line = packed_line_by packed_request
 
 -- of a log, or of a table
 unfoldable pub shown_for : Bool → (Str → Option Str)
-shown_for log = if log then shown_request else shown_frame
+shown_for log = whether log then shown_request else shown_frame
 
 unfoldable pub packed_for : Bool → (Str → Option Str)
-packed_for log = if log then packed_request else packed_frame
+packed_for log = whether log then packed_request else packed_frame
 
 unfoldable pub line_by : Bool → Bool → (Str → Option Str)
-line_by log packing = if packing then packed_line_by (packed_for log) else shown_line_by (shown_for log)
+line_by log packing = whether packing then packed_line_by (packed_for log) else shown_line_by (shown_for log)

@@ -2,7 +2,7 @@
 use Rattle.std.specs.Prelude.{ℕ, ◌+◌, ◌*◌, ◌≤◌, ◌<◌, ◌≡◌, Bool, List, [], ◌∷◌, eqb, length, take, drop}
 use Rattle.std.proofs.Math.Option.{Option, none, some}
 use Rattle.limits.specs.Sizes.{max_readable_line}
-use Rattle.text.specs.Test.{◌and◌, if◌then◌else◌, all}
+use Rattle.text.specs.Test.{◌and◌, whether◌then◌else◌, all}
 use Rattle.text.specs.Byte.{is_print}
 use Rattle.text.specs.String.{Str}
 use Rattle.text.specs.Steps.{Wrote}
@@ -22,7 +22,7 @@ max_made_line = 2 * max_made_frame + 1
 
 -- the readers for either direction
 unfoldable pub parts_by : Bool → Parts
-parts_by packing = if packing then packed else shown
+parts_by packing = whether packing then packed else shown
 
 -- the longest that such parts can be
 unfoldable pub room_for : Str → ℕ
@@ -41,7 +41,7 @@ stored_end stored.Unread = 0
 
 -- a reading that took all of `size` bytes and stored printable text at the start of `out`
 unfoldable pub closed : ℕ → List ℕ → Stored → Stored
-closed size out (stored.To next end) = if eqb next size and all is_print (take end out) then stored.To next end else stored.Unread
+closed size out (stored.To next end) = whether eqb next size and all is_print (take end out) then stored.To next end else stored.Unread
 closed size out stored.Unread = stored.Unread
 
 -- the line of the text that starts at `from` was converted by g to the start of d, and the next one starts at `next`; or g does not convert it

@@ -10,7 +10,7 @@ use lib.Dec.{eqb, ltb}
 use lib.ListN.{length, take, drop, length-drop}
 use lib.Seq.{take_all, drop-drop, drop-length, length-take-le}
 use Rattle.limits.specs.Sizes.{max_log_line}
-use Rattle.text.specs.Test.{if◌then◌else◌}
+use Rattle.text.specs.Test.{whether◌then◌else◌}
 use Rattle.text.specs.String.{Str}
 use Rattle.text.specs.Frame.{part}
 use Rattle.text.proofs.Tests.{by, and_left, and_right}
@@ -29,7 +29,7 @@ use Rattle.readable_log.specs.Run.{LineEnds}
 -- ---- where a line ends
 
 ended : (s : Str) → until (is 10) s < length s → lines s ≡ take (suc (until (is 10) s)) s ∷ lines (drop (suc (until (is 10) s)) s)
-unfolding lines onto until if◌then◌else◌
+unfolding lines onto until whether◌then◌else◌
 ended [] h = absurd (omega arith)
 ended (x ∷ s) h = by (eqb x 10) (λ u. rw u) (λ u. let h' = rw u at h in let i = ended s (omega arith) in rw (u, i))
 
@@ -109,7 +109,7 @@ too_long l h (some r) e = let q = shown_line_good l r e in absurd (omega (arith,
 
 module _ (packing : Bool) (n : ℕ) where
   pub long_line : (not packing && ltb max_log_line n) ≡ true → (l : Str) → length l ≡ n → line_by true packing l ≡ none
-  unfolding line_by shown_for shown_log_line if◌then◌else◌
+  unfolding line_by shown_for shown_log_line whether◌then◌else◌
   long_line h l e =
       let p : packing ≡ false = not-true packing (and_left _ _ h) in
       let k : max_log_line < n = ltb-true _ _ (and_right (not packing) _ h) in

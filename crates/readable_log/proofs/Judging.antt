@@ -8,7 +8,7 @@ use mathlib.Core.List.{List, [], ◌∷◌, ◌++◌}
 use mathlib.Core.Option.{Option, none, some}
 use lib.ListN.{length}
 use Rattle.limits.specs.Limits.{max_log_lines}
-use Rattle.text.specs.Test.{if◌then◌else◌, absent}
+use Rattle.text.specs.Test.{whether◌then◌else◌, absent}
 use Rattle.text.specs.String.{Str}
 use Rattle.table_line.specs.Lines.{lines}
 use Rattle.table.specs.declared.Checked.TheVariants.{Accepted, Refused}
@@ -48,7 +48,7 @@ first_converted g l ls w e = go (g l) refl (converted g ls) refl e
 
 passed : (taken : List Str) (number : ℕ) (w : Str) (rest : List Str) → converted shown_log_line taken ≡ some w → number + length taken ≤ max_log_lines + 1
     → judge_log number (taken ++ rest) ≡ judge_log (number + length taken) rest
-unfolding judge_log if◌then◌else◌
+unfolding judge_log whether◌then◌else◌
 passed [] number w rest e h = let z : number ≡ number + 0 = omega arith in ap (λ (n : ℕ). judge_log n rest) z
 passed (l ∷ taken) number w rest e h =
     let f = first_converted shown_log_line l taken w e in
@@ -64,14 +64,14 @@ module _ (log : Str) (taken : List Str) (w : Str) (e : converted shown_log_line 
   module _ (l : Str) (ls : List Str) (i : lines log ≡ taken ++ (l ∷ ls)) where
     -- the next one is not
     pub shown_up_to : length taken < max_log_lines → shown_log_line l ≡ none → check_log log ≡ Refused 51 (1 + length taken)
-    unfolding check_log judge_log if◌then◌else◌
+    unfolding check_log judge_log whether◌then◌else◌
     shown_up_to h n =
         let p = passed taken 1 w (l ∷ ls) e (omega arith) in
         rw i (p ∙ rw (le-ltb max_log_lines (1 + length taken) (omega arith), unshown_absent l n))
 
     -- the next one is one too many
     pub shown_most : length taken ≡ max_log_lines → check_log log ≡ Refused 50 0
-    unfolding check_log judge_log if◌then◌else◌
+    unfolding check_log judge_log whether◌then◌else◌
     shown_most h =
         let p = passed taken 1 w (l ∷ ls) e (omega arith) in
         rw i (p ∙ rw (lt-ltb max_log_lines (1 + length taken) (omega arith)))

@@ -9,7 +9,7 @@ use borrow.Author.Tests.{eq-eqb, ne_eqb, lt-ltb, le-ltb, le-leb, lt-leb, leb-tru
 use lib.ListN.{length, take, drop, get_or, set, length-append, length-drop, drop_of_length-le}
 use Rattle.limits.specs.Limits.{max_string}
 use Rattle.limits.specs.Sizes.{max_string_bytes, max_quoted}
-use Rattle.text.specs.Test.{◌and◌, if◌then◌else◌}
+use Rattle.text.specs.Test.{◌and◌, whether◌then◌else◌}
 use Rattle.text.specs.String.{Str, same}
 use Rattle.text.specs.Frame.{got, unread, ◌>>=◌, ret, part, string_bytes}
 use Rattle.text.specs.Fill.{put}
@@ -33,14 +33,14 @@ use Rattle.readable_parts.proofs.Rest.{tail}
 
 module _ (s : Str) (at : ℕ) where
   pub string_unpacked : (get_or s at 0 ≡ 91 → ⊥) → packed_string s at ≡ unread
-  unfolding packed_string ◌>>=◌ literal if◌then◌else◌
+  unfolding packed_string ◌>>=◌ literal whether◌then◌else◌
   string_unpacked h = rw (ne_eqb _ _ h)
 
   pub string_past : length s ≤ at → packed_string s at ≡ unread
   string_past h = string_unpacked (λ e. let i = inside s at 91 (omega arith) e in absurd (omega arith))
 
   pub string_packs : {d : List ℕ} {to : ℕ} {d' : List ℕ} {r : Stored} → get_or s at 0 ≡ 91 → Stores max_string_bytes 1 string_bytes (value max_string) s (at + 1) d to d' r → Puts max_quoted packed_string s at d to d' r
-  unfolding packed_string ◌>>=◌ literal if◌then◌else◌ ret
+  unfolding packed_string ◌>>=◌ literal whether◌then◌else◌ ret
   string_packs h (stores {a = v} {t = t} i w b) =
       let j : packed_string s at ≡ got (string_bytes v) t = rw (eq-eqb _ _ h, i) in
       puts j w (omega (arith, b.few, w.ends)) b.inside
@@ -73,7 +73,7 @@ digits_are s at i h z t k e = e ∙ ap (put z 0) (tail s at i) ∙ with_end z (d
 
 module _ (s : Str) (at : ℕ) where
   pub time_unpacked : (length s - at ≡ 16 → ⊥) → packed_time s at ≡ unread
-  unfolding packed_time if◌then◌else◌
+  unfolding packed_time whether◌then◌else◌
   time_unpacked h = rw (ne_eqb _ _ h)
 
   module _ (t : Str) (e : t ≡ drop at s ++ (10 ∷ [])) (h : length s - at ≡ 16) (r : Line) (i : r ≡ first_line 0 (lines t)) where
@@ -81,7 +81,7 @@ module _ (s : Str) (at : ℕ) where
     long = ap length e ∙ (let a = length-append (drop at s) (10 ∷ []) in let b = length-drop at s in let c : length (drop at s ++ (10 ∷ [])) ≡ 17 = omega arith in c)
 
     time_is : (x : Option Str) → alone (lines t) ≡ x → packed_time s at ≡ rest x (length s)
-    unfolding packed_time if◌then◌else◌
+    unfolding packed_time whether◌then◌else◌
     time_is x a = rw (eq-eqb _ _ h, sym e, a)
 
     pub time_bad : r ≡ Bad → packed_time s at ≡ unread
@@ -138,34 +138,34 @@ stands_inside w s at e = leb-true _ _ (and_l _ _ e)
 
 module _ (n : ℕ) (a b s : Str) (at : ℕ) (d : List ℕ) (to : ℕ) (h : to + 6 ≤ length d) where
   pub code_first : stands_at a s at ≡ true → Puts 6 (packed_code n a b) s at d to (set d to n) (To (at + length a) (to + 1))
-  unfolding packed_code if◌then◌else◌
+  unfolding packed_code whether◌then◌else◌
   code_first e =
       let i : packed_code n a b s at ≡ got (n ∷ []) (at + length a) = rw e in
       puts i (wrote_byte d to n (omega arith)) (omega arith) (stands_inside a s at e)
 
   pub code_second : stands_at a s at ≡ false → stands_at b s at ≡ true → Puts 6 (packed_code n a b) s at d to (set d to (n + 1)) (To (at + length b) (to + 1))
-  unfolding packed_code if◌then◌else◌
+  unfolding packed_code whether◌then◌else◌
   code_second x e =
       let i : packed_code n a b s at ≡ got ((n + 1) ∷ []) (at + length b) = rw (x, e) in
       puts i (wrote_byte d to (n + 1) (omega arith)) (omega arith) (stands_inside b s at e)
 
   pub code_other : stands_at a s at ≡ false → stands_at b s at ≡ false → packed_code n a b s at ≡ unread
-  unfolding packed_code if◌then◌else◌
+  unfolding packed_code whether◌then◌else◌
   code_other x y = rw (x, y)
 
 -- ---- a byte that stands for itself
 
 module _ (c : ℕ) (s : Str) (at : ℕ) where
   pub plain_past : length s ≤ at → packed_plain c s at ≡ unread
-  unfolding packed_plain ◌and◌ if◌then◌else◌
+  unfolding packed_plain ◌and◌ whether◌then◌else◌
   plain_past h = rw (le-ltb _ _ h)
 
   pub plain_other : at < length s → (get_or s at 0 ≡ c → ⊥) → packed_plain c s at ≡ unread
-  unfolding packed_plain ◌and◌ if◌then◌else◌
+  unfolding packed_plain ◌and◌ whether◌then◌else◌
   plain_other i h = rw (lt-ltb _ _ i, ne_eqb _ _ h)
 
   pub plain_puts : at < length s → get_or s at 0 ≡ c → (d : List ℕ) (to : ℕ) → Puts 1 (packed_plain c) s at d to d (To (at + 1) to)
-  unfolding packed_plain ◌and◌ if◌then◌else◌
+  unfolding packed_plain ◌and◌ whether◌then◌else◌
   plain_puts i e d to =
       let j : packed_plain c s at ≡ got [] (at + 1) = rw (lt-ltb _ _ i, eq-eqb _ _ e) in
       puts j (wrote_nothing d to) (omega arith) (omega arith)

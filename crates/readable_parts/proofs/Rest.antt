@@ -10,7 +10,7 @@ use lib.Dec.{leb}
 use lib.ListN.{length, take, drop, length-drop, drop_of_length-le}
 use lib.Seq.{take_all, drop-drop}
 use Rattle.limits.specs.Sizes.{max_path_text}
-use Rattle.text.specs.Test.{if◌then◌else◌}
+use Rattle.text.specs.Test.{whether◌then◌else◌}
 use Rattle.text.specs.String.{Str}
 use Rattle.text.specs.Frame.{unread}
 use Rattle.text.specs.Fill.{put}
@@ -26,7 +26,7 @@ use Rattle.readable_parts.specs.Steps.{Puts, puts, path_for}
 -- what a call on path text answers
 module _ (out : List ℕ) (o : Option Str) (w : Filled) (i : w ≡ answer out o) where
   pub answered : (n : ℕ) → w ≡ Length n → (s : Str) × (o ≡ some s) × (n ≡ length s) × (n ≤ length out) × (lent out o ≡ put out 0 s)
-  unfolding answer lent if◌then◌else◌
+  unfolding answer lent whether◌then◌else◌
   answered n e = go o refl (sym e ∙ i)
     where
       go : (x : Option Str) → o ≡ x → Length n ≡ answer out x → (s : Str) × (o ≡ some s) × (n ≡ length s) × (n ≤ length out) × (lent out o ≡ put out 0 s)
@@ -38,7 +38,7 @@ module _ (out : List ℕ) (o : Option Str) (w : Filled) (i : w ≡ answer out o)
           (λ u. let h' : Length n ≡ Refused 23 = h ∙ rw u in let z : ◌≡◌ {A = ℕ} 0 1 = cc in absurd (omega arith))
 
   pub unanswered : ((s : Str) → o ≡ some s → length s ≤ length out) → (k : ℕ) → w ≡ Refused k → o ≡ none
-  unfolding answer if◌then◌else◌
+  unfolding answer whether◌then◌else◌
   unanswered b k e = go o refl (sym e ∙ i)
     where
       go : (x : Option Str) → o ≡ x → Refused k ≡ answer out x → o ≡ none
@@ -70,12 +70,12 @@ part_put d to w h =
 -- ---- what g makes of the rest
 
 pub rest_past : (g : Str → Option Str) (s : Str) (at : ℕ) → length s ≤ at → of_rest g s at ≡ unread
-unfolding of_rest if◌then◌else◌
+unfolding of_rest whether◌then◌else◌
 rest_past g s at h = rw (le-ltb _ _ h)
 
 module _ (g : Str → Option Str) (s : Str) (at : ℕ) (i : at < length s) where
   rest_is : (o : Option Str) → g (from s at) ≡ o → of_rest g s at ≡ rest o (length s)
-  unfolding of_rest if◌then◌else◌
+  unfolding of_rest whether◌then◌else◌
   rest_is o e = let k : g (drop at s) ≡ o = rw (tail s at (omega arith)) at e in rw (lt-ltb _ _ i, k)
 
   module _ (d : List ℕ) (to most : ℕ) (h : to + most ≤ length d) (b : (t w : Str) → g t ≡ some w → length w ≤ most) (r : Filled) (e : r ≡ answer (from d to) (g (from s at))) where

@@ -7,7 +7,7 @@ use borrow.Author.Tests.{eq-eqb, ne_eqb, le-leb, lt-leb}
 use lib.ListN.{length, drop, get_or, set, length-append, length-drop}
 use Rattle.limits.specs.Limits.{max_string}
 use Rattle.limits.specs.Sizes.{max_path_text, max_quoted}
-use Rattle.text.specs.Test.{if◌then◌else◌}
+use Rattle.text.specs.Test.{whether◌then◌else◌}
 use Rattle.text.specs.String.{Str, joined}
 use Rattle.text.specs.Frame.{got, unread, Reader, ◌>>=◌, ret, part, string}
 use Rattle.text.specs.Steps.{Wrote, end_of}
@@ -28,31 +28,31 @@ use Rattle.readable_parts.proofs.Digits.{hex_length}
 
 module _ (p : Parts) (c : ℕ) where
   pub is_string : c ≡ 83 → (part_of p c ≡ p.string) × (longest c ≡ max_quoted)
-  unfolding part_of longest if◌then◌else◌
+  unfolding part_of longest whether◌then◌else◌
   is_string e = (rw e, rw e)
 
   pub is_time : c ≡ 84 → (part_of p c ≡ p.time) × (longest c ≡ 16)
-  unfolding part_of longest if◌then◌else◌
+  unfolding part_of longest whether◌then◌else◌
   is_time e = (rw e, rw e)
 
   pub is_path_lem : c ≡ 80 → (part_of p c ≡ p.path) × (longest c ≡ max_path_text)
-  unfolding part_of longest if◌then◌else◌
+  unfolding part_of longest whether◌then◌else◌
   is_path_lem e = (rw e, rw e)
 
   pub is_action : c ≡ 65 → (part_of p c ≡ p.code 0 (100 ∷ 101 ∷ 110 ∷ 121 ∷ []) (112 ∷ 101 ∷ 114 ∷ 109 ∷ 105 ∷ 116 ∷ [])) × (longest c ≡ 6)
-  unfolding part_of longest if◌then◌else◌
+  unfolding part_of longest whether◌then◌else◌
   is_action e = (rw e, rw e)
 
   pub is_mode : c ≡ 77 → (part_of p c ≡ p.code 1 (114 ∷ 101 ∷ 97 ∷ 100 ∷ []) (119 ∷ 114 ∷ 105 ∷ 116 ∷ 101 ∷ [])) × (longest c ≡ 6)
-  unfolding part_of longest if◌then◌else◌
+  unfolding part_of longest whether◌then◌else◌
   is_mode e = (rw e, rw e)
 
   pub is_subject : c ≡ 75 → (part_of p c ≡ p.code 0 (117 ∷ 115 ∷ 101 ∷ 114 ∷ []) (103 ∷ 114 ∷ 111 ∷ 117 ∷ 112 ∷ [])) × (longest c ≡ 6)
-  unfolding part_of longest if◌then◌else◌
+  unfolding part_of longest whether◌then◌else◌
   is_subject e = (rw e, rw e)
 
   pub is_plain_lem : (c ≡ 83 → ⊥) → (c ≡ 84 → ⊥) → (c ≡ 80 → ⊥) → (c ≡ 65 → ⊥) → (c ≡ 77 → ⊥) → (c ≡ 75 → ⊥) → (part_of p c ≡ p.plain c) × (longest c ≡ 1)
-  unfolding part_of longest if◌then◌else◌
+  unfolding part_of longest whether◌then◌else◌
   is_plain_lem s t q a m k =
       (rw (ne_eqb c 83 s, ne_eqb c 84 t, ne_eqb c 80 q, ne_eqb c 65 a, ne_eqb c 77 m, ne_eqb c 75 k), rw (ne_eqb c 83 s, ne_eqb c 84 t, ne_eqb c 80 q, ne_eqb c 65 a, ne_eqb c 77 m, ne_eqb c 75 k))
 
@@ -69,11 +69,11 @@ module _ (f : Str) (at : ℕ) (r : End) (e : r ≡ end_of (string f at)) where
 
   module _ (t : ℕ) (g : r ≡ ends.At t) where
     pub long_unshown : max_string < length (part f (at + 1) t) → shown_string f at ≡ unread
-    unfolding shown_string ◌>>=◌ if◌then◌else◌ unknown
+    unfolding shown_string ◌>>=◌ whether◌then◌else◌ unknown
     long_unshown h = rw ((string_ends f at r e t g).0, lt-leb _ _ h)
 
     pub string_shown : length (part f (at + 1) t) ≤ max_string → shown_string f at ≡ got (quoted (part f (at + 1) t)) t
-    unfolding shown_string ◌>>=◌ if◌then◌else◌ ret
+    unfolding shown_string ◌>>=◌ whether◌then◌else◌ ret
     string_shown h = rw ((string_ends f at r e t g).0, le-leb _ _ h)
 
 module _ (d : List ℕ) (to : ℕ) (s : Str) (h : to + max_quoted ≤ length d) (l : length s ≤ max_string) where
@@ -111,14 +111,14 @@ module _ (d : List ℕ) (to : ℕ) (s : Str) (h : to + max_quoted ≤ length d) 
 
 module _ (f : Str) (at : ℕ) where
   pub time_unshown : (length f - at ≡ 8 → ⊥) → shown_time f at ≡ unread
-  unfolding shown_time if◌then◌else◌
+  unfolding shown_time whether◌then◌else◌
   time_unshown h = rw (ne_eqb _ _ h)
 
   pub time_fits : (d : List ℕ) (to : ℕ) → to + 16 ≤ length d → length f - at ≡ 8 → to + length (hex_text (drop at f)) ≤ length d
   time_fits d to r h = omega (arith, hex_length (drop at f), length-drop at f)
 
   pub time_puts : (d : List ℕ) (to : ℕ) (d' : List ℕ) (end : ℕ) → length f - at ≡ 8 → Wrote d to (hex_text (drop at f)) d' end → Puts 16 shown_time f at d to d' (To (length f) end)
-  unfolding shown_time if◌then◌else◌
+  unfolding shown_time whether◌then◌else◌
   time_puts d to d' end h w =
       let e : shown_time f at ≡ got (hex_text (drop at f)) (length f) = rw (eq-eqb _ _ h) in
       puts e w (omega (arith, hex_length (drop at f), length-drop at f)) (omega arith)
@@ -132,15 +132,15 @@ module _ (n : ℕ) (a b f : Str) (at : ℕ) where
 
   module _ (h : at < length f) where
     pub code_first : get_or f at 0 ≡ n → shown_code n a b f at ≡ got a (at + 1)
-    unfolding shown_code ◌>>=◌ if◌then◌else◌ ret
+    unfolding shown_code ◌>>=◌ whether◌then◌else◌ ret
     code_first e = rw (byte_got f at h, eq-eqb _ _ e)
 
     pub code_second : (get_or f at 0 ≡ n → ⊥) → get_or f at 0 ≡ n + 1 → shown_code n a b f at ≡ got b (at + 1)
-    unfolding shown_code ◌>>=◌ if◌then◌else◌ ret
+    unfolding shown_code ◌>>=◌ whether◌then◌else◌ ret
     code_second x e = rw (byte_got f at h, ne_eqb _ _ x, eq-eqb _ _ e)
 
     pub code_other : (get_or f at 0 ≡ n → ⊥) → (get_or f at 0 ≡ n + 1 → ⊥) → shown_code n a b f at ≡ unread
-    unfolding shown_code ◌>>=◌ if◌then◌else◌ unknown
+    unfolding shown_code ◌>>=◌ whether◌then◌else◌ unknown
     code_other x y = rw (byte_got f at h, ne_eqb _ _ x, ne_eqb _ _ y)
 
 -- ---- a byte that stands for itself

@@ -3,7 +3,7 @@
 use Rattle.std.specs.Prelude.{ℕ, ◌+◌, ◌-◌, ◌/◌, ◌%◌, Bool, cond, List, [], ◌∷◌, ◌++◌, eqb, leb, ltb, length, drop, get_or}
 use Rattle.std.proofs.Math.Option.{Option, none, some}
 use Rattle.limits.specs.Limits.{max_string}
-use Rattle.text.specs.Test.{◌and◌, if◌then◌else◌}
+use Rattle.text.specs.Test.{◌and◌, whether◌then◌else◌}
 use Rattle.text.specs.String.{Str, bytes, same, joined}
 use Rattle.text.specs.Frame.{Parsed, got, unread, Reader, ◌>>=◌, ret, byte, part, string, string_bytes}
 use Rattle.table_line.specs.Lines.{lines, frame}
@@ -28,12 +28,12 @@ pub record Parts : Type 0 where
 -- K (75) the kind of subject; any other byte stands for itself
 unfoldable pub part_of : Parts → ℕ → Reader Str
 part_of p c =
-    if eqb c 83 then p.string
-    else if eqb c 84 then p.time
-    else if eqb c 80 then p.path
-    else if eqb c 65 then p.code 0 (bytes "deny") (bytes "permit")
-    else if eqb c 77 then p.code 1 (bytes "read") (bytes "write")
-    else if eqb c 75 then p.code 0 (bytes "user") (bytes "group")
+    whether eqb c 83 then p.string
+    else whether eqb c 84 then p.time
+    else whether eqb c 80 then p.path
+    else whether eqb c 65 then p.code 0 (bytes "deny") (bytes "permit")
+    else whether eqb c 77 then p.code 1 (bytes "read") (bytes "write")
+    else whether eqb c 75 then p.code 0 (bytes "user") (bytes "group")
     else p.plain c
 
 -- what there is was read, up to t
@@ -43,7 +43,7 @@ rest (some w) t = got w t
 
 -- what g makes of the rest, with which the frame or the line ends
 unfoldable pub of_rest : (Str → Option Str) → Reader Str
-of_rest g s at = if ltb at (length s) then rest (g (drop at s)) (length s) else unread
+of_rest g s at = whether ltb at (length s) then rest (g (drop at s)) (length s) else unread
 
 -- ---- shown, from a frame
 
@@ -65,11 +65,11 @@ hex_text f = joined hex_pair f
 unfoldable pub shown_string : Reader Str
 shown_string = do
   s ← string
-  if leb (length s) max_string then ret (quoted s) else unknown
+  whether leb (length s) max_string then ret (quoted s) else unknown
 
 -- 8 bytes, with which the frame ends
 unfoldable pub shown_time : Reader Str
-shown_time f at = if eqb (length f - at) 8 then got (hex_text (drop at f)) (length f) else unread
+shown_time f at = whether eqb (length f - at) 8 then got (hex_text (drop at f)) (length f) else unread
 
 -- path bytes, with which the frame ends
 unfoldable pub shown_path : Reader Str
@@ -78,7 +78,7 @@ shown_path = of_rest text_for
 unfoldable pub shown_code : ℕ → Str → Str → Reader Str
 shown_code n a b = do
   c ← byte
-  if eqb c n then ret a else if eqb c (n + 1) then ret b else unknown
+  whether eqb c n then ret a else whether eqb c (n + 1) then ret b else unknown
 
 unfoldable pub shown_plain : ℕ → Reader Str
 shown_plain c = ret (c ∷ [])
@@ -103,7 +103,7 @@ alone (l ∷ m ∷ ls) = none
 
 -- 16 digits, with which the line ends
 unfoldable pub packed_time : Reader Str
-packed_time s at = if eqb (length s - at) 16 then rest (alone (lines (drop at s ++ (10 ∷ [])))) (length s) else unread
+packed_time s at = whether eqb (length s - at) 16 then rest (alone (lines (drop at s ++ (10 ∷ [])))) (length s) else unread
 
 -- path text, with which the line ends
 unfoldable pub packed_path : Reader Str
@@ -115,12 +115,12 @@ stands_at w s at = leb (at + length w) (length s) and same (part s at (at + leng
 
 unfoldable pub packed_code : ℕ → Str → Str → Reader Str
 packed_code n a b s at =
-    if stands_at a s at then got (n ∷ []) (at + length a)
-    else if stands_at b s at then got ((n + 1) ∷ []) (at + length b)
+    whether stands_at a s at then got (n ∷ []) (at + length a)
+    else whether stands_at b s at then got ((n + 1) ∷ []) (at + length b)
     else unread
 
 unfoldable pub packed_plain : ℕ → Reader Str
-packed_plain c s at = if ltb at (length s) and eqb (get_or s at 0) c then got [] (at + 1) else unread
+packed_plain c s at = whether ltb at (length s) and eqb (get_or s at 0) c then got [] (at + 1) else unread
 
 unfoldable pub packed : Parts
 packed = record { string = packed_string; time = packed_time; path = packed_path; code = packed_code; plain = packed_plain }

@@ -2,7 +2,7 @@
 use Rattle.std.specs.Prelude.{ℕ, ◌≤◌, ◌≡◌, Bool, true, false, List, eqb, length}
 use Rattle.std.proofs.Math.Option.{Option}
 use Rattle.limits.specs.Sizes.{max_path_text, max_quoted}
-use Rattle.text.specs.Test.{if◌then◌else◌}
+use Rattle.text.specs.Test.{whether◌then◌else◌}
 use Rattle.text.specs.String.{Str}
 use Rattle.text.specs.Frame.{got, unread, Reader}
 use Rattle.text.specs.Steps.{Wrote}
@@ -13,12 +13,12 @@ use Rattle.path_read.specs.declared.reader.Stored.TheVariants as stored
 -- the longest that a part can be, as text or in a frame: a string in brackets, escaped; 16 digits; the longest path text; `permit`
 unfoldable pub longest : ℕ → ℕ
 longest c =
-    if eqb c 83 then max_quoted
-    else if eqb c 84 then 16
-    else if eqb c 80 then max_path_text
-    else if eqb c 65 then 6
-    else if eqb c 77 then 6
-    else if eqb c 75 then 6
+    whether eqb c 83 then max_quoted
+    else whether eqb c 84 then 16
+    else whether eqb c 80 then max_path_text
+    else whether eqb c 65 then 6
+    else whether eqb c 77 then 6
+    else whether eqb c 75 then 6
     else 1
 
 -- what r reads of s at `at`, within s, was stored into d from `to` on, and nothing else, and is not longer than `most`; where it reads nothing,

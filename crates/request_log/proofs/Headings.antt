@@ -8,7 +8,7 @@ use mathlib.Core.List.{List}
 use mathlib.Core.Option.{Option, none, some}
 use lib.Dec.{eqb, ltb}
 use lib.ListN.{length, get_or, length-take, length-drop}
-use Rattle.text.specs.Test.{◌and◌, ◌or◌, if◌then◌else◌}
+use Rattle.text.specs.Test.{◌and◌, ◌or◌, whether◌then◌else◌}
 use Rattle.text.specs.String.{Str}
 use Rattle.text.specs.Refusal.{◌when◌else◌, clear}
 use Rattle.text.specs.Frame.{Parsed, got, unread, and_then, ◌>>=◌, ret, byte, part, string}
@@ -153,19 +153,19 @@ rest f h t = and_then (path f t) (λ p e. got (with_path h p) e)
 
 -- the number of the heading is that of the request, unless it is none
 clear_passes : (a b : Bool) (x : ℕ) → (20 when a else 21 when b else clear) ≡ clear → (20 when a else 21 when b else x) ≡ x
-unfolding if◌then◌else◌
+unfolding whether◌then◌else◌
 clear_passes true b x e = absurd (omega arith)
 clear_passes false true x e = absurd (omega arith)
 clear_passes false false x e = refl
 
 not_clear : (a b : Bool) (x : ℕ) → ((20 when a else 21 when b else clear) ≡ clear → ⊥) → (20 when a else 21 when b else x) ≡ clear → ⊥
-unfolding if◌then◌else◌
+unfolding whether◌then◌else◌
 not_clear true b x n e = n e
 not_clear false true x n e = n e
 not_clear false false x n e = n refl
 
 path_number : (b : Bool) → eqb (22 when not b else clear) clear ≡ b
-unfolding if◌then◌else◌
+unfolding whether◌then◌else◌
 path_number true = refl
 path_number false = refl
 
@@ -179,11 +179,11 @@ by_path h p c = ap (λ (n : ℕ). eqb n clear) (clear_passes _ _ _ c) ∙ path_n
 
 module _ (h : Head) (f : List ℕ) (p : Path) (d : ℕ) (c : head_refusal h ≡ clear) where
   not_good : is_path_in f (got p d) ≡ false → unrefused (whole f (got (with_path h p) d)) ≡ none
-  unfolding is_path_in whole unrefused if◌then◌else◌
+  unfolding is_path_in whole unrefused whether◌then◌else◌
   not_good n = by (eqb d (length f)) (λ u. rw (u, by_path h p c, and_false _ _ u n)) (λ u. rw u)
 
   is_good : is_path_in f (got p d) ≡ true → unrefused (whole f (got (with_path h p) d)) ≡ some (with_path h p)
-  unfolding is_path_in whole unrefused if◌then◌else◌
+  unfolding is_path_in whole unrefused whether◌then◌else◌
   is_good y = rw (and_l _ _ y, by_path h p c, and_r _ _ y)
 
 pub no_path_there : {X : Type 0} (f : List ℕ) → is_path_in f unread ≡ true → X
@@ -221,7 +221,7 @@ module _ (f : List ℕ) where
     parts x i = rw (body_is, e, i)
 
     pub bad_heading : (head_refusal h ≡ clear → ⊥) → good_request f ≡ none
-    unfolding whole unrefused if◌then◌else◌
+    unfolding whole unrefused whether◌then◌else◌
     bad_heading n = go (path f t) refl
       where
         go : (x : Parsed Path) → path f t ≡ x → good_request f ≡ none

@@ -11,7 +11,7 @@ use lib.ListN.{length, take, drop, length-drop, length-append}
 use lib.Seq.{take_at}
 use Rattle.limits.specs.Limits.{max_string, max_short_string}
 use Rattle.limits.specs.Sizes.{max_heading, max_log_frame}
-use Rattle.text.specs.Test.{◌and◌, ◌or◌, if◌then◌else◌}
+use Rattle.text.specs.Test.{◌and◌, ◌or◌, whether◌then◌else◌}
 use Rattle.text.specs.String.{Str}
 use Rattle.text.specs.Refusal.{◌when◌else◌, clear}
 use Rattle.text.specs.Frame.{Parsed, got, unread, ◌>>=◌, ret, byte, string, string_bytes}
@@ -75,7 +75,7 @@ mode_of m e =
     (λ t. by (eqb m 2) (λ u. let i : m ≡ 2 = eqb-true _ _ u in (omega arith, omega arith)) (λ u. clash (ap not (neither _ _ t u)) e))
 
 unclear : {X : Type 0} (n : ℕ) (b : Bool) (x : ℕ) → (n ≡ clear → ⊥) → b ≡ true → (n when b else x) ≡ clear → X
-unfolding if◌then◌else◌
+unfolding whether◌then◌else◌
 unclear n b x k t e = absurd (k (rw t at e))
 
 module _ (h : Head) (c : head_refusal h ≡ clear) where
@@ -84,7 +84,7 @@ module _ (h : Head) (c : head_refusal h ≡ clear) where
   no_20 = by (bad_user h.user or bad_mode h.mode) (λ t. unclear 20 _ _ (λ z. omega arith) t c) (λ t. t)
 
   no_21 : bad_origin h.origin ≡ false
-  unfolding head_refusal if◌then◌else◌
+  unfolding head_refusal whether◌then◌else◌
   no_21 =
       by (bad_origin h.origin) (λ t. unclear 21 _ _ (λ z. omega arith) t (rw no_20 at c)) (λ t. t)
 

@@ -2,7 +2,7 @@
 use Rattle.std.specs.Prelude.{ℕ, ◌+◌, List, [], ◌∷◌, ltb}
 use Rattle.std.proofs.Math.Option.{Option, none, some}
 use Rattle.limits.specs.Limits.{max_log_lines}
-use Rattle.text.specs.Test.{if◌then◌else◌, absent}
+use Rattle.text.specs.Test.{whether◌then◌else◌, absent}
 use Rattle.text.specs.String.{Str}
 use Rattle.table_line.specs.Lines.{lines}
 use Rattle.table.specs.declared.Checked.{Checked}
@@ -14,8 +14,8 @@ use Rattle.request_log.specs.Request.{request_of}
 unfoldable pub judge_log : ℕ → List Str → Checked
 judge_log number [] = Accepted
 judge_log number (l ∷ ls) =
-    if ltb max_log_lines number then Refused 50 0
-    else if absent (request_of l) then Refused 51 number
+    whether ltb max_log_lines number then Refused 50 0
+    else whether absent (request_of l) then Refused 51 number
     else judge_log (number + 1) ls
 
 unfoldable pub check_log : Str → Checked

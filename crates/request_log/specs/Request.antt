@@ -1,7 +1,7 @@
 -- A line of a log: the request that it holds, and when it is bad.
 use Rattle.std.specs.Prelude.{ℕ, not, eqb}
 use Rattle.std.proofs.Math.Option.{Option, none, some, bind}
-use Rattle.text.specs.Test.{if◌then◌else◌}
+use Rattle.text.specs.Test.{whether◌then◌else◌}
 use Rattle.text.specs.String.{Str}
 use Rattle.text.specs.Refusal.{◌when◌else◌, clear}
 use Rattle.text.specs.Frame.{Reader, ◌>>=◌, ret, byte, string}
@@ -31,7 +31,7 @@ framed_refusal q = refusal_or (22 when not (good_path q.path) else clear) q.user
 
 unfoldable pub unrefused : Option Request → Option Request
 unrefused none = none
-unrefused (some q) = if eqb (framed_refusal q) clear then some q else none
+unrefused (some q) = whether eqb (framed_refusal q) clear then some q else none
 
 -- the good request of a frame
 unfoldable pub good_request : Str → Option Request

@@ -9,7 +9,7 @@ use borrow.Author.Tests.{ne_eqb, eqb-true, eqb-false, ltb-false, le-ltb}
 use lib.Dec.{eqb, ltb}
 use lib.ListN.{length}
 use Rattle.limits.specs.Limits.{slot_length, store_length}
-use Rattle.text.specs.Test.{◌and◌, ◌or◌, if◌then◌else◌, absent}
+use Rattle.text.specs.Test.{◌and◌, ◌or◌, whether◌then◌else◌, absent}
 use Rattle.text.specs.String.{Str}
 use Rattle.text.specs.Fill.{put}
 use Rattle.text.specs.Refusal.{◌when◌else◌, clear}
@@ -35,13 +35,13 @@ unfolding stepped
 stepped_answer Accepted r next = refl
 stepped_answer (Refused n l) r next = refl
 
-pub stepped_next : (a : Checked) (r next : Record) → (stepped a r next).next ≡ (if is_accepted a then next else r)
-unfolding stepped is_accepted if◌then◌else◌
+pub stepped_next : (a : Checked) (r next : Record) → (stepped a r next).next ≡ (whether is_accepted a then next else r)
+unfolding stepped is_accepted whether◌then◌else◌
 stepped_next Accepted r next = refl
 stepped_next (Refused n l) r next = refl
 
-pub stored_by_lem : (a : Checked) (r : Record) (store text : Str) → stored_by a r store text ≡ (if is_accepted a then put store (slot_start (candidate_slot r)) text else store)
-unfolding stored_by is_accepted if◌then◌else◌
+pub stored_by_lem : (a : Checked) (r : Record) (store text : Str) → stored_by a r store text ≡ (whether is_accepted a then put store (slot_start (candidate_slot r)) text else store)
+unfolding stored_by is_accepted whether◌then◌else◌
 stored_by_lem Accepted r store text = refl
 stored_by_lem (Refused n l) r store text = refl
 
@@ -52,7 +52,7 @@ accepted_is (Refused n l) e = clash e refl
 
 -- what is accepted unless a number holds
 pub unless_accepted : (number : ℕ) (a : Checked) → is_accepted (unless number 0 a) ≡ true → (number ≡ clear) × (a ≡ Accepted)
-unfolding unless if◌then◌else◌ is_accepted
+unfolding unless whether◌then◌else◌ is_accepted
 unless_accepted number a e =
     by (eqb number clear)
     (λ t. (eqb-true number clear t, accepted_is a (rw t at e)))
@@ -93,7 +93,7 @@ unfolding bad_slot
 slot_low r e g = ltb-false 1 r.live_slot (and_false (given r.live_len) _ g e)
 
 pub candidate_low : (r : Record) → candidate_slot r ≤ 1
-unfolding candidate_slot if◌then◌else◌
+unfolding candidate_slot whether◌then◌else◌
 candidate_low r = by (given r.live_len and eqb r.live_slot 0) (λ t. rw t (omega arith)) (λ t. rw t (omega arith))
 
 good_is : (a b c d : Bool) (e : Bool) → a ≡ false → b ≡ false → c ≡ false → d ≡ false → e ≡ false → (a or (b or (c or (d or e)))) ≡ false
@@ -138,7 +138,7 @@ module _ (l : Lent) (w : Whole l) where
   n = length l.store
 
   own : (k : ℕ) → record_refusal r n k ≡ k
-  unfolding record_refusal if◌then◌else◌
+  unfolding record_refusal whether◌then◌else◌
   own k = rw (w.long, w.good)
 
   store_long : store_length ≤ n
@@ -154,7 +154,7 @@ module _ (l : Lent) (w : Whole l) where
   off_number c e = own _ ∙ sym (rw (not_not (off r)) at e)
 
   lacking_is : (store : Str) (slot len : ℕ) → absent (held_text store slot len) ≡ not (given len)
-  unfolding absent held_text if◌then◌else◌
+  unfolding absent held_text whether◌then◌else◌
   lacking_is store slot len = by (given len) (λ t. rw t) (λ t. rw t)
 
   finalize_number : finalize_refusal r n ≡ machine_refusal Finalize (machine_of l)
@@ -164,28 +164,28 @@ module _ (l : Lent) (w : Whole l) where
 -- ---- what a machine is left with
 
 some_held : (store : Str) (slot len : ℕ) → len ≤ slot_length → held_text store slot len ≡ some (text_in store slot len)
-unfolding held_text given if◌then◌else◌
+unfolding held_text given whether◌then◌else◌
 some_held store slot len h = rw (ne_eqb len no_length (λ e. omega arith))
 
 machine_started : (l : Lent) → machine_of (record { state = started l.state; store = l.store }) ≡ machine_next Start (machine_of l)
-unfolding machine_of machine_next started on off held_text given if◌then◌else◌
+unfolding machine_of machine_next started on off held_text given whether◌then◌else◌
 machine_started l = refl
 
 machine_closed : (l : Lent) → machine_of (record { state = closed l.state; store = l.store }) ≡ machine_next Close (machine_of l)
-unfolding machine_of machine_next closed at_rest on off held_text given if◌then◌else◌
+unfolding machine_of machine_next closed at_rest on off held_text given whether◌then◌else◌
 machine_closed l = refl
 
 machine_finalized : (l : Lent) → machine_of (record { state = finalized l.state; store = l.store }) ≡ machine_next Finalize (machine_of l)
-unfolding machine_of machine_next finalized at_rest on off held_text given if◌then◌else◌
+unfolding machine_of machine_next finalized at_rest on off held_text given whether◌then◌else◌
 machine_finalized l = refl
 
 module _ (r : Record) (g : given r.live_len ≡ true) where
   candidate_one : eqb r.live_slot 0 ≡ true → candidate_slot r ≡ 1
-  unfolding candidate_slot ◌and◌ if◌then◌else◌
+  unfolding candidate_slot ◌and◌ whether◌then◌else◌
   candidate_one t = rw (g, t)
 
   candidate_zero : eqb r.live_slot 0 ≡ false → candidate_slot r ≡ 0
-  unfolding candidate_slot ◌and◌ if◌then◌else◌
+  unfolding candidate_slot ◌and◌ whether◌then◌else◌
   candidate_zero t = rw (g, t)
 
 module _ (store text : Str) (long : store_length ≤ length store) (short : length text ≤ slot_length) (slot k len : ℕ) where
@@ -218,7 +218,7 @@ module _ (l : Lent) (w : Whole l) (text : Str) (short : length text ≤ slot_len
       one k h z = by (eqb k 0) (λ t. absurd (z (eqb-true k 0 t))) (λ t. let u : k ≡ 0 → ⊥ = z in omega arith)
 
   live_kept : held_text stored l.state.live_slot live ≡ held_text l.store l.state.live_slot live
-  unfolding held_text if◌then◌else◌
+  unfolding held_text whether◌then◌else◌
   live_kept = by (given live) (λ t. rw t (ap some (live_text t))) (λ t. rw t)
 
   own_held : (slot : ℕ) → slot ≡ candidate_slot l.state → held_text stored slot (length text) ≡ some text
@@ -238,12 +238,12 @@ module _ (c : Call) (l : Lent) (w : Whole l) (a : Checked) (next : Record) where
   abbrev after : Lent
   after = record { state = (stepped a l.state next).next; store = l.store }
 
-  plain_next : machine_of (record { state = next; store = l.store }) ≡ machine_next c (machine_of l) → machine_of after ≡ (if is_accepted a then machine_next c (machine_of l) else machine_of l)
-  unfolding if◌then◌else◌
+  plain_next : machine_of (record { state = next; store = l.store }) ≡ machine_next c (machine_of l) → machine_of after ≡ (whether is_accepted a then machine_next c (machine_of l) else machine_of l)
+  unfolding whether◌then◌else◌
   plain_next moved = rw (stepped_next a l.state next) (by (is_accepted a) (λ t. rw t moved) (λ t. rw t))
 
   plain_good : bad_record next ≡ false → bad_record (stepped a l.state next).next ≡ false
-  unfolding if◌then◌else◌
+  unfolding whether◌then◌else◌
   plain_good g = rw (stepped_next a l.state next) (by (is_accepted a) (λ t. rw t g) (λ t. rw t w.good))
 
   plain_whole : bad_record next ≡ false → Whole after
@@ -251,7 +251,7 @@ module _ (c : Call) (l : Lent) (w : Whole l) (a : Checked) (next : Record) where
 
 module _ (l : Lent) (w : Whole l) where
   number_on : off_refusal l.state (length l.store) ≡ clear → off l.state ≡ false
-  unfolding off_refusal if◌then◌else◌
+  unfolding off_refusal whether◌then◌else◌
   number_on e = by (off l.state) (λ t. let z : ◌≡◌ {A = ℕ} 13 clear = sym (own l w 13) ∙ (rw t at e) in absurd (omega arith)) (λ t. t)
 
 -- `check` accepts no text that is longer than a slot
@@ -296,18 +296,18 @@ module _ (check : ℕ → Str → Checked) (short : (kind : ℕ) (text : Str) �
     uploads = record { state = (stepped a l.state (uploaded l.state (length text))).next; store = stored_by a l.state l.store text }
 
     upload_kept : is_accepted a ≡ false → uploads ≡ l
-    unfolding if◌then◌else◌
+    unfolding whether◌then◌else◌
     upload_kept t = rw (stepped_next a l.state (uploaded l.state (length text)), stored_by_lem a l.state l.store text, t)
 
     upload_went : is_accepted a ≡ true → uploads ≡ record { state = uploaded l.state (length text); store = put l.store (slot_start (candidate_slot l.state)) text }
-    unfolding if◌then◌else◌
+    unfolding whether◌then◌else◌
     upload_went t = rw (stepped_next a l.state (uploaded l.state (length text)), stored_by_lem a l.state l.store text, t)
 
     upload_short : is_accepted a ≡ true → length text ≤ slot_length
     upload_short t = short l.state.kind text (unless_accepted _ _ t).1
 
-    upload_next : machine_of uploads ≡ (if is_accepted a then machine_next (Upload text) (machine_of l) else machine_of l)
-    unfolding if◌then◌else◌
+    upload_next : machine_of uploads ≡ (whether is_accepted a then machine_next (Upload text) (machine_of l) else machine_of l)
+    unfolding whether◌then◌else◌
     upload_next = by (is_accepted a) (λ t. ap machine_of (upload_went t) ∙ machine_uploaded l w text (upload_short t) ∙ rw t) (λ t. ap machine_of (upload_kept t) ∙ rw t)
 
     upload_whole : Whole uploads
@@ -354,10 +354,10 @@ module _ (check : ℕ → Str → Checked) (short : (kind : ℕ) (text : Str) �
 
 -- what is in force: "the candidate, else the live text", else none
 unfoldable pub machine_force : Machine → Option Str
-machine_force m = if absent m.candidate then m.live else m.candidate
+machine_force m = whether absent m.candidate then m.live else m.candidate
 
 pub same_force : (l : Lent) → force_text l.store (in_force l.state) ≡ machine_force (machine_of l)
-unfolding force_text in_force machine_force machine_of absent held_text if◌then◌else◌
+unfolding force_text in_force machine_force machine_of absent held_text whether◌then◌else◌
 same_force l =
     by (given l.state.candidate_len) (λ t. rw t)
     (λ t. by (given l.state.live_len) (λ u. rw (t, u)) (λ u. rw (t, u)))

@@ -1,7 +1,7 @@
 -- A plain machine that has only its kind, a live text, a candidate and whether a rotation is on; and that record and store follow it step by step.
 use Rattle.std.specs.Prelude.{ℕ, ◌≡◌, Bool, true, false, not, List, [], ◌∷◌, length}
 use Rattle.std.proofs.Math.Option.{Option, none, some}
-use Rattle.text.specs.Test.{if◌then◌else◌, absent}
+use Rattle.text.specs.Test.{whether◌then◌else◌, absent}
 use Rattle.text.specs.String.{Str}
 use Rattle.text.specs.Refusal.{◌when◌else◌, clear}
 use Rattle.table.specs.Text.{unless, is_accepted}
@@ -51,7 +51,7 @@ pub record Lent : Type 0 where
 
 -- the text of a slot; none where there is no length
 unfoldable pub held_text : Str → ℕ → ℕ → Option Str
-held_text store slot len = if given len then some (text_in store slot len) else none
+held_text store slot len = whether given len then some (text_in store slot len) else none
 
 -- the machine that record and store stand for
 unfoldable pub machine_of : Lent → Machine
@@ -85,7 +85,7 @@ module _ (check : ℕ → Str → Checked) where
   machine_answer c m = unless (machine_refusal c m) 0 (offered c m.kind)
 
   unfoldable pub machine_step : Call → Machine → Machine
-  machine_step c m = if is_accepted (machine_answer c m) then machine_next c m else m
+  machine_step c m = whether is_accepted (machine_answer c m) then machine_next c m else m
 
   -- what a call answers and leaves, by the definitions that its contract cites
   unfoldable pub answers : Call → Lent → Checked

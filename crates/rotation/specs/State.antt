@@ -2,7 +2,7 @@
 -- the candidate's length or none."
 use Rattle.std.specs.Prelude.{ℕ, ◌*◌, Bool, not, eqb, ltb, take, drop}
 use Rattle.limits.specs.Limits.{slot_length, store_length}
-use Rattle.text.specs.Test.{◌and◌, ◌or◌, if◌then◌else◌}
+use Rattle.text.specs.Test.{◌and◌, ◌or◌, whether◌then◌else◌}
 use Rattle.text.specs.String.{Str}
 use Rattle.text.specs.Refusal.{◌when◌else◌}
 use Rattle.rotation.specs.declared.Record.{Record}
@@ -56,7 +56,7 @@ slot_start slot = slot * slot_length
 
 -- "the slot that isn't live (slot 0 if none is live)"
 unfoldable pub candidate_slot : Record → ℕ
-candidate_slot r = if given r.live_len and eqb r.live_slot 0 then 1 else 0
+candidate_slot r = whether given r.live_len and eqb r.live_slot 0 then 1 else 0
 
 -- the text of that length at the start of a slot
 unfoldable pub text_in : Str → ℕ → ℕ → Str
@@ -65,8 +65,8 @@ text_in store slot len = take len (drop (slot_start slot) store)
 -- "what is in force: the candidate, else the live text, else factory"
 unfoldable pub in_force : Record → InForce
 in_force r =
-    if given r.candidate_len then Text (candidate_slot r) r.candidate_len
-    else if given r.live_len then Text r.live_slot r.live_len
+    whether given r.candidate_len then Text (candidate_slot r) r.candidate_len
+    else whether given r.live_len then Text r.live_slot r.live_len
     else Factory
 
 -- ---- the record where no rotation is on

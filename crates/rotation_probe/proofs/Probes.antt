@@ -5,7 +5,7 @@ use Prim.Native.Nat.{ℕ, ◌+◌}
 use borrow.Author.Tests.{eq-eqb, ne_eqb}
 use lib.Dec.{eqb}
 use lib.ListN.{length}
-use Rattle.text.specs.Test.{if◌then◌else◌}
+use Rattle.text.specs.Test.{whether◌then◌else◌}
 use Rattle.text.specs.String.{Str}
 use Rattle.text.specs.Frame.{part}
 use Rattle.text.specs.Refusal.{clear}
@@ -46,7 +46,7 @@ module _ (store user : Str) (mode : ℕ) (origin text : Str) (whole : Bool) wher
   either_factory = either force.Factory
 
   both : (r : Record) → probed either_refused either 2 r (length store) ≡ one_of whole (probe_path r store user mode origin text) (probe_tree r store user mode origin text)
-  unfolding probe_path probe_tree probed refused_as if◌then◌else◌
+  unfolding probe_path probe_tree probed refused_as whether◌then◌else◌
   both r = by (eqb (probe_refusal 2 r (length store)) clear) (λ t. rw t) (λ t. rw t)
 
   pub either_from : (r : Record) (s : Source) → s ≡ source_of 2 r (length store) → (t : Source) → s ≡ t → (a : Verdict) → a ≡ from either_refused either_part either_factory t
@@ -70,9 +70,9 @@ module _ (store identity path headers : Str) where
 
 module _ (number k : ℕ) (e : number ≡ k) where
   pub factory_refused : (number ≡ clear → ⊥) → rpc_refused number ≡ factory_rpc k
-  unfolding factory_rpc if◌then◌else◌
+  unfolding factory_rpc whether◌then◌else◌
   factory_refused h = rw (← e, ne_eqb number clear h)
 
   pub factory_permits : number ≡ clear → PermitAll ≡ factory_rpc k
-  unfolding factory_rpc if◌then◌else◌
+  unfolding factory_rpc whether◌then◌else◌
   factory_permits h = rw (← e, eq-eqb number clear h)

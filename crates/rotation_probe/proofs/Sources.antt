@@ -7,7 +7,7 @@ use borrow.Author.Tests.{eq-eqb, ne_eqb, eqb-true, ltb-false}
 use lib.Dec.{eqb}
 use lib.ListN.{take, drop}
 use Rattle.limits.specs.Limits.{slot_length, store_length}
-use Rattle.text.specs.Test.{if◌then◌else◌}
+use Rattle.text.specs.Test.{whether◌then◌else◌}
 use Rattle.text.specs.String.{Str}
 use Rattle.text.specs.Refusal.{clear}
 use Rattle.text.proofs.Tests.{by}
@@ -37,7 +37,7 @@ module _ {A : Type 0} (refused : ℕ → A) (judged : InForce → A) (part : ℕ
   by_place force.Factory = refl
 
   by_source : (kind : ℕ) (r : Record) (n : ℕ) → from refused part (judged force.Factory) (source_of kind r n) ≡ probed refused judged kind r n
-  unfolding source_of probed if◌then◌else◌ from
+  unfolding source_of probed whether◌then◌else◌ from
   by_source kind r n = by (eqb (probe_refusal kind r n) clear) (λ t. rw t (by_place (in_force r))) (λ t. rw t)
 
   -- s is what was found, and turned out to be t
@@ -53,11 +53,11 @@ part_is store slot len = let e : slot_start slot + len - slot_start slot ≡ len
 
 module _ (kind : ℕ) (r : Record) (n number : ℕ) (e : number ≡ probe_refusal kind r n) where
   pub source_refused : (number ≡ clear → ⊥) → Refused number ≡ source_of kind r n
-  unfolding source_of probed if◌then◌else◌
+  unfolding source_of probed whether◌then◌else◌
   source_refused h = rw (← e, ne_eqb number clear h)
 
   pub source_placed : number ≡ clear → (f : InForce) → f ≡ in_force r → (g : InForce) → f ≡ g → placed g ≡ source_of kind r n
-  unfolding source_of probed if◌then◌else◌
+  unfolding source_of probed whether◌then◌else◌
   source_placed h f i g j = rw (← e, eq-eqb number clear h) (ap placed (sym j ∙ i))
 
   pub source_part : number ≡ clear → (f : InForce) → f ≡ in_force r → (slot len start : ℕ) → f ≡ force.Text slot len → start ≡ slot_start slot → Part start (start + len) ≡ source_of kind r n
@@ -68,11 +68,11 @@ module _ (kind : ℕ) (r : Record) (n number : ℕ) (e : number ≡ probe_refusa
 
 module _ (r : Record) (n own : ℕ) (e : record_refusal r n own ≡ clear) where
   not_short : short_store n ≡ false
-  unfolding record_refusal if◌then◌else◌
+  unfolding record_refusal whether◌then◌else◌
   not_short = by (short_store n) (λ t. let z : ◌≡◌ {A = ℕ} 11 clear = rw t at e in absurd (omega arith)) (λ t. t)
 
   not_bad : bad_record r ≡ false
-  unfolding record_refusal if◌then◌else◌
+  unfolding record_refusal whether◌then◌else◌
   not_bad = by (bad_record r) (λ t. let z : ◌≡◌ {A = ℕ} 15 clear = rw (not_short, t) at e in absurd (omega arith)) (λ t. t)
 
   store_long : store_length ≤ n
@@ -90,13 +90,13 @@ unfolding placed
 place_within n slot len h i j = (omega arith, omega arith)
 
 force_within : (r : Record) (n : ℕ) → store_length ≤ n → bad_record r ≡ false → Within n (placed (in_force r))
-unfolding in_force if◌then◌else◌ placed
+unfolding in_force whether◌then◌else◌ placed
 force_within r n h g =
     by (given r.candidate_len) (λ t. rw t (place_within n _ _ h (candidate_low r) (length_short _ (good_candidate r g) t)))
     (λ t. by (given r.live_len) (λ u. rw (t, u) (place_within n _ _ h (slot_low r (good_slot r g) u) (length_short _ (good_live r g) u))) (λ u. rw (t, u) tt))
 
 source_within : (kind : ℕ) (r : Record) (n : ℕ) → Within n (source_of kind r n)
-unfolding source_of probed if◌then◌else◌ probe_refusal
+unfolding source_of probed whether◌then◌else◌ probe_refusal
 source_within kind r n =
     by (eqb (probe_refusal kind r n) clear)
     (λ t. let c = eqb-true (probe_refusal kind r n) clear t in rw t (force_within r n (store_long r n _ c) (not_bad r n _ c)))

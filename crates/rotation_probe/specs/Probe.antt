@@ -1,7 +1,7 @@
 -- "A probe judges a request on what is in force: the candidate, else the live text, else factory, which names no rule"
 use Rattle.std.specs.Prelude.{ℕ, eqb, length}
 use Rattle.std.proofs.Math.Option.{none}
-use Rattle.text.specs.Test.{if◌then◌else◌}
+use Rattle.text.specs.Test.{whether◌then◌else◌}
 use Rattle.text.specs.String.{Str}
 use Rattle.text.specs.Refusal.{clear}
 use Rattle.table.specs.declared.Checked.TheVariants.{Accepted}
@@ -21,7 +21,7 @@ use Rattle.rotation.specs.declared.InForce.TheVariants.{Text, Factory}
 -- for records of that kind, and the store has n bytes
 module _ {A : Type 0} (refused : ℕ → A) (judged : InForce → A) where
   unfoldable pub probed : ℕ → Record → ℕ → A
-  probed kind r n = if eqb (probe_refusal kind r n) clear then judged (in_force r) else refused (probe_refusal kind r n)
+  probed kind r n = whether eqb (probe_refusal kind r n) clear then judged (in_force r) else refused (probe_refusal kind r n)
 
 -- ---- the single-path verdict, for a record of kind 2
 

@@ -1,6 +1,6 @@
 -- The RPC probe, for a record of kind 1.
 use Rattle.std.specs.Prelude.{ℕ, eqb, length}
-use Rattle.text.specs.Test.{if◌then◌else◌}
+use Rattle.text.specs.Test.{whether◌then◌else◌}
 use Rattle.text.specs.String.{Str}
 use Rattle.text.specs.Refusal.{clear}
 use Rattle.rpc.specs.Request.{rpc_refusal}
@@ -19,7 +19,7 @@ rpc_refused number = Judged (Refused number)
 
 -- factory: "kind 1 permits all"; "Factory has no text to judge, but the request still is."
 unfoldable pub factory_rpc : ℕ → RpcAnswer
-factory_rpc number = if eqb number clear then PermitAll else rpc_refused number
+factory_rpc number = whether eqb number clear then PermitAll else rpc_refused number
 
 unfoldable pub rpc_on : Str → Str → Str → Str → InForce → RpcAnswer
 rpc_on store identity path headers (Text slot len) = Judged (rpc_verdict (text_in store slot len) identity path headers)

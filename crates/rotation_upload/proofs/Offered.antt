@@ -6,7 +6,7 @@ use borrow.Author.Tests.{eq-eqb, ne_eqb, eqb-true, ltb-false}
 use lib.Dec.{eqb, ltb}
 use lib.ListN.{length}
 use Rattle.limits.specs.Limits.{max_table_text, max_policy_text, slot_length, store_length}
-use Rattle.text.specs.Test.{if◌then◌else◌}
+use Rattle.text.specs.Test.{whether◌then◌else◌}
 use Rattle.text.specs.String.{Str}
 use Rattle.text.specs.Fill.{put}
 use Rattle.text.specs.Refusal.{clear}
@@ -28,19 +28,19 @@ pub never : {X : Type 0} (n l : ℕ) → Refused n l ≡ Accepted → X
 never n l e = let z : ◌≡◌ {A = ℕ} 0 1 = cc in absurd (omega arith)
 
 table_short : (text : Str) → check text ≡ Accepted → length text ≤ max_table_text
-unfolding check if◌then◌else◌
+unfolding check whether◌then◌else◌
 table_short text e = by (ltb max_table_text (length text)) (λ t. never 1 0 (rw t at e)) (λ t. ltb-false max_table_text (length text) t)
 
 of_policy_accepted : (n : ℕ) → of_policy (check_of n) ≡ Accepted → n ≡ clear
-unfolding of_policy check_of if◌then◌else◌
+unfolding of_policy check_of whether◌then◌else◌
 of_policy_accepted n e = by (eqb n clear) (λ t. eqb-true n clear t) (λ t. never n 0 (rw t at e))
 
 policy_short : (text : Str) → policy_refusal text ≡ clear → length text ≤ max_policy_text
-unfolding policy_refusal if◌then◌else◌
+unfolding policy_refusal whether◌then◌else◌
 policy_short text e = by (ltb max_policy_text (length text)) (λ t. let z : ◌≡◌ {A = ℕ} 30 clear = rw t at e in absurd (omega arith)) (λ t. ltb-false max_policy_text (length text) t)
 
 pub offered_short : (kind : ℕ) (text : Str) → offered_check kind text ≡ Accepted → length text ≤ slot_length
-unfolding offered_check if◌then◌else◌
+unfolding offered_check whether◌then◌else◌
 offered_short kind text e =
     by (eqb kind 1)
     (λ t. let h : length text ≤ max_policy_text = policy_short text (of_policy_accepted (policy_refusal text) (rw t at e)) in omega arith)
@@ -50,31 +50,31 @@ offered_short kind text e =
 
 module _ (kind : ℕ) (text : Str) (c : Checked) where
   pub offered_policy : (p : Check) → kind ≡ 1 → p ≡ check_of (policy_refusal text) → c ≡ of_policy p → c ≡ offered_check kind text
-  unfolding offered_check if◌then◌else◌
+  unfolding offered_check whether◌then◌else◌
   offered_policy p k e f = f ∙ rw (eq-eqb kind 1 k, e)
 
   pub offered_table : (kind ≡ 1 → ⊥) → c ≡ check text → c ≡ offered_check kind text
-  unfolding offered_check if◌then◌else◌
+  unfolding offered_check whether◌then◌else◌
   offered_table k e = e ∙ rw (ne_eqb kind 1 k)
 
 -- ---- the upload
 
 module _ (r : Record) (n : ℕ) (text : Str) where
   pub answer_refused : (number : ℕ) → number ≡ off_refusal r n → (number ≡ clear → ⊥) → Refused number 0 ≡ upload_answer offered_check r n text
-  unfolding upload_answer unless if◌then◌else◌
+  unfolding upload_answer unless whether◌then◌else◌
   answer_refused number e h = rw (← e, ne_eqb number clear h)
 
   pub answer_offered : (number : ℕ) (c : Checked) → number ≡ off_refusal r n → number ≡ clear → c ≡ offered_check r.kind text → c ≡ upload_answer offered_check r n text
-  unfolding upload_answer unless if◌then◌else◌
+  unfolding upload_answer unless whether◌then◌else◌
   answer_offered number c e h f = rw (← e, eq-eqb number clear h) f
 
   -- an accepted upload has room
   accepted_long : (number : ℕ) (c : Checked) → unless number 0 c ≡ Accepted → (number ≡ clear) × (c ≡ Accepted)
-  unfolding unless if◌then◌else◌
+  unfolding unless whether◌then◌else◌
   accepted_long number c e = by (eqb number clear) (λ t. (eqb-true number clear t, rw t at e)) (λ t. never number 0 (rw t at e))
 
   long_store : (own : ℕ) → record_refusal r n own ≡ clear → store_length ≤ n
-  unfolding record_refusal short_store if◌then◌else◌
+  unfolding record_refusal short_store whether◌then◌else◌
   long_store own e = by (ltb n store_length) (λ t. let z : ◌≡◌ {A = ℕ} 11 clear = rw t at e in absurd (omega arith)) (λ t. ltb-false n store_length t)
 
   upload_long : upload_answer offered_check r n text ≡ Accepted → store_length ≤ n

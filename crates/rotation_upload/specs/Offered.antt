@@ -1,6 +1,6 @@
 -- "Upload checks the whole text": by its record's kind (1 policy, 2 table).
 use Rattle.std.specs.Prelude.{ℕ, eqb}
-use Rattle.text.specs.Test.{if◌then◌else◌}
+use Rattle.text.specs.Test.{whether◌then◌else◌}
 use Rattle.text.specs.String.{Str}
 use Rattle.table.specs.Text.{check}
 use Rattle.table.specs.declared.Checked.{Checked}
@@ -17,4 +17,4 @@ of_policy (policy.Refused n) = checked.Refused n 0
 
 -- a text offered to a record of that kind
 unfoldable pub offered_check : ℕ → Str → Checked
-offered_check kind text = if eqb kind 1 then of_policy (check_of (policy_refusal text)) else check text
+offered_check kind text = whether eqb kind 1 then of_policy (check_of (policy_refusal text)) else check text

@@ -4,7 +4,7 @@ use mathlib.Core.Bool.{Bool, true, false, not}
 use mathlib.Core.List.{List, [], ◌∷◌}
 use mathlib.Core.Option.{none, some}
 use Prim.Native.Nat.{ℕ, suc}
-use Rattle.text.specs.Test.{◌and◌, ◌or◌, if◌then◌else◌, ◌∈◌, any}
+use Rattle.text.specs.Test.{◌and◌, ◌or◌, whether◌then◌else◌, ◌∈◌, any}
 use Rattle.text.proofs.Tests.{by, clash, and_r, all→}
 use Rattle.policy.specs.Policy.{Header, Rule, Policy}
 use Rattle.rpc.specs.Request.{Request}
@@ -13,12 +13,12 @@ use Rattle.rpc.specs.declared.verdict.Verdict.TheVariants.{Denied, Permitted, De
 
 module _ {A : Type 0} (f : A → Bool) where
   found : (k : ℕ) (l : List A) → any f l ≡ true → (n : ℕ) × (first_from k f l ≡ some n)
-  unfolding first_from any ◌or◌ if◌then◌else◌
+  unfolding first_from any ◌or◌ whether◌then◌else◌
   found k [] h = clash h refl
   found k (x ∷ l) h = by (f x) (λ t. rw t (k, refl)) (λ t. rw t (found (suc k) l (rw t at h)))
 
   missed : (k : ℕ) (l : List A) → any f l ≡ false → first_from k f l ≡ none
-  unfolding first_from any ◌or◌ if◌then◌else◌
+  unfolding first_from any ◌or◌ whether◌then◌else◌
   missed k [] h = refl
   missed k (x ∷ l) h = by (f x) (λ t. clash (rw t) h) (λ t. rw t (missed (suc k) l (rw t at h)))
 

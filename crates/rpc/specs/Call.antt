@@ -1,7 +1,7 @@
 -- The answer of the RPC verdict, over the texts that it is given.
 use Rattle.std.proofs.Math.Option.{Option, none, some}
 use Rattle.std.specs.Prelude.{ℕ, eqb}
-use Rattle.text.specs.Test.{if◌then◌else◌, or_nothing}
+use Rattle.text.specs.Test.{whether◌then◌else◌, or_nothing}
 use Rattle.text.specs.String.{Str}
 use Rattle.text.specs.Refusal.{clear}
 use Rattle.policy.specs.Policy.{Policy, policy_refusal, policy_of}
@@ -21,7 +21,7 @@ verdict_by (some p) r = verdict p r
 
 -- a refusal number comes before an answer
 unfoldable pub refused_else : ℕ → Verdict → Verdict
-refused_else number v = if eqb number clear then v else Refused number
+refused_else number v = whether eqb number clear then v else Refused number
 
 -- "text before request, and in each the smallest number"
 unfoldable pub rpc_verdict : Str → Str → Str → Str → Verdict

@@ -2,7 +2,7 @@
 use Rattle.std.specs.Prelude.{Bool, not, List, [], ◌∷◌, ◌++◌, map, ℕ, zero, suc, eqb, ltb, length}
 use Rattle.std.proofs.Math.Option.{Option, none, some}
 use Rattle.limits.specs.Limits.{max_request_string, max_header_lines}
-use Rattle.text.specs.Test.{◌and◌, ◌or◌, if◌then◌else◌, all, only, absent}
+use Rattle.text.specs.Test.{◌and◌, ◌or◌, whether◌then◌else◌, all, only, absent}
 use Rattle.text.specs.Byte.{is_print}
 use Rattle.text.specs.String.{Str, same}
 use Rattle.text.specs.Refusal.{◌when◌else◌, clear}
@@ -27,12 +27,12 @@ longer c (some r) = some (c ∷ r.0, r.1)
 -- what stands before the first byte b, and what after it
 unfoldable pub cut_at : ℕ → Str → Option (Str × Str)
 cut_at b [] = none
-cut_at b (c ∷ s) = if eqb c b then some ([], s) else longer c (cut_at b s)
+cut_at b (c ∷ s) = whether eqb c b then some ([], s) else longer c (cut_at b s)
 
 -- "Header names are nonempty lower-case letters, digits and `-◌.`"; a value is any bytes 0x20 to 0x7E
 unfoldable pub line_of : Option (Str × Str) → Option Line
 line_of none = none
-line_of (some r) = if not (empty r.0) and all is_header_byte r.0 and all is_print r.1 then some (record { name = r.0; value = r.1 }) else none
+line_of (some r) = whether not (empty r.0) and all is_header_byte r.0 and all is_print r.1 then some (record { name = r.0; value = r.1 }) else none
 
 -- a first one and the others, if all are there
 unfoldable pub cons : {A : Type 0} → Option A → Option (List A) → Option (List A)
@@ -47,8 +47,8 @@ line_then rest (some r) = cons (line_of (cut_at 58 r.0)) (rest r.1)
 
 -- the lines of a text, at most n of them: each ends with LF (10)
 unfoldable pub lines_of : ℕ → Str → Option (List Line)
-lines_of zero s = if empty s then some [] else none
-lines_of (suc n) s = if empty s then some [] else line_then (lines_of n) (cut_at 10 s)
+lines_of zero s = whether empty s then some [] else none
+lines_of (suc n) s = whether empty s then some [] else line_then (lines_of n) (cut_at 10 s)
 
 -- a text of n bytes has at most n lines
 abbrev pub headers_of : Str → Option (List Line)

@@ -1,7 +1,7 @@
 -- "Deny rules are judged first, then allow rules; the answer names the list and the first matching rule in it (numbered from 0), or default deny."
 use Rattle.std.specs.Prelude.{Bool, true, false, List, [], ◌∷◌, ℕ, suc}
 use Rattle.std.proofs.Math.Option.{Option, none, some}
-use Rattle.text.specs.Test.{◌and◌, if◌then◌else◌, all, any}
+use Rattle.text.specs.Test.{◌and◌, whether◌then◌else◌, all, any}
 use Rattle.text.specs.String.{Str}
 use Rattle.policy.specs.Policy.{Header, Rule, Policy}
 use Rattle.rpc.specs.Pattern.{matches}
@@ -25,7 +25,7 @@ rule_matches r u = listed u.principals r.identity and listed u.paths r.path and 
 -- the number of the first that passes, counted from k
 unfoldable pub first_from : {A : Type 0} → ℕ → (A → Bool) → List A → Option ℕ
 first_from k f [] = none
-first_from k f (x ∷ xs) = if f x then some k else first_from (suc k) f xs
+first_from k f (x ∷ xs) = whether f x then some k else first_from (suc k) f xs
 
 -- by the first allow rule that matches
 unfoldable pub allowed : Option ℕ → Verdict

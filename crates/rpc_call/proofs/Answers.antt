@@ -6,7 +6,7 @@ use mathlib.Core.Option.{Option, none, some}
 use Prim.Native.Nat.{ℕ}
 use native.Mathlib.Omega.{arith}
 use borrow.Author.Tests.{eq-eqb, ne_eqb}
-use Rattle.text.specs.Test.{◌or◌, if◌then◌else◌}
+use Rattle.text.specs.Test.{◌or◌, whether◌then◌else◌}
 use Rattle.text.specs.String.{Str, bytes}
 use Rattle.text.specs.Refusal.{clear}
 use Rattle.text.proofs.Tests.{by}
@@ -66,11 +66,11 @@ module _ (r : Request) (j : Json) where
 -- ---- rpc_verdict
 
 unless_refused : (n : ℕ) (v : Verdict) → (n ≡ clear → ⊥) → refused_else n v ≡ Refused n
-unfolding refused_else if◌then◌else◌
+unfolding refused_else whether◌then◌else◌
 unless_refused n v h = rw (ne_eqb n clear h)
 
 unless_clear : (n : ℕ) (v : Verdict) → n ≡ clear → refused_else n v ≡ v
-unfolding refused_else if◌then◌else◌
+unfolding refused_else whether◌then◌else◌
 unless_clear n v h = rw (eq-eqb n clear h)
 
 by_policy : (p : Policy) (r : Request) → verdict_by (some p) r ≡ verdict p r
@@ -93,7 +93,7 @@ module _ (policy identity path headers : Str) where
     request_judged i w f v e = e ∙ sym (call_open ∙ unless_clear _ _ c ∙ unless_clear _ _ f ∙ ap (λ (o : Option Policy). verdict_by o (request identity path headers)) (policy_is policy c i w) ∙ by_policy _ _)
 
 pub headers_good : (identity path headers : Str) → rpc_refusal identity path headers ≡ clear → bad_headers headers ≡ false
-unfolding rpc_refusal if◌then◌else◌
+unfolding rpc_refusal whether◌then◌else◌
 headers_good identity path headers e =
     by (bad_text identity or bad_text path) (λ t. let z : ◌≡◌ {A = ℕ} 40 clear = rw t at e in absurd (omega arith))
     (λ t. by (bad_headers headers) (λ u. let z : ◌≡◌ {A = ℕ} 41 clear = rw (t, u) at e in absurd (omega arith)) (λ u. u))

@@ -9,7 +9,7 @@ use lib.Dec.{eqb, ltb}
 use lib.ListN.{length, take, drop, get_or, set, length-set, length-drop, drop_of_length-le}
 use lib.Seq.{take_all, drop_at, drop-drop, length-take-le, get_or-set_same, get_or-set_other}
 use borrow.Author.Tests.{eqb-true, eqb-false, ltb-true, ltb-false, lt-ltb, le-ltb}
-use Rattle.text.specs.Test.{◌and◌, if◌then◌else◌, only, absent, or_nothing}
+use Rattle.text.specs.Test.{◌and◌, whether◌then◌else◌, only, absent, or_nothing}
 use Rattle.text.specs.String.{Str}
 use Rattle.text.specs.Frame.{part}
 use Rattle.text.specs.Fill.{put}
@@ -33,7 +33,7 @@ no_line : {x : Line} → none ≡ some x → ⊥
 no_line e = let z : ◌≡◌ {A = ℕ} 0 1 = cc in omega arith
 
 line_two : (s : Str) (x : Line) → line_of (cut_at 58 s) ≡ some x → 2 ≤ length s
-unfolding line_of cut_at longer if◌then◌else◌ empty ◌and◌
+unfolding line_of cut_at longer whether◌then◌else◌ empty ◌and◌
 line_two [] x e = absurd (no_line e)
 line_two (c ∷ []) x e = by (eqb c 58) (λ t. absurd (no_line (rw t at e))) (λ t. absurd (no_line (rw t at e)))
 line_two (c ∷ d ∷ s) x e = omega arith
@@ -84,11 +84,11 @@ module _ (seed : Seed) (b : ℕ) where
   only_nil = refl
 
   only_in : (x : Line) (l : List Line) → in_bucket seed b x ≡ true → only (in_bucket seed b) (x ∷ l) ≡ x ∷ only (in_bucket seed b) l
-  unfolding only if◌then◌else◌
+  unfolding only whether◌then◌else◌
   only_in x l t = rw t
 
   only_out : (x : Line) (l : List Line) → in_bucket seed b x ≡ false → only (in_bucket seed b) (x ∷ l) ≡ only (in_bucket seed b) l
-  unfolding only if◌then◌else◌
+  unfolding only whether◌then◌else◌
   only_out x l t = rw t
 
   bucket_is : (x : Line) → in_bucket seed b x ≡ true → bucket_of seed x.name ≡ b
@@ -254,7 +254,7 @@ gathering_start seed key h last before out b x q s = record {
 
 -- what falls from turn to turn
 unfoldable pub steps : Str → ℕ → ℕ
-steps h p = if ltb p (length h) then suc p else 0
+steps h p = whether ltb p (length h) then suc p else 0
 
 -- the line at p
 pub record Linked (key h before out : Str) (p e at : ℕ) : Type 0 where
@@ -300,12 +300,12 @@ module _ (key h before out : Str) (p at e : ℕ) (l : p < length h) (k : Cut 10 
 
     -- a chain falls
     chain_falls : {q : ℕ} {r : List Line} → Chain h before p q r → steps h q < suc p
-    unfolding steps if◌then◌else◌
+    unfolding steps whether◌then◌else◌
     chain_falls {q = q} (stop x) = rw (le-ltb q (length h) x) (omega arith)
     chain_falls {q = q} (link o u c) = let y = o.cut.low in let z = o.inside in rw (lt-ltb q (length h) (omega arith)) (omega arith)
 
     pub steps_fall : steps h (get_or before (p / 3) 0) < steps h p
-    unfolding steps if◌then◌else◌
+    unfolding steps whether◌then◌else◌
     steps_fall = rw (lt-ltb p (length h) l) (chain_falls g.chain)
 
     module _ (out' : Str) (to : ℕ) (w : Wrote out to (line_value key (part h p e)) out' at) (near : at ≤ to + length (part h p e)) where

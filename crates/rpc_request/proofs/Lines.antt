@@ -11,7 +11,7 @@ use lib.ListN.{length, take, drop, get_or, length-drop, drop_of_length-le}
 use lib.Seq.{drop-cons, take-nil, take-take, drop-drop, get_or-drop, length-take-le}
 use borrow.Author.Tests.{eqb-true, eqb-false, eq-eqb, ne_eqb, lt-ltb, le-ltb, ltb-true, ltb-false, not-false}
 use Rattle.limits.specs.Limits.{max_request_string, max_header_lines}
-use Rattle.text.specs.Test.{◌and◌, ◌or◌, if◌then◌else◌, all, absent}
+use Rattle.text.specs.Test.{◌and◌, ◌or◌, whether◌then◌else◌, all, absent}
 use Rattle.text.specs.Byte.{is_print}
 use Rattle.text.specs.String.{Str}
 use Rattle.text.specs.Frame.{part}
@@ -38,11 +38,11 @@ part_long h i e l = length-take-le (e - i) (drop i h) (omega (arith, length-drop
 -- ---- byte_from
 
 cut_hit : (b x : ℕ) (r : Str) → x ≡ b → cut_at b (x ∷ r) ≡ some ([], r)
-unfolding cut_at if◌then◌else◌
+unfolding cut_at whether◌then◌else◌
 cut_hit b x r e = rw (eq-eqb x b e)
 
 cut_miss : (b x : ℕ) (r : Str) → (x ≡ b → ⊥) → cut_at b (x ∷ r) ≡ longer x (cut_at b r)
-unfolding cut_at if◌then◌else◌
+unfolding cut_at whether◌then◌else◌
 cut_miss b x r e = rw (ne_eqb x b e)
 
 cut_nil : (b : ℕ) → cut_at b [] ≡ none
@@ -59,11 +59,11 @@ longer_none c = refl
 
 module _ (h : Str) where
   pub here_some : (i e : ℕ) → e < length h → cut_here h i e ≡ some (part h i e, drop (e + 1) h)
-  unfolding cut_here if◌then◌else◌
+  unfolding cut_here whether◌then◌else◌
   here_some i e l = rw (lt-ltb e (length h) l)
 
   pub here_none : (i e : ℕ) → length h ≤ e → cut_here h i e ≡ none
-  unfolding cut_here if◌then◌else◌
+  unfolding cut_here whether◌then◌else◌
   here_none i e l = rw (le-ltb e (length h) l)
 
   longer_here : (i e : ℕ) → i < length h → i < e → longer (get_or h i 0) (cut_here h (i + 1) e) ≡ cut_here h i e
@@ -121,20 +121,20 @@ module _ (p : ℕ → Bool) (s : Str) where
 
 -- what is found in the first n bytes is what is found in all of them
 until_take : (p : ℕ → Bool) (n : ℕ) (s : Str) → until p (take n s) < length (take n s) → until p s ≡ until p (take n s)
-unfolding until if◌then◌else◌
+unfolding until whether◌then◌else◌
 until_take p zero s l = absurd (omega arith)
 until_take p (suc n) [] l = refl
 until_take p (suc n) (x ∷ s) l = by (p x) (λ t. rw t) (λ t. rw t (ap suc (until_take p n s (let z = rw t at l in omega (arith, z)))))
 
 until_in : (p : ℕ → Bool) (n : ℕ) (s : Str) → until p s < n → until p (take n s) ≡ until p s
-unfolding until if◌then◌else◌
+unfolding until whether◌then◌else◌
 until_in p zero s l = absurd (omega arith)
 until_in p (suc n) [] l = refl
 until_in p (suc n) (x ∷ s) l = by (p x) (λ t. rw t) (λ t. rw t (ap suc (until_in p n s (let z = rw t at l in omega (arith, z)))))
 
 -- the byte that is found passes the test
 until_hit : (p : ℕ → Bool) (s : Str) → until p s < length s → p (get_or s (until p s) 0) ≡ true
-unfolding until if◌then◌else◌
+unfolding until whether◌then◌else◌
 until_hit p [] l = absurd (omega arith)
 until_hit p (x ∷ s) l = by (p x) (λ t. rw t t) (λ t. rw t (until_hit p s (let z = rw t at l in omega (arith, z))))
 
@@ -169,11 +169,11 @@ abbrev good : Str → Str → Bool
 good x y = not (empty x) and all is_header_byte x and all is_print y
 
 line_test : (x y : Str) → absent (line_of (some (x, y))) ≡ not (good x y)
-unfolding line_of absent if◌then◌else◌
+unfolding line_of absent whether◌then◌else◌
 line_test x y = by (good x y) (λ t. rw t) (λ t. rw t)
 
 line_is : (x y : Str) → absent (line_of (some (x, y))) ≡ false → line_of (some (x, y)) ≡ some (record { name = x; value = y })
-unfolding line_of if◌then◌else◌
+unfolding line_of whether◌then◌else◌
 line_is x y h = rw (not-false (good x y) (sym (line_test x y) ∙ h))
 
 unread : {A : Type 0} {o : Option A} → o ≡ none → absent o ≡ true
@@ -286,33 +286,33 @@ header_not_lf x t = ne_eqb x 10 (λ z. clash t (ap is_header_byte z))
 
 -- bytes that print, and then an LF
 until_lf : (p : ℕ → Bool) → ((x : ℕ) → is_print x ≡ true → p x ≡ false) → p 10 ≡ true → (n : ℕ) (s : Str) → n < length s → all is_print (take n s) ≡ true → get_or s n 0 ≡ 10 → until p s ≡ n
-unfolding until if◌then◌else◌ all
+unfolding until whether◌then◌else◌ all
 until_lf p f t n [] l a e = absurd (omega arith)
 until_lf p f t zero (x ∷ s) l a e = let z : p x ≡ true = ap p e ∙ t in rw z
 until_lf p f t (suc n) (x ∷ s) l a e = rw (f x (and_l _ _ a)) (ap suc (until_lf p f t n s (omega arith) (and_r _ _ a) e))
 
 -- header bytes, and then a colon: the LF comes later
 colon_first : (n : ℕ) (s : Str) → n < length s → all is_header_byte (take n s) ≡ true → get_or s n 0 ≡ 58 → n < until (is 10) s
-unfolding until if◌then◌else◌ all
+unfolding until whether◌then◌else◌ all
 colon_first n [] l a e = absurd (omega arith)
 colon_first zero (x ∷ s) l a e = let z : is 10 x ≡ false = ap (is 10) e in rw z (omega arith)
 colon_first (suc n) (x ∷ s) l a e = rw (header_not_lf x (and_l _ _ a)) (let z = colon_first n s (omega arith) (and_r _ _ a) e in omega arith)
 
 -- what stands before the first byte that does not print
 all_printed : (s : Str) → all is_print (take (until unprinted s) s) ≡ true
-unfolding until if◌then◌else◌ all
+unfolding until whether◌then◌else◌ all
 all_printed [] = refl
 all_printed (x ∷ s) = by (unprinted x) (λ t. rw t) (λ t. rw t (both _ _ (print_is x t) (all_printed s)))
 
 -- ---- are_lines
 
 lines_nil : (n : ℕ) → lines_of n [] ≡ some []
-unfolding lines_of empty if◌then◌else◌
+unfolding lines_of empty whether◌then◌else◌
 lines_nil zero = refl
 lines_nil (suc n) = refl
 
 lines_some : (n : ℕ) (s : Str) → 0 < length s → lines_of (suc n) s ≡ line_then (lines_of n) (cut_at 10 s)
-unfolding lines_of empty if◌then◌else◌
+unfolding lines_of empty whether◌then◌else◌
 lines_some n s l = rw (ne_eqb (length s) 0 (λ z. omega arith))
 
 then_some : (n : ℕ) (x y : Str) → line_then (lines_of n) (some (x, y)) ≡ cons (line_of (cut_at 58 x)) (lines_of n y)

@@ -8,7 +8,7 @@ use native.Mathlib.Omega.{arith}
 use lib.ListN.{length, take, drop, set, length-drop}
 use lib.Seq.{take_all}
 use borrow.Author.Tests.{eq-eqb}
-use Rattle.text.specs.Test.{if◌then◌else◌, only, absent}
+use Rattle.text.specs.Test.{whether◌then◌else◌, only, absent}
 use Rattle.text.specs.String.{Str, same}
 use Rattle.text.specs.Frame.{part}
 use Rattle.text.specs.Fill.{put}
@@ -25,11 +25,11 @@ use Rattle.rpc_request.proofs.Lines.{line_there, line_whole}
 
 module _ (key : Str) (x : Line) (l : List Line) where
   values_hit : same x.name key ≡ true → values_of key (x ∷ l) ≡ x.value ∷ values_of key l
-  unfolding values_of only if◌then◌else◌
+  unfolding values_of only whether◌then◌else◌
   values_hit h = rw h
 
   values_miss : same x.name key ≡ false → values_of key (x ∷ l) ≡ values_of key l
-  unfolding values_of only if◌then◌else◌
+  unfolding values_of only whether◌then◌else◌
   values_miss h = rw h
 
 values_nil : (key : Str) → values_of key [] ≡ []
@@ -76,7 +76,7 @@ module _ (seed : Seed) (key : Str) (b : ℕ) (q : bucket_of seed key ≡ b) wher
   other_bucket x f = by (same x.name key) (λ t. clash (eq-eqb (bucket_of seed x.name) b (ap (bucket_of seed) (same→≡ x.name key t) ∙ q)) f) (λ t. alone_miss key x t)
 
   pub one_bucket : (l : List Line) (r : List Str) → gather key l r ≡ gather key (only (in_bucket seed b) l) r
-  unfolding gather only if◌then◌else◌
+  unfolding gather only whether◌then◌else◌
   one_bucket [] r = refl
   one_bucket (x ∷ l) r =
       by (in_bucket seed b x)

@@ -1,7 +1,7 @@
 -- What the programs answer step by step: header lines by position, and the joined value of a header.
 use Rattle.std.specs.Prelude.{◌≡◌, true, false, List, [], ◌∷◌, ◌++◌, ℕ, suc, ◌+◌, ◌≤◌, ◌<◌, ltb, length, drop}
 use Rattle.std.proofs.Math.Option.{Option, none, some}
-use Rattle.text.specs.Test.{if◌then◌else◌, absent, or_nothing}
+use Rattle.text.specs.Test.{whether◌then◌else◌, absent, or_nothing}
 use Rattle.text.specs.String.{Str}
 use Rattle.text.specs.Frame.{part}
 use Rattle.rpc.specs.Request.{Line, cut_at, line_of, lines_of, headers_of, values_of, header_value}
@@ -9,7 +9,7 @@ use Rattle.rpc_request.specs.declared.index.Span.{Span}
 
 -- the bytes from `from` on, cut at e; no cut where e is the end
 unfoldable pub cut_here : List ℕ → ℕ → ℕ → Option (Str × Str)
-cut_here h from e = if ltb e (length h) then some (part h from e, drop (e + 1) h) else none
+cut_here h from e = whether ltb e (length h) then some (part h from e, drop (e + 1) h) else none
 
 -- r is where the first byte b stands from `from` on
 pub record Cut (b : ℕ) (h : List ℕ) (from r : ℕ) : Type 0 where

@@ -8,7 +8,7 @@ use mathlib.Core.List.{List, [], ◌∷◌, ◌++◌, append_assoc, append-nil}
 use mathlib.Core.Option.{none}
 use lib.ListN.{take, drop, get_or, replicate}
 use borrow.Author.Tests.{eq-eqb}
-use Rattle.text.specs.Test.{◌and◌, if◌then◌else◌}
+use Rattle.text.specs.Test.{◌and◌, whether◌then◌else◌}
 use Rattle.text.specs.String.{Str}
 use Rattle.text.proofs.Tests.{clash, by, and_r}
 use Rattle.text_hash.specs.Mix.{place_of}
@@ -31,7 +31,7 @@ abbrev pub nothing : Best
 nothing = record { weight = 0; number = record { 0 = 0 }; at = 0 }
 
 held_nothing : (f : List ℕ) → held f nothing ≡ none
-unfolding held if◌then◌else◌
+unfolding held whether◌then◌else◌
 held_nothing f = refl
 
 no_values : (ks : List Rattle.path.specs.Path.Key) → ks ≡ [] → values_of ks ≡ []

@@ -10,7 +10,7 @@ use lib.Dec.{eqb, leb}
 use borrow.Author.Tests.{ne_eqb, eqb-true, eqb-false, leb-true, leb-false}
 use Rattle.text.proofs.Tests.{by}
 use Rattle.limits.specs.Limits.{max_rules}
-use Rattle.text.specs.Test.{if◌then◌else◌, ◌∈◌}
+use Rattle.text.specs.Test.{whether◌then◌else◌, ◌∈◌}
 use Rattle.text.specs.String.{Str}
 use Rattle.text_hash.specs.Mix.{place_of}
 use Rattle.text_hash.specs.declared.Seed.{Seed}
@@ -27,15 +27,15 @@ use Rattle.rule_index.specs.Index.{buckets, span, subject_place, bucket_of, Keye
 
 module _ (f : List ℕ) (s : ℕ) (seed : Seed) where
   pub group_place : get_or f (s + 2) 0 ≡ 1 → 0 ≡ subject_place seed (rule_in f s)
-  unfolding subject_place if◌then◌else◌
+  unfolding subject_place whether◌then◌else◌
   group_place e = rw (by_group_lem f s e)
 
   pub user_place : (get_or f (s + 2) 0 ≡ 1 → ⊥) → place_of seed buckets (str_in f (s + 3)) ≡ subject_place seed (rule_in f s)
-  unfolding subject_place if◌then◌else◌ rule_in
+  unfolding subject_place whether◌then◌else◌ rule_in
   user_place e = rw (ne_eqb (get_or f (s + 2) 0) 1 e)
 
-  subject_by : (t : Bool) (x : Str) → (if t then 0 else place_of seed buckets x) < buckets
-  unfolding if◌then◌else◌
+  subject_by : (t : Bool) (x : Str) → (whether t then 0 else place_of seed buckets x) < buckets
+  unfolding whether◌then◌else◌
   subject_by true x = omega arith
   subject_by false x = place_within seed x buckets _ refl (omega arith)
 

@@ -9,7 +9,7 @@ use lib.Dec.{eqb}
 use lib.ListN.{length, get_or, set as store}
 use lib.Seq.{get_or-set_other}
 use borrow.Author.Tests.{eqb-true, eqb-false}
-use Rattle.text.specs.Test.{◌and◌, if◌then◌else◌}
+use Rattle.text.specs.Test.{◌and◌, whether◌then◌else◌}
 use Rattle.text.specs.String.{Str}
 use Rattle.text.proofs.Tests.{clash, by, and_l, and_r, same→≡}
 use Rattle.text_hash.specs.Mix.{place_of}
@@ -33,21 +33,21 @@ either f (inr b) = b
 
 module _ (set g : ℕ) (user : Str) (r : Rule) (e : concerns_by set g user r ≡ true) where
   group_listed : r.by_group ≡ true → has_of set g ≡ true
-  unfolding concerns_by if◌then◌else◌
+  unfolding concerns_by whether◌then◌else◌
   group_listed t = rw t at e
 
   user_named : r.by_group ≡ false → r.subject ≡ user
-  unfolding concerns_by if◌then◌else◌
+  unfolding concerns_by whether◌then◌else◌
   user_named t = same→≡ _ _ (rw t at e)
 
 module _ (seed : Seed) (r : Rule) (clue : Str) where
   group_bucket : r.by_group ≡ true → (c : ℕ) → c ≡ place_of seed buckets clue → c < buckets → bucket_of seed r clue ≡ c
-  unfolding subject_place if◌then◌else◌
+  unfolding subject_place whether◌then◌else◌
   group_bucket t c e l = rw (t, sym e) (omega arith)
 
   user_bucket : r.by_group ≡ false → (user : Str) → r.subject ≡ user → (x c : ℕ) → x ≡ place_of seed buckets user → c ≡ place_of seed buckets clue
       → bucket_of seed r clue ≡ (x + c) % buckets
-  unfolding subject_place if◌then◌else◌
+  unfolding subject_place whether◌then◌else◌
   user_bucket t user e x c d h = rw (t, e, d, h)
 
 module _ (f starts holders : List ℕ) (n set : ℕ) (user : Str) (mode : ℕ) (origin : Str) (p : Path) where

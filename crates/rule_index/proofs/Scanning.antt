@@ -9,7 +9,7 @@ use lib.Dec.{ltb}
 use lib.ListN.{get_or}
 use borrow.Author.Tests.{eqb-true, ltb-true, ltb-false}
 use Rattle.limits.specs.Limits.{max_rules}
-use Rattle.text.specs.Test.{if◌then◌else◌}
+use Rattle.text.specs.Test.{whether◌then◌else◌}
 use Rattle.text.specs.String.{Str}
 use Rattle.text.proofs.Tests.{clash, by}
 use Rattle.text.proofs.Order.{more_less}
@@ -29,11 +29,11 @@ use Rattle.rule_index.specs.Found.{is_over, matches_at, over_at, Kept, After, Tr
 use Rattle.rule_index.proofs.Keying.{key_number, key_weight, key_bucket}
 
 held_none : (f : List ℕ) (b : Best) → lacks b ≡ true → held f b ≡ none
-unfolding held if◌then◌else◌
+unfolding held whether◌then◌else◌
 held_none f b e = rw e
 
 held_some : (f : List ℕ) (b : Best) → lacks b ≡ false → held f b ≡ some (record { number = b.number.0; rule = rule_in f b.at })
-unfolding held if◌then◌else◌
+unfolding held whether◌then◌else◌
 held_some f b e = rw e
 
 over_some : (r : Rule) (h : Option Numbered) (m : Numbered) → h ≡ some m → is_over r h ≡ better r m.rule

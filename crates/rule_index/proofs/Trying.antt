@@ -8,7 +8,7 @@ use mathlib.Core.Option.{Option, none, some}
 use lib.Dec.{eqb}
 use lib.ListN.{length, get_or}
 use borrow.Author.Tests.{eq-eqb, ne_eqb}
-use Rattle.text.specs.Test.{◌and◌, if◌then◌else◌}
+use Rattle.text.specs.Test.{◌and◌, whether◌then◌else◌}
 use Rattle.text.specs.String.{Str}
 use Rattle.text.proofs.Tests.{clash, by}
 use Rattle.path.specs.Path.{Path}
@@ -36,7 +36,7 @@ pub none_some {ℓ} : {X : Type ℓ} {m : Numbered} → ◌≡◌ {A = Option Nu
 none_some e = let z : ◌≡◌ {A = ℕ} 0 1 = cc in absurd (omega arith)
 
 prefer_still : (x : Rule) (h c : Option Numbered) → is_over x (prefer better h c) ≡ true → is_over x h ≡ true
-unfolding is_over prefer if◌then◌else◌
+unfolding is_over prefer whether◌then◌else◌
 prefer_still x none c e = refl
 prefer_still x (some n) none e = e
 prefer_still x (some n) (some m) e =
@@ -46,21 +46,21 @@ prefer_still x (some n) (some m) e =
     (λ w. clash (rw w at e) t))
 
 prefer_done : (test : Rule → Bool) (i : ℕ) (r : Rule) (h : Option Numbered) → test r ≡ true → is_over r (prefer better h (candidate test i r)) ≡ false
-unfolding is_over prefer candidate if◌then◌else◌
+unfolding is_over prefer candidate whether◌then◌else◌
 prefer_done test i r none e = rw e (not_over_itself r)
 prefer_done test i r (some n) e = rw e (by (better r n.rule) (λ w. rw w (not_over_itself r)) (λ w. rw w w))
 
 module _ (P : Numbered → Type 0) where
   prefer_stands : (h c : Option Numbered) → ((m : Numbered) → h ≡ some m → P m) → ((m : Numbered) → c ≡ some m → P m)
       → (m : Numbered) → prefer better h c ≡ some m → P m
-  unfolding prefer if◌then◌else◌
+  unfolding prefer whether◌then◌else◌
   prefer_stands none c a b m e = b m e
   prefer_stands (some n) none a b m e = a m e
   prefer_stands (some n) (some k) a b m e =
       by (better k.rule n.rule) (λ w. b m (rw w at e)) (λ w. a m (rw w at e))
 
   candidate_stands : (test : Rule → Bool) (i : ℕ) (r : Rule) → (test r ≡ true → P (record { number = i; rule = r })) → (m : Numbered) → candidate test i r ≡ some m → P m
-  unfolding candidate if◌then◌else◌
+  unfolding candidate whether◌then◌else◌
   candidate_stands test i r p m e =
       by (test r) (λ t. subst P (some_is (rw t at e)) (p t)) (λ t. none_some (rw t at e))
 

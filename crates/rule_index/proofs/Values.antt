@@ -7,7 +7,7 @@ use mathlib.Core.Logic.{◌⊎◌, inl, inr}
 use mathlib.Core.List.Memᴰ
 use mathlib.Core.List.{List, ◌∷◌, ◌++◌}
 use lib.ListN.{length, get_or}
-use Rattle.text.specs.Test.{◌∈◌, only, if◌then◌else◌}
+use Rattle.text.specs.Test.{◌∈◌, only, whether◌then◌else◌}
 use Rattle.text.specs.String.{Str, bytes, same}
 use Rattle.text.proofs.Tests.{by}
 use Rattle.path.specs.Path.{Key, Elem, Path}
@@ -22,11 +22,11 @@ use Rattle.rule_index.proofs.Clues.{in_left, in_right}
 
 module _ (k : Key) (ks : List Key) where
   given_wild : wild k ≡ true → given (k ∷ ks) ≡ given ks
-  unfolding only if◌then◌else◌ not
+  unfolding only whether◌then◌else◌ not
   given_wild e = rw e
 
   given_definite : wild k ≡ false → given (k ∷ ks) ≡ k ∷ given ks
-  unfolding only if◌then◌else◌ not
+  unfolding only whether◌then◌else◌ not
   given_definite e = rw e
 
 module _ (f : List ℕ) (left q : ℕ) (some' : 0 < left) where

@@ -1,7 +1,7 @@
 -- The index of the rules: their keys in rising order, and where the first key of each bucket stands.
 use Rattle.std.specs.Prelude.{ℕ, suc, ◌+◌, ◌-◌, ◌*◌, ◌/◌, ◌%◌, ◌≤◌, ◌<◌, ◌≡◌, List, length, get_or}
 use Rattle.limits.specs.Limits.{max_rules}
-use Rattle.text.specs.Test.{if◌then◌else◌, ◌∈◌}
+use Rattle.text.specs.Test.{whether◌then◌else◌, ◌∈◌}
 use Rattle.text.specs.String.{Str}
 use Rattle.text_hash.specs.Mix.{place_of}
 use Rattle.text_hash.specs.declared.Seed.{Seed}
@@ -21,7 +21,7 @@ span = top_rank * max_rules
 
 -- the place of a rule's subject: 0 for a group
 unfoldable pub subject_place : Seed → Rule → ℕ
-subject_place seed r = if r.by_group then 0 else place_of seed buckets r.subject
+subject_place seed r = whether r.by_group then 0 else place_of seed buckets r.subject
 
 -- the bucket of a rule by a clue
 abbrev pub bucket_of : Seed → Rule → Str → ℕ

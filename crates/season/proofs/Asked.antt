@@ -11,7 +11,7 @@ use mathlib.Core.Option.{Option, none, some, bind}
 use lib.Dec.{eqb, ltb}
 use lib.ListN.{length, length-map}
 use Rattle.limits.specs.Limits.{max_log_lines}
-use Rattle.text.specs.Test.{if◌then◌else◌, ◌∈◌, absent}
+use Rattle.text.specs.Test.{whether◌then◌else◌, ◌∈◌, absent}
 use Rattle.text.specs.String.{Str}
 use Rattle.text.specs.Refusal.{◌when◌else◌, clear}
 use Rattle.text.proofs.Tests.{by, clash, on_cons}
@@ -37,7 +37,7 @@ pub record Asked (q : Request) : Type 0 where
   pub same : request q.user q.mode q.origin (path_text q.path) ≡ q
 
 unrefused_clear : (o : Option Request) (q : Request) → unrefused o ≡ some q → framed_refusal q ≡ clear
-unfolding unrefused if◌then◌else◌
+unfolding unrefused whether◌then◌else◌
 unrefused_clear none q e = let z : ◌≡◌ {A = ℕ} 0 1 = cc in absurd (omega arith)
 unrefused_clear (some p) q e =
     by (eqb (framed_refusal p) clear)
@@ -45,7 +45,7 @@ unrefused_clear (some p) q e =
     (λ c. let e' = rw c at e in let z : ◌≡◌ {A = ℕ} 0 1 = cc in absurd (omega arith))
 
 path_clear : (a b g : Bool) → (20 when a else 21 when b else 22 when not g else clear) ≡ clear → g ≡ true
-unfolding if◌then◌else◌
+unfolding whether◌then◌else◌
 path_clear true b g e = absurd (omega arith)
 path_clear false true g e = absurd (omega arith)
 path_clear false false false e = absurd (omega arith)
@@ -98,7 +98,7 @@ pub record AcceptedLines (ls : List Str) : Type 0 where
 
 -- the lines count from n + 1
 judged_few : (n : ℕ) (ls : List Str) → n ≤ max_log_lines → judge_log (n + 1) ls ≡ Accepted → n + length ls ≤ max_log_lines
-unfolding judge_log if◌then◌else◌
+unfolding judge_log whether◌then◌else◌
 judged_few n [] h e = omega arith
 judged_few n (l ∷ ls) h e =
     by (ltb max_log_lines (n + 1))
@@ -109,7 +109,7 @@ judged_few n (l ∷ ls) h e =
     (λ v. omega (arith, judged_few (n + 1) ls k (rw (u, v) at e))))
 
 judged_good : (n : ℕ) (ls : List Str) → judge_log n ls ≡ Accepted → (l : Str) → l ∈ ls → absent (request_of l) ≡ false
-unfolding judge_log if◌then◌else◌
+unfolding judge_log whether◌then◌else◌
 judged_good n [] e = λ l m. absurd (Memᴰ.not-nil m)
 judged_good n (l ∷ ls) e =
     by (ltb max_log_lines n)
@@ -119,7 +119,7 @@ judged_good n (l ∷ ls) e =
     (λ v. on_cons _ v (judged_good (n + 1) ls (rw (u, v) at e))))
 
 good_judged : (n : ℕ) (ls : List Str) → n + length ls ≤ max_log_lines → ((l : Str) → l ∈ ls → absent (request_of l) ≡ false) → judge_log (n + 1) ls ≡ Accepted
-unfolding judge_log if◌then◌else◌
+unfolding judge_log whether◌then◌else◌
 good_judged n [] h g = refl
 good_judged n (l ∷ ls) h g =
     rw (le-ltb max_log_lines (n + 1) (omega arith), g l (Memᴰ.head refl)) (good_judged (n + 1) ls (omega arith) (λ k m. g k (Memᴰ.tail m)))

@@ -12,7 +12,7 @@ use lib.Dec.{ltb}
 use lib.ListN.{length, get_or, length-append, get_or-append}
 use Rattle.limits.specs.Limits.{max_rules, max_log_lines}
 use Rattle.limits.specs.Sizes.{report_lines, max_report}
-use Rattle.text.specs.Test.{if◌then◌else◌, ◌∈◌}
+use Rattle.text.specs.Test.{whether◌then◌else◌, ◌∈◌}
 use Rattle.text.specs.String.{Str, joined}
 use Rattle.text.proofs.Tests.{by}
 use Rattle.text_make.specs.Decimal.{digits, decimal}
@@ -161,7 +161,7 @@ module _ (t : Table) (qs : List Request) where
 
 -- a number below 10 ^ (j + 1) has at most j + 1 digits
 digits_short : (k j n : ℕ) → n < 10 ^ suc j → length (digits k n) ≤ suc j
-unfolding digits if◌then◌else◌
+unfolding digits whether◌then◌else◌
 digits_short zero j n h = omega arith
 digits_short (suc k) zero n h = rw (lt-ltb n 10 (omega arith)) (omega arith)
 digits_short (suc k) (suc j) n h =
@@ -191,7 +191,7 @@ report_short t qs h = omega (arith, joined_short (figures t qs) (λ k m. omega (
 
 -- digits are no LF
 digits_high : (k n : ℕ) {b : ℕ} → b ∈ digits k n → 48 ≤ b
-unfolding digits if◌then◌else◌
+unfolding digits whether◌then◌else◌
 digits_high zero n m = absurd (Memᴰ.not-nil m)
 digits_high (suc k) n {b} m =
     by (ltb n 10) (λ e. go [] (λ z. absurd (Memᴰ.not-nil z)) (rw e at m)) (λ e. go (digits k (n / 10)) (digits_high k (n / 10)) (rw e at m))

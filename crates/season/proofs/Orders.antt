@@ -10,7 +10,7 @@ use mathlib.Core.List.{Permᴰ}
 use mathlib.Core.Option.{Option, none, some, Option-elim}
 use lib.Dec.{eqb}
 use lib.ListN.{get_elem?}
-use Rattle.text.specs.Test.{◌and◌, if◌then◌else◌, absent}
+use Rattle.text.specs.Test.{◌and◌, whether◌then◌else◌, absent}
 use Rattle.text.specs.String.{Str, same}
 use Rattle.text.proofs.Tests.{by, bool_ext, same→≡, ≡→same}
 use Rattle.text.proofs.Order.{before_self}
@@ -105,7 +105,7 @@ module _ (t : Table) (ok : Orderly t) where
       (best_unique earlier_order (λ r. same r.id n.rule.id) t ok m n (best_of_id n.rule.id m place e) (best_of_id n.rule.id n there refl))
 
   decides_number : (i : ℕ) (n : Numbered) → decides i (decided_by (some n)) ≡ eqb n.number i
-  unfolding decided_by decides if◌then◌else◌
+  unfolding decided_by decides whether◌then◌else◌
   decides_number i n = by n.rule.permit (λ e. rw e) (λ e. rw e)
 
   -- the rule of number i decides where its id does
@@ -129,17 +129,17 @@ module _ (t : Table) (ok : Orderly t) where
 
 -- what the outcomes tell is the action, and whether there is an id
 permitted_is : (o : Option Numbered) → permitted (decided_by o) ≡ action o
-unfolding decided_by permitted action if◌then◌else◌
+unfolding decided_by permitted action whether◌then◌else◌
 permitted_is none = refl
 permitted_is (some n) = by n.rule.permit (λ e. rw e) (λ e. rw e)
 
 rule_is : (o : Option Numbered) → denied_by_rule (decided_by o) ≡ (not (absent (id_of o)) and not (action o))
-unfolding decided_by denied_by_rule absent id_of action ◌and◌ if◌then◌else◌
+unfolding decided_by denied_by_rule absent id_of action ◌and◌ whether◌then◌else◌
 rule_is none = refl
 rule_is (some n) = by n.rule.permit (λ e. rw e) (λ e. rw e)
 
 default_is : (o : Option Numbered) → denied_by_default (decided_by o) ≡ absent (id_of o)
-unfolding decided_by denied_by_default absent id_of if◌then◌else◌
+unfolding decided_by denied_by_default absent id_of whether◌then◌else◌
 default_is none = refl
 default_is (some n) = by n.rule.permit (λ e. rw e) (λ e. rw e)
 

@@ -10,7 +10,7 @@ use mathlib.Core.Option.{Option, none, some, bind}
 use lib.Dec.{eqb, ltb}
 use lib.ListN.{length, get_or, length-append}
 use Rattle.limits.specs.Limits.{max_log_lines}
-use Rattle.text.specs.Test.{◌and◌, if◌then◌else◌, ◌∈◌, absent}
+use Rattle.text.specs.Test.{◌and◌, whether◌then◌else◌, ◌∈◌, absent}
 use Rattle.text.specs.String.{Str}
 use Rattle.text.specs.Byte.{is_hex, hex_value}
 use Rattle.text.proofs.Tests.{by, clash, on_cons}
@@ -49,7 +49,7 @@ no_frame : {X : Type 0} {f : Str} → ◌≡◌ {A = Option Str} none (some f) �
 no_frame e = let z : ◌≡◌ {A = ℕ} 0 1 = cc in absurd (omega arith)
 
 pairs_end : (s f : Str) → pairs s ≡ some f → ends s ≡ true
-unfolding pairs pair ends if◌then◌else◌
+unfolding pairs pair ends whether◌then◌else◌
 pairs_end [] f e = no_frame e
 pairs_end (x ∷ []) f e = by (eqb x 10) (λ u. u) (λ u. no_frame (rw u at e))
 pairs_end (x ∷ y ∷ s) f e = go (is_hex x and is_hex y) (pairs s) e (pairs_end s)
@@ -121,7 +121,7 @@ requests_append (l ∷ ls) ms = go (request_of l) (requests_append ls ms)
 
 -- the first fault
 judge_append : (number : ℕ) (ls ms : List Str) → judge_log number (ls ++ ms) ≡ first_fault (judge_log number ls) (judge_log (number + length ls) ms)
-unfolding judge_log first_fault if◌then◌else◌
+unfolding judge_log first_fault whether◌then◌else◌
 judge_append number [] ms = ap (λ (k : ℕ). judge_log k ms) (omega arith)
 judge_append number (l ∷ ls) ms =
     by (ltb max_log_lines number) (λ u. rw u)

@@ -11,7 +11,7 @@ use mathlib.Core.Option.{Option, none, some}
 use lib.Dec.{eqb}
 use lib.ListN.{length, get_or, get_elem?}
 use Rattle.limits.specs.Limits.{max_rules}
-use Rattle.text.specs.Test.{◌and◌, if◌then◌else◌, ◌∈◌, only}
+use Rattle.text.specs.Test.{◌and◌, whether◌then◌else◌, ◌∈◌, only}
 use Rattle.text.specs.String.{joined}
 use Rattle.text.proofs.Tests.{by, and_second}
 use Rattle.table.specs.Table.{Table}
@@ -29,7 +29,7 @@ use Rattle.season.specs.Total.{total}
 
 -- 1 where it holds
 abbrev pub one_if : Bool → ℕ
-one_if b = if b then 1 else 0
+one_if b = whether b then 1 else 0
 
 module _ {A : Type 0} (f : A → Bool) where
   pub count_nil : count f [] ≡ 0
@@ -37,7 +37,7 @@ module _ {A : Type 0} (f : A → Bool) where
   count_nil = refl
 
   pub count_cons : (x : A) (xs : List A) → count f (x ∷ xs) ≡ one_if (f x) + count f xs
-  unfolding count only if◌then◌else◌
+  unfolding count only whether◌then◌else◌
   count_cons x xs = by (f x) (λ e. rw e (omega arith)) (λ e. rw e (omega arith))
 
   pub count_append : (xs ys : List A) → count f (xs ++ ys) ≡ count f xs + count f ys
@@ -45,7 +45,7 @@ module _ {A : Type 0} (f : A → Bool) where
   count_append (x ∷ xs) ys = omega (arith, count_cons x (xs ++ ys), count_cons x xs, count_append xs ys)
 
   pub count_most : (xs : List A) → count f xs ≤ length xs
-  unfolding if◌then◌else◌
+  unfolding whether◌then◌else◌
   count_most [] = omega (arith, count_nil)
   count_most (x ∷ xs) = by (f x) (λ e. omega (arith, rw e at (count_cons x xs), count_most xs)) (λ e. omega (arith, rw e at (count_cons x xs), count_most xs))
 
@@ -56,7 +56,7 @@ count_same f g (x ∷ xs) h =
     omega (arith, count_cons f x xs, count_cons g x xs, ap one_if (h x (Memᴰ.head refl)), count_same f g xs (λ y m. h y (Memᴰ.tail m)))
 
 count_none : {A : Type 0} (f : A → Bool) (xs : List A) → ((x : A) → f x ≡ false) → count f xs ≡ 0
-unfolding if◌then◌else◌
+unfolding whether◌then◌else◌
 count_none f [] h = count_nil f
 count_none f (x ∷ xs) h = omega (arith, rw (h x) at (count_cons f x xs), count_none f xs h)
 
@@ -85,12 +85,12 @@ each_none f e (suc n) i = omega (arith, e i, each_none f e n (suc i))
 
 -- one number of n from i on is r, or none
 no_hit : (r n i : ℕ) → r < i → total (for_each (λ k. one_if (eqb r k)) n i) ≡ 0
-unfolding for_each if◌then◌else◌
+unfolding for_each whether◌then◌else◌
 no_hit r zero i h = refl
 no_hit r (suc n) i h = rw (ne_eqb r i (λ z. omega arith)) (omega (arith, no_hit r n (suc i) (omega arith)))
 
 one_hit : (r n i : ℕ) → i ≤ r → r < i + n → total (for_each (λ k. one_if (eqb r k)) n i) ≡ 1
-unfolding for_each if◌then◌else◌
+unfolding for_each whether◌then◌else◌
 one_hit r zero i l h = absurd (omega arith)
 one_hit r (suc n) i l h =
     by (eqb r i)
@@ -122,7 +122,7 @@ answered t n h q = go (decider t q) (verdict t q)
     go none d = unfold decided_by in default
     go (some m) d =
         let k : m.number < n = omega (arith, below t.rules m.number m.rule d.numbered) in
-        unfold decided_by if◌then◌else◌ in by m.rule.permit (λ e. rw e (permit m.number k)) (λ e. rw e (deny m.number k))
+        unfold decided_by whether◌then◌else◌ in by m.rule.permit (λ e. rw e (permit m.number k)) (λ e. rw e (deny m.number k))
 
 -- what a request of mode m and answer a adds to a cell
 abbrev in_cell : ℕ → PathAnswer → ℕ → (PathAnswer → Bool) → ℕ
@@ -136,13 +136,13 @@ abbrev in_rules : PathAnswer → ℕ → ℕ
 in_rules a n = total (for_each (λ (i : ℕ). one_if (decides i a)) n 0)
 
 own_row : {n : ℕ} {a : PathAnswer} → Answered n a → (m : ℕ) → in_row m a m ≡ 1
-unfolding permitted denied_by_rule denied_by_default ◌and◌ if◌then◌else◌
+unfolding permitted denied_by_rule denied_by_default ◌and◌ whether◌then◌else◌
 own_row (permit r h) m = rw (eq-eqb m m refl)
 own_row (deny r h) m = rw (eq-eqb m m refl)
 own_row default m = rw (eq-eqb m m refl)
 
 other_row : (a : PathAnswer) (m k : ℕ) → (m ≡ k → ⊥) → in_row m a k ≡ 0
-unfolding ◌and◌ if◌then◌else◌
+unfolding ◌and◌ whether◌then◌else◌
 other_row a m k h = rw (ne_eqb m k h)
 
 -- each request is in one cell of its mode's row
@@ -155,16 +155,16 @@ abbrev by_default : ℕ → PathAnswer → ℕ
 by_default m a = in_cell m a 1 denied_by_default + in_cell m a 2 denied_by_default
 
 not_by_default : (a : PathAnswer) (m : ℕ) → denied_by_default a ≡ false → by_default m a ≡ 0
-unfolding if◌then◌else◌
+unfolding whether◌then◌else◌
 not_by_default a m e = rw (and_second (eqb m 1) _ e, and_second (eqb m 2) _ e)
 
 by_default_lem : (q : Request) → ReadsOrWrites q → by_default q.mode Default ≡ 1
-unfolding denied_by_default ◌and◌ if◌then◌else◌
+unfolding denied_by_default ◌and◌ whether◌then◌else◌
 by_default_lem q (inl e) = rw e
 by_default_lem q (inr e) = rw e
 
 one_rule : {n : ℕ} {a : PathAnswer} → Answered n a → (q : Request) → ReadsOrWrites q → in_rules a n + by_default q.mode a ≡ 1
-unfolding decides denied_by_default if◌then◌else◌
+unfolding decides denied_by_default whether◌then◌else◌
 one_rule {n} (permit r h) q m = omega (arith, one_hit r n 0 (omega arith) (omega arith), not_by_default (Permit (record { 0 = r })) q.mode refl)
 one_rule {n} (deny r h) q m = omega (arith, one_hit r n 0 (omega arith) (omega arith), not_by_default (Deny (record { 0 = r })) q.mode refl)
 one_rule {n} default q m = omega (arith, each_none (λ (i : ℕ). one_if (decides i Default)) (λ i. refl) n 0, by_default_lem q m)

@@ -1,6 +1,6 @@
 -- What the season report answers, and what it leaves in the lent buffer.
 use Rattle.std.specs.Prelude.{List, ℕ, leb, length}
-use Rattle.text.specs.Test.{if◌then◌else◌}
+use Rattle.text.specs.Test.{whether◌then◌else◌}
 use Rattle.text.specs.String.{Str}
 use Rattle.text.specs.Fill.{put}
 use Rattle.table.specs.Text.{check, table_of}
@@ -26,11 +26,11 @@ report_of table log = report (table_of table) (log_of log)
 -- 23: the report "doesn't fit the lent buffer"
 unfoldable pub answered : Checked → Str → List ℕ → Reported
 answered (checked.Refused n l) text out = Refused n l
-answered checked.Accepted text out = if leb (length text) (length out) then Length (length text) else Refused 23 0
+answered checked.Accepted text out = whether leb (length text) (length out) then Length (length text) else Refused 23 0
 
 unfoldable pub stored : Checked → Str → List ℕ → List ℕ
 stored (checked.Refused n l) text out = out
-stored checked.Accepted text out = if leb (length text) (length out) then put out 0 text else out
+stored checked.Accepted text out = whether leb (length text) (length out) then put out 0 text else out
 
 -- the call
 unfoldable pub season_answer : Str → Str → List ℕ → Reported

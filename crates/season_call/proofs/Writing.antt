@@ -9,7 +9,7 @@ use mathlib.Core.List.{List, [], ◌∷◌, ◌++◌, append_assoc, append-nil}
 use lib.Dec.{leb}
 use lib.ListN.{length, take, get_or, length-append}
 use lib.Seq.{length-take-le, take-suc, take_all}
-use Rattle.text.specs.Test.{if◌then◌else◌}
+use Rattle.text.specs.Test.{whether◌then◌else◌}
 use Rattle.text.specs.String.{Str, joined}
 use Rattle.text.specs.Fill.{put}
 use Rattle.text.proofs.Codec.{joined_nil}
@@ -80,13 +80,13 @@ module _ (figures : List ℕ) {d d' : List ℕ} {end : ℕ} (a : Added d 0 (join
       ap (λ (k : ℕ). take k d') z ∙ ap (take (0 + length (joined figure_line figures))) a.wrote.same ∙ put_take d 0 (joined figure_line figures) a.fits
 
   pub no_room : (out : List ℕ) → length out < end → (Refused 23 0 ≡ hands_out figures out) × (out ≡ left_in figures out)
-  unfolding answered stored if◌then◌else◌
+  unfolding answered stored whether◌then◌else◌
   no_room out h =
       let l : leb (length (joined figure_line figures)) (length out) ≡ false = lt-leb (length (joined figure_line figures)) (length out) (omega (arith, text_ends)) in
       (rw l, rw l)
 
   pub room : (out out' : List ℕ) → end ≤ length out → out' ≡ put out 0 (take end d') → (Length end ≡ hands_out figures out) × (out' ≡ left_in figures out)
-  unfolding answered stored if◌then◌else◌
+  unfolding answered stored whether◌then◌else◌
   room out out' h w =
       let l : leb (length (joined figure_line figures)) (length out) ≡ true = le-leb (length (joined figure_line figures)) (length out) (omega (arith, text_ends)) in
       (rw l (ap Length (sym text_ends)), rw l (w ∙ ap (put out 0) text_is))

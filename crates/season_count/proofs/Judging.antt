@@ -7,7 +7,7 @@ use mathlib.Core.List.{List}
 use mathlib.Core.Option.{none}
 use lib.ListN.{length, get_or}
 use Rattle.limits.specs.Limits.{max_rules}
-use Rattle.text.specs.Test.{if◌then◌else◌}
+use Rattle.text.specs.Test.{whether◌then◌else◌}
 use Rattle.text.specs.Frame.{Parsed, got, unread}
 use Rattle.text.proofs.Tests.{by}
 use Rattle.path.specs.Path.{Path}
@@ -40,7 +40,7 @@ path_ends f at y = path_within f at (path f at) refl y
 -- ---- the rule that decided has a place
 
 decided_placed : (f : List ℕ) (b : Best) (n : ℕ) → NumberBelow n b → n ≤ max_rules → Placed (decided_by (held f b))
-unfolding Placed decided_by held if◌then◌else◌
+unfolding Placed decided_by held whether◌then◌else◌
 decided_placed f b n l h =
     by (lacks b)
     (λ e. rw e tt)

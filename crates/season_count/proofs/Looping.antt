@@ -9,7 +9,7 @@ use mathlib.Core.Option.{Option, none, some}
 use lib.ListN.{length, drop, length-append, length-drop}
 use lib.Seq.{drop-length}
 use Rattle.limits.specs.Limits.{max_log_lines}
-use Rattle.text.specs.Test.{if◌then◌else◌, absent}
+use Rattle.text.specs.Test.{whether◌then◌else◌, absent}
 use Rattle.text.specs.String.{Str}
 use Rattle.table_line.specs.Lines.{lines}
 use Rattle.table_line.proofs.FirstLine.{lines_cons}
@@ -27,15 +27,15 @@ use Rattle.season_count.specs.declared.lines.Step.TheVariants.{To, Bad}
 -- ---- one line of a log
 
 judge_over : (k : ℕ) (l : Str) (ls : List Str) → max_log_lines < k → judge_log k (l ∷ ls) ≡ Refused 50 0
-unfolding judge_log if◌then◌else◌
+unfolding judge_log whether◌then◌else◌
 judge_over k l ls h = rw (lt-ltb max_log_lines k h)
 
 judge_bad : (k : ℕ) (l : Str) (ls : List Str) → k ≤ max_log_lines → request_of l ≡ none → judge_log k (l ∷ ls) ≡ Refused 51 k
-unfolding judge_log if◌then◌else◌ absent
+unfolding judge_log whether◌then◌else◌ absent
 judge_bad k l ls h e = rw (le-ltb max_log_lines k h, e)
 
 judge_good : (k : ℕ) (l : Str) (ls : List Str) (q : Request) → k ≤ max_log_lines → request_of l ≡ some q → judge_log k (l ∷ ls) ≡ judge_log (k + 1) ls
-unfolding judge_log if◌then◌else◌ absent
+unfolding judge_log whether◌then◌else◌ absent
 judge_good k l ls q h e = rw (le-ltb max_log_lines k h, e)
 
 judge_none : (k : ℕ) → judge_log k [] ≡ Accepted

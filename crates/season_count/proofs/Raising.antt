@@ -11,7 +11,7 @@ use lib.Dec.{eqb}
 use lib.ListN.{length, get_or, set, length-set}
 use lib.Seq.{get_or-set_same, get_or-set_other, ext_get_or}
 use Rattle.limits.specs.Limits.{max_rules}
-use Rattle.text.specs.Test.{◌and◌, if◌then◌else◌, only}
+use Rattle.text.specs.Test.{◌and◌, whether◌then◌else◌, only}
 use Rattle.text.proofs.Tests.{by}
 use Rattle.table.specs.Table.{Table}
 use Rattle.verdict.specs.Verdict.{Request}
@@ -29,17 +29,17 @@ bump false n = n
 
 module _ {A : Type 0} (f : A → Bool) where
   pub count_append : (xs ys : List A) → count f (xs ++ ys) ≡ count f xs + count f ys
-  unfolding count only if◌then◌else◌
+  unfolding count only whether◌then◌else◌
   count_append [] ys = sym (zero-add (count f ys))
   count_append (x ∷ xs) ys =
       by (f x) (λ t. rw t (ap suc (count_append xs ys) ∙ sym (suc-add (count f xs) (count f ys)))) (λ t. rw t (count_append xs ys))
 
   one : (x : A) → f x ≡ true → count f (x ∷ []) ≡ 1
-  unfolding count only if◌then◌else◌
+  unfolding count only whether◌then◌else◌
   one x t = rw t
 
   nought : (x : A) → f x ≡ false → count f (x ∷ []) ≡ 0
-  unfolding count only if◌then◌else◌
+  unfolding count only whether◌then◌else◌
   nought x t = rw t
 
   pub count_more : (xs : List A) (x : A) → count f (xs ++ (x ∷ [])) ≡ bump (f x) (count f xs)

@@ -11,7 +11,7 @@ use lib.Dec.{eqb, leb}
 use lib.ListN.{length, take, drop, length-drop, take-append-drop}
 use lib.Seq.{length-take-le, take_all, take-add, drop_at, drop-drop, drop-append-le}
 use Rattle.limits.specs.Sizes.{max_log_frame, max_log_line}
-use Rattle.text.specs.Test.{if◌then◌else◌}
+use Rattle.text.specs.Test.{whether◌then◌else◌}
 use Rattle.text.specs.String.{Str}
 use Rattle.text.proofs.Tests.{by, clash}
 use Rattle.table_line.specs.Lines.{onto, lines, pair, pairs, nonempty, frame}
@@ -34,8 +34,8 @@ paired true b (some g) f e = let i : b ∷ g ≡ f = cc in (g, refl, sym (ap len
 paired true b none f e = let z : ◌≡◌ {A = ℕ} 0 1 = cc in absurd (omega arith)
 paired false b x f e = let z : ◌≡◌ {A = ℕ} 0 1 = cc in absurd (omega arith)
 
-lone : (x : ℕ) (f : Str) → (if eqb x 10 then some [] else none) ≡ some f → (eqb x 10 ≡ true) × (length f ≡ 0)
-unfolding if◌then◌else◌
+lone : (x : ℕ) (f : Str) → (whether eqb x 10 then some [] else none) ≡ some f → (eqb x 10 ≡ true) × (length f ≡ 0)
+unfolding whether◌then◌else◌
 lone x f e =
     by (eqb x 10)
     (λ t. let g : some [] ≡ some f = rw t at e in let i : [] ≡ f = cc in (t, sym (ap length i)))

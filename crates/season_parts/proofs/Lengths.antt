@@ -3,11 +3,11 @@ use Prim.Native.Nat.{ℕ, ◌≤◌, ◌<◌}
 use native.Mathlib.Omega.{arith}
 use native.Mathlib.Decide.{dec_lt}
 use borrow.Author.Tests.{lt-ltb, le-ltb}
-use Rattle.text.specs.Test.{if◌then◌else◌}
+use Rattle.text.specs.Test.{whether◌then◌else◌}
 use Rattle.season_parts.specs.Figures.{between, bar_length}
 
 between_high : (low high n : ℕ) → low ≤ high → between low high n ≤ high
-unfolding between if◌then◌else◌
+unfolding between whether◌then◌else◌
 between_high low high n h = go (dec_lt n low) (dec_lt high n)
   where
     go : Dec (n < low) → Dec (high < n) → between low high n ≤ high

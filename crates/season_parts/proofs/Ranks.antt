@@ -9,7 +9,7 @@ use mathlib.Core.List.Memᴰ
 use mathlib.Core.List.{List, [], ◌∷◌}
 use lib.ListN.{length, get_or, set}
 use lib.Seq.{get_or-set_other}
-use Rattle.text.specs.Test.{if◌then◌else◌, ◌∈◌}
+use Rattle.text.specs.Test.{whether◌then◌else◌, ◌∈◌}
 use Rattle.season_parts.specs.Ranked.{top_from, top, Decided, decided_most, ranked_by, ranked}
 use Rattle.season_parts.specs.Laws.{Ahead, Falling, none, one, more, RanksAll}
 
@@ -53,7 +53,7 @@ found_same m b i c cs r h (new j e g f l) = new (suc j) (e ∙ omega arith) g (�
     less (suc k) n = l k (omega arith)
 
 found : (b m i : ℕ) (cs : List ℕ) → Found m b i cs (top_from b m i cs)
-unfolding top_from if◌then◌else◌
+unfolding top_from whether◌then◌else◌
 found b m i [] = old refl (λ k. omega arith)
 found b m i (c ∷ cs) = go (dec_lt m c) (found i c (i + 1) cs) (found b m (i + 1) cs)
   where
@@ -110,11 +110,11 @@ positive_few (suc c ∷ cs) = omega (arith, positive_few cs)
 -- ---- the ranking, one rule more
 
 ranked_more : (k : ℕ) (l : List ℕ) → 0 < get_or l (top l) 0 → ranked_by (suc k) l ≡ decided_most l ∷ ranked_by k (set l (top l) 0)
-unfolding ranked_by if◌then◌else◌
+unfolding ranked_by whether◌then◌else◌
 ranked_more k l h = rw (ne_eqb (get_or l (top l) 0) 0 (omega arith))
 
 ranked_over : (k : ℕ) (l : List ℕ) → get_or l (top l) 0 ≡ 0 → ranked_by (suc k) l ≡ []
-unfolding ranked_by if◌then◌else◌
+unfolding ranked_by whether◌then◌else◌
 ranked_over k l h = rw h
 
 -- ---- it falls

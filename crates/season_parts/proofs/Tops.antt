@@ -8,7 +8,7 @@ use mathlib.Core.Path.{◌≡◌, refl, sym, ◌∙◌}
 use mathlib.Core.List.{List, ◌∷◌}
 use lib.ListN.{length, take, drop, get_or, drop_of_length-le}
 use lib.Seq.{drop-cons, get_or-take, length-take-le}
-use Rattle.text.specs.Test.{if◌then◌else◌}
+use Rattle.text.specs.Test.{whether◌then◌else◌}
 use Rattle.season_parts.specs.Ranked.{top_from, top}
 
 -- of the first i counts `best` is the first of the largest, which is `most`
@@ -26,20 +26,20 @@ module _ (counts : List ℕ) (n best most i : ℕ) (l : n ≤ length counts) (g 
     next_count : drop i (take n counts) ≡ get_or counts i 0 ∷ drop (i + 1) (take n counts)
     next_count = rw (add-one, ← get_or-take n counts i 0 h) (drop-cons (take n counts) i 0 (omega (arith, length-take-le n counts l)))
 
-    pub topping_turn : Topping counts n (if ltb most (get_or counts i 0) then i else best) (if ltb most (get_or counts i 0) then get_or counts i 0 else most) (i + 1)
-    unfolding top_from if◌then◌else◌
+    pub topping_turn : Topping counts n (whether ltb most (get_or counts i 0) then i else best) (whether ltb most (get_or counts i 0) then get_or counts i 0 else most) (i + 1)
+    unfolding top_from whether◌then◌else◌
     topping_turn = record {
       answer = g.answer ∙ rw next_count (apart (ltb most (get_or counts i 0)));
       within = omega arith;
       found = either (ltb most (get_or counts i 0));
     }
       where
-        apart : (t : Bool) → (if t then top_from i (get_or counts i 0) (i + 1) (drop (i + 1) (take n counts)) else top_from best most (i + 1) (drop (i + 1) (take n counts)))
-            ≡ top_from (if t then i else best) (if t then get_or counts i 0 else most) (i + 1) (drop (i + 1) (take n counts))
+        apart : (t : Bool) → (whether t then top_from i (get_or counts i 0) (i + 1) (drop (i + 1) (take n counts)) else top_from best most (i + 1) (drop (i + 1) (take n counts)))
+            ≡ top_from (whether t then i else best) (whether t then get_or counts i 0 else most) (i + 1) (drop (i + 1) (take n counts))
         apart true = refl
         apart false = refl
 
-        either : (t : Bool) → (if t then i else best) < n
+        either : (t : Bool) → (whether t then i else best) < n
         either true = h
         either false = g.found
 

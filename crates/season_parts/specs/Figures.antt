@@ -1,13 +1,13 @@
 -- A count's share of all, and its bar.
 use Rattle.std.specs.Prelude.{ℕ, ◌*◌, ◌-◌, ◌/◌, ◌%◌, ◌++◌, eqb, ltb, replicate}
-use Rattle.text.specs.Test.{if◌then◌else◌}
+use Rattle.text.specs.Test.{whether◌then◌else◌}
 use Rattle.text.specs.String.{Str, bytes}
 use Rattle.text_make.specs.Decimal.{decimal}
 use Rattle.season_parts.specs.Columns.{column}
 
 -- in tenths of a percent, rounded down; nothing of nothing
 unfoldable pub tenths : ℕ → ℕ → ℕ
-tenths n all = if eqb all 0 then 0 else n * 1000 / all
+tenths n all = whether eqb all 0 then 0 else n * 1000 / all
 
 -- " 44.5%"
 unfoldable pub share : ℕ → ℕ → Str
@@ -19,11 +19,11 @@ bar_columns = 40
 
 -- n or the nearer of two bounds
 unfoldable pub between : ℕ → ℕ → ℕ → ℕ
-between low high n = if ltb n low then low else (if ltb high n then high else n)
+between low high n = whether ltb n low then low else (whether ltb high n then high else n)
 
 -- "proportional to the largest count, rounded down but at least one column for a rule that decided"
 unfoldable pub bar_length : ℕ → ℕ → ℕ
-bar_length n most = between 1 bar_columns (if eqb most 0 then 0 else n * bar_columns / most)
+bar_length n most = between 1 bar_columns (whether eqb most 0 then 0 else n * bar_columns / most)
 
 -- a column of its own
 unfoldable pub bar : ℕ → ℕ → Str

@@ -1,17 +1,17 @@
 // Which rule decided most often.
 ghost use Rattle.std.specs.Prelude.{◌≡◌, ◌≤◌, ◌<◌, ltb, length, take};
-ghost use Rattle.text.specs.Test.{if◌then◌else◌};
+ghost use Rattle.text.specs.Test.{whether◌then◌else◌};
 ghost use Rattle.season_parts.specs.Ranked.{top as Ranked·top};
 
 fn larger(most: u64, c: u64) -> u64
-    ensures { result ≡ (if ltb most c then c else most) }
+    ensures { result ≡ (whether ltb most c then c else most) }
 {
     if most < c { c } else { most }
 }
 
 // i, whose count is c, where that is more; else the best so far.
 fn place(most: u64, c: u64, i: usize, best: usize) -> usize
-    ensures { result ≡ (if ltb most c then i else best) }
+    ensures { result ≡ (whether ltb most c then i else best) }
 {
     if most < c { i } else { best }
 }

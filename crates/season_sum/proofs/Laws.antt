@@ -8,7 +8,7 @@ use mathlib.Core.List.{List, [], ◌∷◌, ◌++◌}
 use mathlib.Core.Option.{Option, none, some}
 use lib.ListN.{length, get_or, length-append}
 use Rattle.limits.specs.Sizes.{report_lines}
-use Rattle.text.specs.Test.{if◌then◌else◌}
+use Rattle.text.specs.Test.{whether◌then◌else◌}
 use Rattle.text.specs.String.{Str, joined}
 use Rattle.text.proofs.Tests.{by}
 use Rattle.season.specs.Report.{figure_line}
@@ -68,7 +68,7 @@ only_reports = record { report = only_from report_lines 1; whole = whole report_
 
 sums_step : (l m n : ℕ) (ms ns : List ℕ) → (adding (l + 1) ms ns ≡ Good → (i : ℕ) → get_or (sums_of ms ns) i 0 ≡ get_or ms i 0 + get_or ns i 0)
     → adding l (m ∷ ms) (n ∷ ns) ≡ Good → (i : ℕ) → get_or (sums_of (m ∷ ms) (n ∷ ns)) i 0 ≡ get_or (m ∷ ms) i 0 + get_or (n ∷ ns) i 0
-unfolding adding sums_of if◌then◌else◌
+unfolding adding sums_of whether◌then◌else◌
 sums_step l m n ms ns f e i = by (fits (m + n)) on off
   where
     on : fits (m + n) ≡ true → get_or (sums_of (m ∷ ms) (n ∷ ns)) i 0 ≡ get_or (m ∷ ms) i 0 + get_or (n ∷ ns) i 0

@@ -11,7 +11,7 @@ use mathlib.Core.Option.{none}
 use lib.Dec.{leb, ltb}
 use lib.ListN.{length, drop, get_or, drop_of_length-le}
 use lib.Seq.{drop-cons}
-use Rattle.text.specs.Test.{◌and◌, if◌then◌else◌}
+use Rattle.text.specs.Test.{◌and◌, whether◌then◌else◌}
 use Rattle.text.specs.Byte.{is_digit}
 use Rattle.text.specs.String.{Str}
 use Rattle.season_sum.specs.Reading.{fits, followed, continues, number_from, figure_of}
@@ -62,26 +62,26 @@ module _ (text : Str) (i v : ℕ) where
 
   module _ (l : i < length text) where
     pub number_ends : (at n : ℕ) → at ≤ i → number_from n (drop at text) ≡ number_from v (drop i text) → get_or text i 0 ≡ 10 → ReadsNumber text at n (Number v (i + 1))
-    unfolding number_from if◌then◌else◌
+    unfolding number_from whether◌then◌else◌
     number_ends at n p e h = number {n = v} {next = i + 1} (e ∙ rw (drop-cons text i 0 l, h, add-one)) (omega arith) (omega arith)
 
     pub number_stops : (get_or text i 0 ≡ 10 → ⊥) → continues v (get_or text i 0) ≡ false → number_from v (drop i text) ≡ none
-    unfolding number_from if◌then◌else◌
+    unfolding number_from whether◌then◌else◌
     number_stops h c = rw (drop-cons text i 0 l, ne_eqb _ 10 h, c)
 
     pub number_more : (get_or text i 0 ≡ 10 → ⊥) → continues v (get_or text i 0) ≡ true → number_from v (drop i text) ≡ number_from (followed v (get_or text i 0)) (drop (i + 1) text)
-    unfolding number_from if◌then◌else◌
+    unfolding number_from whether◌then◌else◌
     number_more h c = rw (drop-cons text i 0 l, ne_eqb _ 10 h, c, add-one)
 
 -- ---- the figure of the line at a position
 
 module _ (text : Str) (at : ℕ) (l : at < length text) where
   pub figure_none : is_digit (get_or text at 0) ≡ false → Reads text at (figure_of (drop at text)) Bad
-  unfolding figure_of if◌then◌else◌
+  unfolding figure_of whether◌then◌else◌
   figure_none h = bad (rw (drop-cons text at 0 l, h))
 
   figure_begins : is_digit (get_or text at 0) ≡ true → figure_of (drop at text) ≡ number_from (get_or text at 0 - 48) (drop (at + 1) text)
-  unfolding figure_of if◌then◌else◌
+  unfolding figure_of whether◌then◌else◌
   figure_begins h = rw (drop-cons text at 0 l, h, add-one)
 
   pub figure_read : {r : Figure} → is_digit (get_or text at 0) ≡ true → Reads text (at + 1) (number_from (get_or text at 0 - 48) (drop (at + 1) text)) r → Reads text at (figure_of (drop at text)) r

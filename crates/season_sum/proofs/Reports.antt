@@ -6,7 +6,7 @@ use mathlib.Core.List.{List, [], ◌∷◌, append-nil}
 use mathlib.Core.Option.{Option, none, some}
 use lib.ListN.{length, drop_of_length-le}
 use Rattle.limits.specs.Sizes.{report_lines}
-use Rattle.text.specs.Test.{if◌then◌else◌}
+use Rattle.text.specs.Test.{whether◌then◌else◌}
 use Rattle.text.specs.String.{Str}
 use mathlib.Core.Bool.{Bool, true, false}
 use Rattle.text.specs.Fill.{put}
@@ -63,12 +63,12 @@ module _ (text : Str) (zeros figures : List ℕ) (long : length zeros ≡ report
 -- ---- as many sums as before
 
 sums_long : (ms ns : List ℕ) → length (sums_of ms ns) ≡ length ms
-unfolding sums_of if◌then◌else◌
+unfolding sums_of whether◌then◌else◌
 sums_long [] ns = refl
 sums_long (m ∷ ms) [] = refl
 sums_long (m ∷ ms) (n ∷ ns) = go (fits (m + n)) (sums_long ms ns)
   where
-    go : (b : Bool) → length (sums_of ms ns) ≡ length ms → length (if b then (m + n) ∷ sums_of ms ns else m ∷ ms) ≡ length (m ∷ ms)
+    go : (b : Bool) → length (sums_of ms ns) ≡ length ms → length (whether b then (m + n) ∷ sums_of ms ns else m ∷ ms) ≡ length (m ∷ ms)
     go true e = ap suc e
     go false e = refl
 

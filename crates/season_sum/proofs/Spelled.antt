@@ -10,7 +10,7 @@ use mathlib.Core.Bool.{true, false}
 use mathlib.Core.List.{[], ◌∷◌, ◌++◌, append_assoc}
 use mathlib.Core.Option.{Option, none, some}
 use lib.Dec.{eqb, ltb}
-use Rattle.text.specs.Test.{◌and◌, if◌then◌else◌}
+use Rattle.text.specs.Test.{◌and◌, whether◌then◌else◌}
 use Rattle.text.specs.Byte.{is_digit}
 use Rattle.text.specs.String.{Str}
 use Rattle.text_make.specs.Decimal.{digits, decimal}
@@ -26,13 +26,13 @@ is_digit_lem d h = rw (le-leb 48 (48 + d) (omega arith), le-leb (48 + d) 57 (ome
 
 -- one more digit
 goes_on : (n : ℕ) (s : Str) → 10 ≤ n → n < 2 ^ 64 → number_from (n / 10) ((48 + n % 10) ∷ s) ≡ number_from n s
-unfolding number_from continues ◌and◌ if◌then◌else◌
+unfolding number_from continues ◌and◌ whether◌then◌else◌
 goes_on n s h l =
     let e : followed (n / 10) (48 + n % 10) ≡ n = omega arith in
     rw (ne_eqb (48 + n % 10) 10 (omega arith), is_digit_lem (n % 10) (omega arith), lt-ltb 0 (n / 10) (omega arith), e, lt-ltb n (2 ^ 64) l)
 
 one_digit_read : (k n : ℕ) (s : Str) → n < 10 → figure_of (digits (suc k) n ++ s) ≡ number_from n s
-unfolding figure_of if◌then◌else◌
+unfolding figure_of whether◌then◌else◌
 one_digit_read k n s h =
     let z : n / 10 ≡ 0 = omega arith in
     let m : n % 10 ≡ n = omega arith in
@@ -55,7 +55,7 @@ digits_read (suc k) n s h l =
     go (no m) f = last_digit_read (suc k) n s (omega arith) l f
 
 pub line_read : (n : ℕ) (s : Str) → n < 2 ^ 64 → figure_of (figure_line n ++ s) ≡ some (n, s)
-unfolding figure_line decimal number_from if◌then◌else◌
+unfolding figure_line decimal number_from whether◌then◌else◌
 line_read n s l = rw (append_assoc (digits 20 n) _ s) (digits_read 19 n (10 ∷ s) (omega arith) l)
 
 -- ---- a line that reads
@@ -87,7 +87,7 @@ followed_text n b h =
 
 number_step : (v b : ℕ) (s : Str) (n : ℕ) (t : Str) → (number_from (followed v b) s ≡ some (n, t) → decimal (followed v b) ++ s ≡ figure_line n ++ t)
     → number_from v (b ∷ s) ≡ some (n, t) → decimal v ++ (b ∷ s) ≡ figure_line n ++ t
-unfolding number_from if◌then◌else◌ figure_line
+unfolding number_from whether◌then◌else◌ figure_line
 number_step v b s n t f e = by (eqb b 10) ends more
   where
     ends : eqb b 10 ≡ true → decimal v ++ (b ∷ s) ≡ (decimal n ++ (10 ∷ [])) ++ t
@@ -119,7 +119,7 @@ digit_text b h =
     rw (last_digit 19 (b - 48), z, left_none 19, r)
 
 pub line_only : (s : Str) (n : ℕ) (t : Str) → figure_of s ≡ some (n, t) → s ≡ figure_line n ++ t
-unfolding figure_of if◌then◌else◌
+unfolding figure_of whether◌then◌else◌
 line_only [] n t e = let z : ◌≡◌ {A = ℕ} 0 1 = cc in absurd (omega arith)
 line_only (b ∷ s) n t e = by (is_digit b) on off
   where

@@ -10,7 +10,7 @@ use mathlib.Core.Path.{◌≡◌, refl, sym, ◌∙◌}
 use mathlib.Core.List.{List, [], ◌∷◌, ◌++◌, append-nil}
 use lib.ListN.{length, take, drop, get_or, set, length-set, take-append-drop, drop_of_length-le}
 use lib.Seq.{drop-cons, take-suc-set, take_all, drop-set-lt, append_snoc}
-use Rattle.text.specs.Test.{if◌then◌else◌}
+use Rattle.text.specs.Test.{whether◌then◌else◌}
 use Rattle.season_sum.specs.Reading.{fits}
 use Rattle.season_sum.specs.Adding.{adding, sums_of}
 use Rattle.season_sum.specs.declared.Outcome.{Outcome}
@@ -51,11 +51,11 @@ module _ (ms ns : List ℕ) (i : ℕ) (out : List ℕ) (g : Adding ms ns i out) 
     figure = rw add-one (drop-cons ns i 0 k)
 
     pub adding_stops : fits (get_or out i 0 + get_or ns i 0) ≡ false → Answers ms ns out (TooLarge (i + 1))
-    unfolding adding sums_of if◌then◌else◌
+    unfolding adding sums_of whether◌then◌else◌
     adding_stops t = (sym (g.answer ∙ rw (here, figure, t)), sym (g.stored ∙ rw (here, figure, t) (rw (← here) (take-append-drop i out))))
 
     pub adding_more : fits (get_or out i 0 + get_or ns i 0) ≡ true → Adding ms ns (i + 1) (set out i (get_or out i 0 + get_or ns i 0))
-    unfolding adding sums_of if◌then◌else◌
+    unfolding adding sums_of whether◌then◌else◌
     adding_more t =
         let a : drop (i + 1) (set out i (get_or out i 0 + get_or ns i 0)) ≡ drop (i + 1) out = drop-set-lt (i + 1) out i _ (omega arith) in
         let b : take (i + 1) (set out i (get_or out i 0 + get_or ns i 0)) ≡ take i out ++ ((get_or out i 0 + get_or ns i 0) ∷ []) = rw add-one (take-suc-set out i _ (omega (arith, g.long))) in

@@ -1,7 +1,7 @@
 -- Figures added place by place.
 use Rattle.std.specs.Prelude.{ℕ, ◌+◌, List, [], ◌∷◌}
 use Rattle.limits.specs.Sizes.{report_lines}
-use Rattle.text.specs.Test.{if◌then◌else◌}
+use Rattle.text.specs.Test.{whether◌then◌else◌}
 use Rattle.text.specs.String.{Str}
 use Rattle.season_sum.specs.declared.Outcome.{Outcome}
 use Rattle.season_sum.specs.declared.Outcome.TheVariants.{Good, NoFigure, LineCount, TooLarge}
@@ -11,13 +11,13 @@ use Rattle.season_sum.specs.Reading.{fits, reading, figures_of}
 unfoldable pub adding : ℕ → List ℕ → List ℕ → Outcome
 adding l [] ns = Good
 adding l (m ∷ ms) [] = Good
-adding l (m ∷ ms) (n ∷ ns) = if fits (m + n) then adding (l + 1) ms ns else TooLarge l
+adding l (m ∷ ms) (n ∷ ns) = whether fits (m + n) then adding (l + 1) ms ns else TooLarge l
 
 -- the sums, up to the first that does not fit
 unfoldable pub sums_of : List ℕ → List ℕ → List ℕ
 sums_of [] ns = []
 sums_of (m ∷ ms) [] = m ∷ ms
-sums_of (m ∷ ms) (n ∷ ns) = if fits (m + n) then (m + n) ∷ sums_of ms ns else m ∷ ms
+sums_of (m ∷ ms) (n ∷ ns) = whether fits (m + n) then (m + n) ∷ sums_of ms ns else m ∷ ms
 
 -- ---- a report added to sums
 

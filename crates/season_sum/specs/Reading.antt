@@ -1,7 +1,7 @@
 -- A report's text read: its figures, or the first line that is at fault.
 use Rattle.std.specs.Prelude.{ℕ, zero, suc, ◌+◌, ◌*◌, ◌-◌, ◌^◌, Bool, List, [], ◌∷◌, eqb, ltb}
 use Rattle.std.proofs.Math.Option.{Option, none, some}
-use Rattle.text.specs.Test.{◌and◌, if◌then◌else◌}
+use Rattle.text.specs.Test.{◌and◌, whether◌then◌else◌}
 use Rattle.text.specs.Byte.{is_digit}
 use Rattle.text.specs.String.{Str}
 use Rattle.season_sum.specs.declared.Outcome.{Outcome}
@@ -24,12 +24,12 @@ continues n b = is_digit b and ltb 0 n and fits (followed n b)
 -- the number that is n so far, up to an LF, and the text after that
 unfoldable pub number_from : ℕ → Str → Option (ℕ × Str)
 number_from n [] = none
-number_from n (b ∷ s) = if eqb b 10 then some (n, s) else (if continues n b then number_from (followed n b) s else none)
+number_from n (b ∷ s) = whether eqb b 10 then some (n, s) else (whether continues n b then number_from (followed n b) s else none)
 
 -- "decimal lines without leading zeros": the number that the first line of a text is, and the text after that line
 unfoldable pub figure_of : Str → Option (ℕ × Str)
 figure_of [] = none
-figure_of (b ∷ s) = if is_digit b then number_from (b - 48) s else none
+figure_of (b ∷ s) = whether is_digit b then number_from (b - 48) s else none
 
 -- ---- the lines, one after another
 

@@ -3,7 +3,7 @@ use mathlib.Core.Path.{◌≡◌, refl}
 use mathlib.Core.List.{List, [], ◌∷◌, ◌++◌}
 use Prim.Native.Nat.{ℕ, ◌+◌, ◌*◌}
 use Prim.Native.String.{String}
-use Rattle.text.specs.Test.{◌and◌, ◌or◌, if◌then◌else◌, all, any, twice}
+use Rattle.text.specs.Test.{◌and◌, ◌or◌, whether◌then◌else◌, all, any, twice}
 use Rattle.text.specs.String.{Str, bytes, same}
 use Rattle.text.specs.Frame.{◌>>=◌, ret, byte, run, string, times}
 use Rattle.path.specs.Bytes.{key, element, path}
@@ -77,7 +77,7 @@ checked :
     × (order ≡ 260 ∷ 516 ∷ 1028 ∷ [])
     × (strings ≡ 517 ∷ 518 ∷ 519 ∷ 515 ∷ 519 ∷ 519 ∷ 0 ∷ [])
     × (against ≡ 776 ∷ 1032 ∷ 776 ∷ 520 ∷ 521 ∷ 521 ∷ 774 ∷ [])
-unfolding good hex frames order strings against ◌and◌ ◌or◌ if◌then◌else◌ all any twice same ◌>>=◌ ret byte run string
+unfolding good hex frames order strings against ◌and◌ ◌or◌ whether◌then◌else◌ all any twice same ◌>>=◌ ret byte run string
     times key element path unsized key_over elem_over over_limit outside_name outside_value key_stray elem_stray stray_byte
     half_wild key_misplaced elem_misplaced misplaced key_twice onto lines pair pairs nonempty frame unknown code version_body
     group_body member_body rule_body rule_entry body entry whole entry_of framed decoded line_of kind_of out_of_order
@@ -97,7 +97,7 @@ counts : List ℕ
 counts = count (bytes "u") five ∷ count (bytes "v") five ∷ count (bytes "w") five ∷ count [] five ∷ count [] ("" ∷ []) ∷ []
 
 counted_right : counts ≡ 131584 ∷ 65792 ∷ 0 ∷ 20 ∷ 258 ∷ []
-unfolding count counts ◌and◌ ◌or◌ if◌then◌else◌ all any twice same ◌>>=◌ ret byte run string times key element path
+unfolding count counts ◌and◌ ◌or◌ whether◌then◌else◌ all any twice same ◌>>=◌ ret byte run string times key element path
     unsized key_over elem_over over_limit outside_name outside_value key_stray elem_stray stray_byte half_wild key_misplaced
     elem_misplaced misplaced key_twice onto lines pair pairs nonempty frame unknown code version_body group_body member_body
     rule_body rule_entry body entry whole entry_of framed decoded line_of kind_of out_of_order unsized_short past_limit stray

@@ -6,7 +6,7 @@ use native.Mathlib.Omega.{arith}
 use borrow.Author.Tests.{eq-eqb, ne_eqb, le-leb}
 use lib.Dec.{leb}
 use lib.ListN.{length, get_or}
-use Rattle.text.specs.Test.{if◌then◌else◌}
+use Rattle.text.specs.Test.{whether◌then◌else◌}
 use Rattle.text.specs.String.{Str}
 use Rattle.text.specs.Frame.{got, unread, ◌>>=◌, ret, part, run, string}
 use Rattle.text.proofs.Tests.{by}
@@ -24,24 +24,24 @@ unfolding whole
 whole_unread f = refl
 
 whole_got : {A : Type 0} (f : Str) (a : A) (t : ℕ) → t ≡ length f → whole f (got a t) ≡ some a
-unfolding whole if◌then◌else◌
+unfolding whole whether◌then◌else◌
 whole_got f a t e = rw (eq-eqb t (length f) e)
 
 whole_other : {A : Type 0} (f : Str) (a : A) (t : ℕ) → (t ≡ length f → ⊥) → whole f (got a t) ≡ none
-unfolding whole if◌then◌else◌
+unfolding whole whether◌then◌else◌
 whole_other f a t e = rw (ne_eqb t (length f) e)
 
 -- ---- an unknown kind
 
 pub kind_unknown : (f : Str) (k : ℕ) → 0 < length f → get_or f 0 0 ≡ k → (k ≡ 1 → ⊥) → (k ≡ 2 → ⊥) → (k ≡ 3 → ⊥) → (k ≡ 4 → ⊥) → entry_of f ≡ none
-unfolding body if◌then◌else◌ unknown
+unfolding body whether◌then◌else◌ unknown
 kind_unknown f k h e a b c d = entry_body f k h e ∙ rw (ne_eqb k 1 a, ne_eqb k 2 b, ne_eqb k 3 c, ne_eqb k 4 d) (whole_unread f)
 
 -- ---- version
 
 module _ (f : Str) (h : 0 < length f) (k : get_or f 0 0 ≡ 1) where
   version_body_lem : entry_of f ≡ whole f (version_body f 1)
-  unfolding body if◌then◌else◌
+  unfolding body whether◌then◌else◌
   version_body_lem = entry_body f 1 h k
 
   pub version_unread : string f 1 ≡ unread → entry_of f ≡ none
@@ -50,7 +50,7 @@ module _ (f : Str) (h : 0 < length f) (k : get_or f 0 0 ≡ 1) where
 
   module _ (v : Str) (t : ℕ) (e : string f 1 ≡ got v t) (l : t ≤ length f) where
     pub version_off : (length f - t ≡ 8 → ⊥) → entry_of f ≡ none
-    unfolding version_body ◌>>=◌ run ret if◌then◌else◌
+    unfolding version_body ◌>>=◌ run ret whether◌then◌else◌
     version_off n =
         version_body_lem
         ∙ rw e
@@ -59,14 +59,14 @@ module _ (f : Str) (h : 0 < length f) (k : get_or f 0 0 ≡ 1) where
         (λ u. rw u (whole_unread f)))
 
     pub version_read : length f - t ≡ 8 → entry_of f ≡ some (version v (part f t (t + 8)))
-    unfolding version_body ◌>>=◌ run ret if◌then◌else◌
+    unfolding version_body ◌>>=◌ run ret whether◌then◌else◌
     version_read n = version_body_lem ∙ rw (e, le-leb 8 (length f - t) (omega arith)) (whole_got f _ (t + 8) (omega arith))
 
 -- ---- group
 
 module _ (f : Str) (h : 0 < length f) (k : get_or f 0 0 ≡ 2) where
   group_body_lem : entry_of f ≡ whole f (group_body f 1)
-  unfolding body if◌then◌else◌
+  unfolding body whether◌then◌else◌
   group_body_lem = entry_body f 2 h k
 
   pub group_unread : string f 1 ≡ unread → entry_of f ≡ none
@@ -86,7 +86,7 @@ module _ (f : Str) (h : 0 < length f) (k : get_or f 0 0 ≡ 2) where
 
 module _ (f : Str) (h : 0 < length f) (k : get_or f 0 0 ≡ 3) where
   member_body_lem : entry_of f ≡ whole f (member_body f 1)
-  unfolding body if◌then◌else◌
+  unfolding body whether◌then◌else◌
   member_body_lem = entry_body f 3 h k
 
   pub member_unread : string f 1 ≡ unread → entry_of f ≡ none
@@ -111,7 +111,7 @@ module _ (f : Str) (h : 0 < length f) (k : get_or f 0 0 ≡ 3) where
 
 module _ (f : Str) (h : 0 < length f) (k : get_or f 0 0 ≡ 4) where
   rule_body_lem : entry_of f ≡ whole f (rule_entry f 1)
-  unfolding body if◌then◌else◌
+  unfolding body whether◌then◌else◌
   rule_body_lem = entry_body f 4 h k
 
   pub rule_none : rule_body f 1 ≡ unread → entry_of f ≡ none

@@ -8,7 +8,7 @@ use borrow.Author.Tests.{ltb-true, ltb-false, leb-true, leb-false, le-leb}
 use lib.Dec.{ltb, leb, eqb}
 use lib.ListN.{length, drop, get_or, length-append, length-drop, get_or-append}
 use lib.Seq.{get_or-append-add, drop-append-add, drop-append-le, take-append-le}
-use Rattle.text.specs.Test.{◌or◌, if◌then◌else◌}
+use Rattle.text.specs.Test.{◌or◌, whether◌then◌else◌}
 use Rattle.text.specs.Frame.{Parsed, got, unread, and_then, Reader, ◌>>=◌, ret, byte, part, run, string, times}
 use Rattle.text.proofs.Tests.{by}
 use Rattle.text.proofs.Frames.{byte_got, byte_unread}
@@ -52,11 +52,11 @@ part_inside h g k p n l =
     rw z))
 
 run_got : (n : ℕ) (f : List ℕ) (at : ℕ) → n ≤ length f - at → run n f at ≡ got (part f at (at + n)) (at + n)
-unfolding run if◌then◌else◌
+unfolding run whether◌then◌else◌
 run_got n f at h = rw (le-leb _ _ h)
 
 run_unread : (n : ℕ) (f : List ℕ) (at : ℕ) → leb n (length f - at) ≡ false → run n f at ≡ unread
-unfolding run if◌then◌else◌
+unfolding run whether◌then◌else◌
 run_unread n f at h = rw h
 
 inside_run : (n : ℕ) → Inside (run n)
@@ -87,8 +87,8 @@ inside_unknown : {A : Type 0} → Inside (unknown {A = A})
 unfolding unknown
 inside_unknown h g k p a e i = never i
 
-inside_if : {A : Type 0} (t : Bool) (r q : Reader A) → Inside r → Inside q → Inside (if t then r else q)
-unfolding if◌then◌else◌
+inside_if : {A : Type 0} (t : Bool) (r q : Reader A) → Inside r → Inside q → Inside (whether t then r else q)
+unfolding whether◌then◌else◌
 inside_if true r q x y = x
 inside_if false r q x y = y
 

@@ -6,7 +6,7 @@ use native.Mathlib.Omega.{arith}
 use borrow.Author.Tests.{eq-eqb, ne_eqb}
 use lib.Dec.{eqb, ltb}
 use lib.ListN.{length}
-use Rattle.text.specs.Test.{◌or◌, if◌then◌else◌, all}
+use Rattle.text.specs.Test.{◌or◌, whether◌then◌else◌, all}
 use Rattle.text.specs.Byte.{is_print}
 use Rattle.text.specs.String.{Str}
 use Rattle.text.specs.Refusal.{◌when◌else◌, clear}
@@ -22,11 +22,11 @@ use Rattle.table.specs.Walk.{merged, unsized_by}
 -- ---- order of kinds
 
 pub order_first : (last kind : ℕ) → last ≡ 0 → not (eqb kind 1) ≡ out_of_order last kind
-unfolding out_of_order if◌then◌else◌
+unfolding out_of_order whether◌then◌else◌
 order_first last kind e = rw (eq-eqb last 0 e)
 
 pub order_later : (last kind : ℕ) → (last ≡ 0 → ⊥) → (eqb kind 1 || ltb kind last) ≡ out_of_order last kind
-unfolding out_of_order if◌then◌else◌
+unfolding out_of_order whether◌then◌else◌
 order_later last kind e = rw (ne_eqb last 0 e) (or_is (eqb kind 1) (ltb kind last))
 
 -- ---- strings
@@ -46,13 +46,13 @@ stray_is s t e = rw e
 -- ---- out of order
 
 pub number_four : (b : Earlier) (e : Entry) → out_of_order b.kind (kind_of e) ≡ true → 4 ≡ refusal b (reads e)
-unfolding refusal if◌then◌else◌
+unfolding refusal whether◌then◌else◌
 number_four b e h = rw h
 
 -- ---- a frame without a path
 
 merged_plain : (five six eight nine : Bool) → merged clear five six eight nine ≡ (5 when five else 6 when six else 7 when false else 8 when eight else 9 when nine else clear)
-unfolding merged if◌then◌else◌
+unfolding merged whether◌then◌else◌
 merged_plain true six eight nine = refl
 merged_plain false true eight nine = refl
 merged_plain false false true nine = refl
@@ -63,7 +63,7 @@ merged_plain false false false nine = refl
 -- the number of the path joins those of the rest
 merged_path : (a b d n over str mis two : Bool) → merged (least_refusal over str mis two) a b d n
     ≡ (5 when (a or over) else 6 when (b or str) else 7 when mis else 8 when (d or two) else 9 when n else clear)
-unfolding merged least_refusal if◌then◌else◌ ◌or◌
+unfolding merged least_refusal whether◌then◌else◌ ◌or◌
 merged_path true b d n over str mis two = refl
 merged_path false b d n true str mis two = refl
 merged_path false true d n false true mis two = refl
@@ -83,7 +83,7 @@ module _ (b : Earlier) where
   tail e = 5 when past_limit b e else 6 when strays e else 7 when misplaces e else 8 when repeats b e else 9 when unlisted b e else clear
 
   tail_is : (e : Entry) → out_of_order b.kind (kind_of e) ≡ false → refusal b (reads e) ≡ tail e
-  unfolding refusal if◌then◌else◌ tail
+  unfolding refusal whether◌then◌else◌ tail
   tail_is e h = rw h
 
   pub number_plain : (e : Entry) → out_of_order b.kind (kind_of e) ≡ false → (r : ℕ) (five six eight nine : Bool) → r ≡ merged clear five six eight nine
@@ -104,7 +104,7 @@ module _ (b : Earlier) where
 -- ---- no number
 
 when_clear : (n m : ℕ) (t : Bool) → n < clear → (n when t else m) ≡ clear → (t ≡ false) × (m ≡ clear)
-unfolding if◌then◌else◌
+unfolding whether◌then◌else◌
 when_clear n m true h e = absurd (omega arith)
 when_clear n m false h e = (refl, e)
 

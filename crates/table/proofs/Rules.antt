@@ -7,7 +7,7 @@ use native.Mathlib.Omega.{arith}
 use borrow.Author.Tests.{ltb-true, ltb-false}
 use lib.Dec.{eqb, ltb}
 use lib.ListN.{length, get_or}
-use Rattle.text.specs.Test.{◌and◌, ◌or◌, if◌then◌else◌}
+use Rattle.text.specs.Test.{◌and◌, ◌or◌, whether◌then◌else◌}
 use Rattle.text.specs.String.{Str}
 use Rattle.text.specs.Frame.{got, unread, ◌>>=◌, ret, part, string}
 use Rattle.text.proofs.Tests.{by, clash, and_left, and_right, or_is}
@@ -36,11 +36,11 @@ module _ (a b : ℕ) (f : Str) (at : ℕ) where
   is_code = eqb (get_or f at 0) a || eqb (get_or f at 0) b
 
   code_got : at < length f → is_code ≡ true → code a b f at ≡ got (get_or f at 0) (at + 1)
-  unfolding code ◌>>=◌ ret if◌then◌else◌
+  unfolding code ◌>>=◌ ret whether◌then◌else◌
   code_got h t = let u : (eqb (get_or f at 0) a or eqb (get_or f at 0) b) ≡ true = sym (or_is (eqb (get_or f at 0) a) (eqb (get_or f at 0) b)) ∙ t in rw (byte_got f at h, u)
 
   code_wrong : at < length f → is_code ≡ false → code a b f at ≡ unread
-  unfolding code ◌>>=◌ ret if◌then◌else◌ unknown
+  unfolding code ◌>>=◌ ret whether◌then◌else◌ unknown
   code_wrong h t = let u : (eqb (get_or f at 0) a or eqb (get_or f at 0) b) ≡ false = sym (or_is (eqb (get_or f at 0) a) (eqb (get_or f at 0) b)) ∙ t in rw (byte_got f at h, u)
 
   code_none : length f ≤ at → code a b f at ≡ unread

@@ -1,7 +1,7 @@
 -- Frames: what each kind of frame holds, and how it reads.
 use Rattle.std.specs.Prelude.{ℕ, eqb, length}
 use Rattle.std.proofs.Math.Option.{Option, none, some}
-use Rattle.text.specs.Test.{◌or◌, if◌then◌else◌}
+use Rattle.text.specs.Test.{◌or◌, whether◌then◌else◌}
 use Rattle.text.specs.String.{Str}
 use Rattle.text.specs.Frame.{Parsed, got, unread, Reader, ◌>>=◌, ret, byte, run, string}
 use Rattle.path.specs.Bytes.{path}
@@ -22,7 +22,7 @@ unknown f at = unread
 unfoldable pub code : ℕ → ℕ → Reader ℕ
 code a b = do
   n ← byte
-  if eqb n a or eqb n b then ret n else unknown
+  whether eqb n a or eqb n b then ret n else unknown
 
 -- "S version, 8 bytes creation time, high byte first"
 unfoldable pub version_body : Reader Entry
@@ -64,10 +64,10 @@ rule_entry = do
 -- "after the kind byte", by the kind
 unfoldable pub body : ℕ → Reader Entry
 body k =
-    if eqb k 1 then version_body
-    else if eqb k 2 then group_body
-    else if eqb k 3 then member_body
-    else if eqb k 4 then rule_entry
+    whether eqb k 1 then version_body
+    else whether eqb k 2 then group_body
+    else whether eqb k 3 then member_body
+    else whether eqb k 4 then rule_entry
     else unknown
 
 -- a frame, from its kind byte on
@@ -78,7 +78,7 @@ entry = do
 
 -- what was read, where it is the whole frame
 unfoldable pub whole : {A : Type 0} → Str → Parsed A → Option A
-whole f (got a t) = if eqb t (length f) then some a else none
+whole f (got a t) = whether eqb t (length f) then some a else none
 whole f unread = none
 
 -- what a frame holds; none where it gets 3: "unknown kind or code byte, frame too short or long"

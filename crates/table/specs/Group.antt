@@ -1,6 +1,6 @@
 -- "One call answers how many groups a user belongs to; each user's memberships are a set over at most 64 groups."
 use Rattle.std.specs.Prelude.{ℕ, suc, Bool, List, [], ◌∷◌, length}
-use Rattle.text.specs.Test.{◌or◌, if◌then◌else◌, any}
+use Rattle.text.specs.Test.{◌or◌, whether◌then◌else◌, any}
 use Rattle.text.specs.String.{Str}
 use Rattle.path.specs.Refusal.{unsized}
 use Rattle.table.specs.Table.{Member, Table}
@@ -17,7 +17,7 @@ lists members user group = any (same_member (record { group = group; user = user
 
 -- i before the numbers, if the test holds
 unfoldable pub numbered : Bool → ℕ → List ℕ → List ℕ
-numbered b i ns = if b then i ∷ ns else ns
+numbered b i ns = whether b then i ∷ ns else ns
 
 -- the numbers of the groups that list the user, rising; the first of `groups` has the number i
 unfoldable pub memberships : List Member → Str → ℕ → List Str → List ℕ
@@ -42,7 +42,7 @@ bad_user user = unsized user or stray user
 -- "text before request"
 unfoldable pub count_for : Checked → Table → Str → Counted
 count_for (Refused n l) t user = Declined n l
-count_for Accepted t user = if bad_user user then Declined 20 0 else counted (groups_of t user)
+count_for Accepted t user = whether bad_user user then Declined 20 0 else counted (groups_of t user)
 
 -- how many groups the user belongs to, by the table's text
 unfoldable pub group_count : Str → Str → Counted

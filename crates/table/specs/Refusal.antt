@@ -1,7 +1,7 @@
 -- The refusal numbers 2 to 9 of a line, judged against the lines before it: a predicate for each, and the smallest that holds.
 use Rattle.std.specs.Prelude.{ℕ, Bool, false, not, List, [], ◌∷◌, ◌++◌, eqb, ltb, leb, length}
 use Rattle.std.proofs.Math.Option.{Option, none, some}
-use Rattle.text.specs.Test.{◌and◌, ◌or◌, if◌then◌else◌, all, any}
+use Rattle.text.specs.Test.{◌and◌, ◌or◌, whether◌then◌else◌, all, any}
 use Rattle.text.specs.Byte.{is_print}
 use Rattle.text.specs.String.{Str, same}
 use Rattle.text.specs.Refusal.{◌when◌else◌, clear}
@@ -46,7 +46,7 @@ kind_of (rule r) = 4
 
 -- of the kind before, 0 on the first line, and the kind
 unfoldable pub out_of_order : ℕ → ℕ → Bool
-out_of_order last kind = if eqb last 0 then not (eqb kind 1) else (eqb kind 1 or ltb kind last)
+out_of_order last kind = whether eqb last 0 then not (eqb kind 1) else (eqb kind 1 or ltb kind last)
 
 -- ---- 5: "a limit passed, or an empty string that may not be"
 

@@ -1,7 +1,7 @@
 -- A whole rule table text: refused at its first faulty line, or the table that it holds.
 use Rattle.std.specs.Prelude.{ℕ, ◌+◌, Bool, true, false, List, [], ◌∷◌, eqb, ltb, length}
 use Rattle.limits.specs.Limits.{max_table_text}
-use Rattle.text.specs.Test.{if◌then◌else◌}
+use Rattle.text.specs.Test.{whether◌then◌else◌}
 use Rattle.text.specs.String.{Str}
 use Rattle.text.specs.Refusal.{clear}
 use Rattle.table_line.specs.Lines.{lines}
@@ -14,7 +14,7 @@ use Rattle.table.specs.declared.Checked.TheVariants.{Accepted, Refused}
 
 -- the refusal by a number, or what comes next where it is none
 unfoldable pub unless : ℕ → ℕ → Checked → Checked
-unless number line next = if eqb number clear then next else Refused number line
+unless number line next = whether eqb number clear then next else Refused number line
 
 -- "the first faulty line, and in it the smallest number"; the lines count from `number`
 unfoldable pub judge : ℕ → Earlier → List Str → Checked
@@ -24,8 +24,8 @@ judge number before (l ∷ ls) = unless (refusal before (line_of l)) number (jud
 -- "table text over 32,768 bytes (line 0)"; "empty text counts here, at line 1"
 unfoldable pub check : Str → Checked
 check text =
-    if ltb max_table_text (length text) then Refused 1 0
-    else if eqb (length text) 0 then Refused 4 1
+    whether ltb max_table_text (length text) then Refused 1 0
+    else whether eqb (length text) 0 then Refused 4 1
     else judge 1 first (lines text)
 
 unfoldable pub is_accepted : Checked → Bool

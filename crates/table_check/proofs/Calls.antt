@@ -9,7 +9,7 @@ use lib.Count.{ones, count_trailing_zeros}
 use lib.ListN.{length, take}
 use lib.Seq.{length-take-le}
 use Rattle.limits.specs.Limits.{max_groups}
-use Rattle.text.specs.Test.{if◌then◌else◌}
+use Rattle.text.specs.Test.{whether◌then◌else◌}
 use Rattle.text.specs.String.{Str}
 use Rattle.table_rows.proofs.Grow.{rows_length, strings_length}
 use Rattle.table.specs.Text.{check, table_of}
@@ -58,8 +58,8 @@ module _ (text user : Str) (r : Seen) (o : Looked text user r) where
 -- ---- the count
 
 counted_is : (set : ℕ) (ms : List ℕ) → ones set ≡ length ms → ((k : ℕ) (ks : List ℕ) → ms ≡ k ∷ ks → k ≡ count_trailing_zeros max_groups set)
-    → (if eqb (ones set) 0 then NoGroup else Count (ones set) (record { 0 = count_trailing_zeros max_groups set })) ≡ counted ms
-unfolding counted if◌then◌else◌
+    → (whether eqb (ones set) 0 then NoGroup else Count (ones set) (record { 0 = count_trailing_zeros max_groups set })) ≡ counted ms
+unfolding counted whether◌then◌else◌
 counted_is set [] e f = rw (eq-eqb (ones set) 0 e)
 counted_is set (k ∷ ks) e f = rw (ne_eqb (ones set) 0 (λ q. let x : ⊥ = omega arith in x), e, ← f k ks refl)
 
@@ -88,7 +88,7 @@ module _ {text buf : List ℕ} {u : ℕ} {c : Counts} {groups users owners start
       let e : ones s ≡ length (memberships t.members user 0 t.groups) = count_is t.groups t.members user (take u buf) users owners c.members K.holds.distinct K.holds.members_are own_named in
       let f : (k : ℕ) (ks : List ℕ) → memberships t.members user 0 t.groups ≡ k ∷ ks → k ≡ count_trailing_zeros max_groups s =
       λ k ks q. first_is t.groups t.members user (take u buf) users owners c.members K.holds.distinct K.holds.members_are own_named k ks (omega (arith, named_long, K.holds.few.0)) q in
-      rw K.accepts (ap (λ (x : Counted). if bad_user user then Declined 20 0 else x) (counted_is s (memberships t.members user 0 t.groups) e f))
+      rw K.accepts (ap (λ (x : Counted). whether bad_user user then Declined 20 0 else x) (counted_is s (memberships t.members user 0 t.groups) e f))
 
   members_long : length (table_of text).members ≡ c.members
   unfolding members_in

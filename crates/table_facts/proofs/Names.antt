@@ -7,7 +7,7 @@ use borrow.Author.Tests.{lt-ltb, le-ltb}
 use lib.Dec.{ltb}
 use lib.ListN.{length, take, drop, get_or, length-drop}
 use lib.Seq.{length-take-le}
-use Rattle.text.specs.Test.{if◌then◌else◌}
+use Rattle.text.specs.Test.{whether◌then◌else◌}
 use Rattle.text.specs.String.{Str}
 use Rattle.text.specs.Fill.{put}
 use Rattle.text.specs.Steps.{Wrote}
@@ -31,16 +31,16 @@ use Rattle.table_facts.specs.Facts.{name_of, stored_of, ids_in, Identified}
 -- ---- storing
 
 pub wrote_none : (d : List ℕ) → Wrote d 0 (stored_of d []) d 0
-unfolding stored_of if◌then◌else◌
+unfolding stored_of whether◌then◌else◌
 wrote_none d = by (ltb (length d) 0) (λ t. rw t (wrote_nothing d 0)) (λ t. rw t (wrote_nothing d 0))
 
 module _ (d : List ℕ) (s : Str) where
   pub wrote_over : length d < length s → Wrote d 0 (stored_of d s) d 0
-  unfolding stored_of if◌then◌else◌
+  unfolding stored_of whether◌then◌else◌
   wrote_over h = rw (lt-ltb _ _ h) (wrote_nothing d 0)
 
   pub wrote_all : (d' : List ℕ) (n : ℕ) → length s ≤ length d → n ≡ length s → d' ≡ put d 0 s → Wrote d 0 (stored_of d s) d' n
-  unfolding stored_of if◌then◌else◌
+  unfolding stored_of whether◌then◌else◌
   wrote_all d' n h e p = rw (le-ltb _ _ h) (record { ends = omega arith; same = p })
 
 -- ---- a string in bytes

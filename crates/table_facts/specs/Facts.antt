@@ -1,6 +1,6 @@
 -- Names of a table's rows, for the command line.
 use Rattle.std.specs.Prelude.{ℕ, ◌≤◌, ◌<◌, List, [], map, ltb, length, get_or}
-use Rattle.text.specs.Test.{if◌then◌else◌}
+use Rattle.text.specs.Test.{whether◌then◌else◌}
 use Rattle.text.specs.String.{Str}
 use Rattle.table.specs.Table.{Table}
 use Rattle.table.specs.Table as rule
@@ -20,7 +20,7 @@ name_of checked.Accepted t (Rule k) = get_or (map (λ (r : rule.Rule). r.id) t.r
 
 -- what is stored of a name into d: nothing where it does not fit
 unfoldable pub stored_of : List ℕ → Str → Str
-stored_of d s = if ltb (length d) (length s) then [] else s
+stored_of d s = whether ltb (length d) (length s) then [] else s
 
 -- ---- ids by the positions of rules in decoded bytes
 

@@ -9,7 +9,7 @@ use borrow.Author.Tests.{leb-false}
 use lib.Dec.{eqb, ltb, leb}
 use lib.ListN.{length, get_or, set}
 use Rattle.limits.specs.Limits.{max_rules, max_string, max_short_string}
-use Rattle.text.specs.Test.{◌and◌, ◌or◌, if◌then◌else◌, any, all}
+use Rattle.text.specs.Test.{◌and◌, ◌or◌, whether◌then◌else◌, any, all}
 use Rattle.text.specs.Byte.{is_print}
 use Rattle.text.specs.String.{Str, same}
 use Rattle.text.specs.Refusal.{clear}
@@ -39,14 +39,14 @@ use Rattle.table_keep.proofs.Members.{unlisted_is, listed_is}
 
 -- ---- the holder
 
-holder_is : (bg : Bool) (name : Str) (groups : List Str) (g count : ℕ) → g ≡ (if bg then place name groups else 0) → count ≡ length groups → (bg && eqb g count) ≡ (bg and not (listed groups name))
-unfolding if◌then◌else◌ ◌and◌
+holder_is : (bg : Bool) (name : Str) (groups : List Str) (g count : ℕ) → g ≡ (whether bg then place name groups else 0) → count ≡ length groups → (bg && eqb g count) ≡ (bg and not (listed groups name))
+unfolding whether◌then◌else◌ ◌and◌
 holder_is true name groups g count e l = unlisted_is name groups g count e l
 holder_is false name groups g count e l = refl
 
-held_is : (bg : Bool) (name : Str) (groups : List Str) (g count : ℕ) → g ≡ (if bg then place name groups else 0) → count ≡ length groups → (bg && eqb g count) ≡ false
+held_is : (bg : Bool) (name : Str) (groups : List Str) (g count : ℕ) → g ≡ (whether bg then place name groups else 0) → count ≡ length groups → (bg && eqb g count) ≡ false
     → bg ≡ true → (g < length groups) × (get_or groups g [] ≡ name)
-unfolding if◌then◌else◌
+unfolding whether◌then◌else◌
 held_is true name groups g count e l n t = let h : place name groups < length groups = listed_is name groups g count e l n in rw e (h, place_at name groups h)
 held_is false name groups g count e l n t = clash t refl
 
@@ -107,7 +107,7 @@ module _ (r : Rule) (subject id origin : Str) (s : r.subject ≡ subject) (i : r
       rw (s, i, o, stray_is subject x xx, stray_is id y yy, stray_is origin z zz, or_is (stray id) (stray origin)) (or_is (stray subject) (stray id or stray origin))
 
 nine_is : (r : Rule) (bg : Bool) (name : Str) (groups l : List Str) (g count : ℕ) → r.by_group ≡ bg → r.subject ≡ name → l ≡ groups
-    → g ≡ (if bg then place name groups else 0) → count ≡ length groups → (bg && eqb g count) ≡ (r.by_group and not (listed l r.subject))
+    → g ≡ (whether bg then place name groups else 0) → count ≡ length groups → (bg && eqb g count) ≡ (r.by_group and not (listed l r.subject))
 nine_is r bg name groups l g count x y z e c = rw (x, y, z) (holder_is bg name groups g count e c)
 
 -- ---- the frame does not read
@@ -179,7 +179,7 @@ pub record Judged : Type 0 where
   pub last : ℕ
   pub ordered : out_of_order last kind_rule ≡ false
   pub holder : ℕ
-  pub holder_told : holder ≡ (if by_group read then place (subject read) (groups read) else 0)
+  pub holder_told : holder ≡ (whether by_group read then place (subject read) (groups read) else 0)
   pub hash : ℕ
   pub hash_is : hash ≡ hash_of (id read)
   pub found : Found

@@ -4,7 +4,7 @@
 // before it, f is its own frame, which follows them, `last` the kind of the frame before, and n the rules before it.
 ghost use Rattle.std.specs.Prelude.{◌≡◌, ◌≤◌, ◌<◌, length, set};
 ghost use Rattle.limits.specs.Limits.{max_rules};
-ghost use Rattle.text.specs.Test.{if◌then◌else◌};
+ghost use Rattle.text.specs.Test.{whether◌then◌else◌};
 ghost use Rattle.text.specs.Refusal.{clear};
 ghost use Rattle.table_rows.specs.Strings.{strings_in, place};
 ghost use Rattle.table.specs.Frame.{entry_of};
@@ -33,7 +33,7 @@ fn holder_of(
     subject: &[u8],
 ) -> GroupNumber
     requires { Groups old.now groups.now names.now count × (hint_places ≤ length hints.now) }
-    ensures { result.0 ≡ (if by_group then place subject.now (strings_in old.now groups.now count 0) else 0) }
+    ensures { result.0 ≡ (whether by_group then place subject.now (strings_in old.now groups.now count 0) else 0) }
 {
     if by_group {
         return table_keep::number_of(old, groups, count, hints, names, subject);

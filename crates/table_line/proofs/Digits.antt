@@ -8,7 +8,7 @@ use borrow.Author.Tests.{leb-true, le-ltb, ltb-false}
 use lib.Dec.{ltb, leb}
 use lib.ListN.{length, drop, get_or, set, length-drop}
 use lib.Seq.{drop-cons}
-use Rattle.text.specs.Test.{◌and◌, if◌then◌else◌}
+use Rattle.text.specs.Test.{◌and◌, whether◌then◌else◌}
 use Rattle.text.specs.Byte.{is_hex, hex_value, is_digit, within}
 use Rattle.text.specs.Fill.{put}
 use Rattle.text.proofs.Tests.{by, and_right, clash}
@@ -43,13 +43,13 @@ two s i h =
 
 module _ (s : List ℕ) (i hi lo : ℕ) (h : i + 1 < length s) (e : hi ≡ hex_value (get_or s i 0)) (f : lo ≡ hex_value (get_or s (i + 1) 0)) where
   pub digits_turn : (ltb 15 hi || ltb 15 lo) ≡ false → digits (drop i s) ≡ (hi * 16 + lo) ∷ digits (drop (i + 2) s)
-  unfolding digits if◌then◌else◌
+  unfolding digits whether◌then◌else◌
   digits_turn g =
       let t : (is_hex (get_or s i 0) and is_hex (get_or s (i + 1) 0)) ≡ true = both_hex (get_or s i 0) (get_or s (i + 1) 0) ∙ rw (← e, ← f, g) in
       rw (two s i h, t, e, f)
 
   pub digits_stop : (ltb 15 hi || ltb 15 lo) ≡ true → digits (drop i s) ≡ []
-  unfolding digits if◌then◌else◌
+  unfolding digits whether◌then◌else◌
   digits_stop g =
       let t : (is_hex (get_or s i 0) and is_hex (get_or s (i + 1) 0)) ≡ false = both_hex (get_or s i 0) (get_or s (i + 1) 0) ∙ rw (← e, ← f, g) in
       rw (two s i h, t)
@@ -66,7 +66,7 @@ digits_end s i h = short (drop i s) (omega (arith, length-drop i s))
 -- ---- how many
 
 pub digits_half : (s : List ℕ) → 2 * length (digits s) ≤ length s
-unfolding digits if◌then◌else◌
+unfolding digits whether◌then◌else◌
 digits_half [] = zero-le
 digits_half (x ∷ []) = zero-le
 digits_half (x ∷ y ∷ s) = by (is_hex x and is_hex y) (λ t. rw t (omega (arith, digits_half s))) (λ t. rw t zero-le)

@@ -9,7 +9,7 @@ use borrow.Author.Tests.{eqb-true, eqb-false, eq-eqb, ne_eqb, ltb-true, ltb-fals
 use lib.Dec.{eqb, ltb}
 use lib.ListN.{length, drop, get_or, length-drop}
 use lib.Seq.{drop-drop, get_or-drop}
-use Rattle.text.specs.Test.{◌and◌, if◌then◌else◌}
+use Rattle.text.specs.Test.{◌and◌, whether◌then◌else◌}
 use Rattle.text.specs.Byte.{is_hex}
 use Rattle.text.specs.String.{Str}
 use Rattle.text.proofs.Tests.{by, and_l, and_r, clash}
@@ -31,11 +31,11 @@ pub record Ended (s : Str) (n : ℕ) : Type 0 where
   pub long : length line ≡ 2 * n + 1
 
 alone : (x : ℕ) (s : Str) → x ≡ 10 → digits (x ∷ s) ≡ [] → Ended (x ∷ s) 0
-unfolding lines onto pairs if◌then◌else◌
+unfolding lines onto pairs whether◌then◌else◌
 alone x s e d = record { line = x ∷ []; first = rw (eq-eqb x 10 e); bytes = rw (eq-eqb x 10 e, d); long = refl }
 
 more : (x y : ℕ) (s : Str) (n : ℕ) → (is_hex x and is_hex y) ≡ true → Ended s n → Ended (x ∷ y ∷ s) (suc n)
-unfolding lines onto pairs pair digits if◌then◌else◌
+unfolding lines onto pairs pair digits whether◌then◌else◌
 more x y s n t g = record {
   line = x ∷ y ∷ g.line;
   first =
@@ -46,11 +46,11 @@ more x y s n t g = record {
 }
 
 digits_more : (x y : ℕ) (s : Str) → (is_hex x and is_hex y) ≡ true → length (digits (x ∷ y ∷ s)) ≡ suc (length (digits s))
-unfolding digits if◌then◌else◌
+unfolding digits whether◌then◌else◌
 digits_more x y s t = rw t
 
 digits_none : (x y : ℕ) (s : Str) → (is_hex x and is_hex y) ≡ false → digits (x ∷ y ∷ s) ≡ []
-unfolding digits if◌then◌else◌
+unfolding digits whether◌then◌else◌
 digits_none x y s t = rw t
 
 digits_one : (x : ℕ) → digits (x ∷ []) ≡ []
@@ -108,7 +108,7 @@ unfolding pairs pair
 pairs_none x y r t = rw t
 
 pairs_one : (x : ℕ) → eqb x 10 ≡ false → pairs (head (lines (x ∷ []))) ≡ none
-unfolding pairs head lines onto if◌then◌else◌
+unfolding pairs head lines onto whether◌then◌else◌
 pairs_one x e = rw (e, e)
 
 no_pairs : pairs (head (lines [])) ≡ none

@@ -1,7 +1,7 @@
 -- The answers of the programs, which decode a line as far as there are digits.
 use Rattle.std.specs.Prelude.{ℕ, ◌+◌, ◌*◌, List, [], ◌∷◌, length}
 use Rattle.std.proofs.Math.Option.{Option, none, some}
-use Rattle.text.specs.Test.{◌and◌, if◌then◌else◌}
+use Rattle.text.specs.Test.{◌and◌, whether◌then◌else◌}
 use Rattle.text.specs.Byte.{is_hex, hex_value}
 use Rattle.text.specs.String.{Str}
 use Rattle.table_line.specs.Lines.{frame}
@@ -12,7 +12,7 @@ use Rattle.table_line.specs.declared.Line.TheVariants.{Frame, Bad}
 unfoldable pub digits : Str → Str
 digits [] = []
 digits (x ∷ []) = []
-digits (x ∷ y ∷ s) = if is_hex x and is_hex y then (hex_value x * 16 + hex_value y) ∷ digits s else []
+digits (x ∷ y ∷ s) = whether is_hex x and is_hex y then (hex_value x * 16 + hex_value y) ∷ digits s else []
 
 -- the length of the frame, and where the next line starts
 unfoldable pub taken : ℕ → Str → Option Str → Line

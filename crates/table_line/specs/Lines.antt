@@ -1,7 +1,7 @@
 -- The lines of a text, and the frame that a hex line stands for.
 use Rattle.std.specs.Prelude.{ℕ, ◌+◌, ◌*◌, Bool, true, false, List, [], ◌∷◌, eqb}
 use Rattle.std.proofs.Math.Option.{Option, none, some}
-use Rattle.text.specs.Test.{◌and◌, if◌then◌else◌}
+use Rattle.text.specs.Test.{◌and◌, whether◌then◌else◌}
 use Rattle.text.specs.Byte.{is_hex, hex_value}
 use Rattle.text.specs.String.{Str}
 
@@ -25,7 +25,7 @@ pair false b r = none
 -- the bytes for which pairs of digits stand, up to an LF that ends the line
 unfoldable pub pairs : Str → Option Str
 pairs [] = none
-pairs (x ∷ []) = if eqb x 10 then some [] else none
+pairs (x ∷ []) = whether eqb x 10 then some [] else none
 pairs (x ∷ y ∷ s) = pair (is_hex x and is_hex y) (hex_value x * 16 + hex_value y) (pairs s)
 
 -- at least one byte

@@ -9,7 +9,7 @@ use lib.Dec.{eqb}
 use lib.ListN.{length, get_or, set, length-append, length-set, get_or-append}
 use lib.Seq.{get_or-set_same, get_or-set_other}
 use Rattle.limits.specs.Limits.{max_members, max_rules}
-use Rattle.text.specs.Test.{if◌then◌else◌, any}
+use Rattle.text.specs.Test.{whether◌then◌else◌, any}
 use Rattle.text.specs.String.{Str, same}
 use Rattle.text.specs.Frame.{got, string}
 use Rattle.text.proofs.Tests.{by}
@@ -126,7 +126,7 @@ module _ {b : Earlier} {old : List ℕ} {c : Counts} {groups users owners starts
   ids_set_stays = holds_longer f (λ y. (id_far y).0) G.ids_set
 
   pub grow_version : (v t : Str) → Held (with b (version v t)) (old ++ f) (counts_after c 1) groups users owners starts holders names ms is
-  unfolding with counts_after if◌then◌else◌
+  unfolding with counts_after whether◌then◌else◌
   grow_version v t =
       (record { kind = refl; holds = holds_stay f H 1; named = names_stay; members_set = members_set_stays; ids_set = ids_set_stays; sets_long = G.sets_long })
 
@@ -167,7 +167,7 @@ module _ {b : Earlier} {old : List ℕ} {c : Counts} {groups users owners starts
         }
 
     pub grow_group : Held (with b (group K.name)) (old ++ f) (counts_after c 2) groups' users owners starts holders names' ms is
-    unfolding with counts_after if◌then◌else◌
+    unfolding with counts_after whether◌then◌else◌
     grow_group =
         rw K.starts_set
         (record { kind = refl; holds = holds_group; named = rw H.groups_are K.named; members_set = members_set_stays; ids_set = ids_set_stays; sets_long = G.sets_long })
@@ -243,7 +243,7 @@ module _ {b : Earlier} {old : List ℕ} {c : Counts} {groups users owners starts
         rw (bytes_snoc b.members (record { group = K.group; user = K.user }), m) K.held
 
     pub grow_member : Held (with b (member (record { group = K.group; user = K.user }))) (old ++ f) (counts_after c 3) groups users' owners' starts holders names ms' is
-    unfolding with counts_after if◌then◌else◌
+    unfolding with counts_after whether◌then◌else◌
     grow_member =
         rw (K.users_set, K.owners_set)
         (record {
@@ -289,7 +289,7 @@ module _ {b : Earlier} {old : List ℕ} {c : Counts} {groups users owners starts
         }
 
     pub grow_rule : Held (with b (rule x)) (old ++ f) (counts_after c 4) groups users owners starts' holders' names ms is'
-    unfolding with counts_after if◌then◌else◌
+    unfolding with counts_after whether◌then◌else◌
     grow_rule =
         same_arrays K.starts_set K.holders_set
         (record {

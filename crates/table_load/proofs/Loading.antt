@@ -9,7 +9,7 @@ use lib.ListN.{length, take, drop, get_or, drop_of_length-le}
 use lib.Seq.{length-take-le, take_at, drop_at, take-add, get_or-take, get_or-drop}
 use Rattle.limits.specs.Limits.{max_table_text, max_members, max_rules}
 use Rattle.limits.specs.Sizes.{max_table_bytes}
-use Rattle.text.specs.Test.{if◌then◌else◌, any, twice}
+use Rattle.text.specs.Test.{whether◌then◌else◌, any, twice}
 use Rattle.text.specs.String.{Str}
 use Rattle.text.specs.Refusal.{clear}
 use Rattle.text.specs.Frame.{part}
@@ -58,11 +58,11 @@ unfolding judge
 judge_line n b l ls x e = rw e
 
 unless_not : (n line : ℕ) (next : Checked) → (n ≡ clear → ⊥) → unless n line next ≡ checked.Refused n line
-unfolding unless if◌then◌else◌
+unfolding unless whether◌then◌else◌
 unless_not n line next h = rw (ne_eqb n clear h)
 
 unless_clear : (n line : ℕ) (next : Checked) → n ≡ clear → unless n line next ≡ next
-unfolding unless if◌then◌else◌
+unfolding unless whether◌then◌else◌
 unless_clear n line next h = rw (eq-eqb n clear h)
 
 line_hex : (l f : Str) → frame l ≡ some f → line_of l ≡ framed (entry_of f)
@@ -89,16 +89,16 @@ pub record Going (text buf : List ℕ) (c : Counts) (groups users owners starts 
 
 module _ (text : List ℕ) where
   pub over : max_table_text < length text → check text ≡ checked.Refused 1 0
-  unfolding check if◌then◌else◌
+  unfolding check whether◌then◌else◌
   over h = rw (lt-ltb max_table_text (length text) h)
 
   module _ (fits : length text ≤ max_table_text) where
     pub none_there : length text ≡ 0 → check text ≡ checked.Refused 4 1
-    unfolding check if◌then◌else◌
+    unfolding check whether◌then◌else◌
     none_there h = rw (le-ltb max_table_text (length text) fits, eq-eqb (length text) 0 h)
 
     check_judges : (length text ≡ 0 → ⊥) → check text ≡ judge 1 first (lines text)
-    unfolding check if◌then◌else◌
+    unfolding check whether◌then◌else◌
     check_judges h = rw (le-ltb max_table_text (length text) fits, ne_eqb (length text) 0 h)
 
     -- nothing is held yet

@@ -1,7 +1,7 @@
 -- What the arrays of a loaded table hold.
 use Rattle.std.specs.Prelude.{ℕ, suc, ◌+◌, ◌≤◌, ◌<◌, ◌≡◌, true, false, List, [], ◌∷◌, eqb, length, get_or}
 use Rattle.limits.specs.Limits.{max_groups, max_members, max_rules}
-use Rattle.text.specs.Test.{if◌then◌else◌, twice}
+use Rattle.text.specs.Test.{whether◌then◌else◌, twice}
 use Rattle.text.specs.String.{Str, same}
 use Rattle.text.specs.Frame.{got}
 use Rattle.table_rows.specs.Strings.{strings_in, Laid}
@@ -61,7 +61,7 @@ pub record Held (b : Earlier) (f : List ℕ) (c : Counts) (groups users owners s
 -- the counts after one row more
 unfoldable pub counts_after : Counts → ℕ → Counts
 counts_after c kind =
-    if eqb kind kind_group then record { kind = kind_group; groups = c.groups + 1; members = c.members; rules = c.rules }
-    else if eqb kind kind_member then record { kind = kind_member; groups = c.groups; members = c.members + 1; rules = c.rules }
-    else if eqb kind kind_rule then record { kind = kind_rule; groups = c.groups; members = c.members; rules = c.rules + 1 }
+    whether eqb kind kind_group then record { kind = kind_group; groups = c.groups + 1; members = c.members; rules = c.rules }
+    else whether eqb kind kind_member then record { kind = kind_member; groups = c.groups; members = c.members + 1; rules = c.rules }
+    else whether eqb kind kind_rule then record { kind = kind_rule; groups = c.groups; members = c.members; rules = c.rules + 1 }
     else record { kind = kind; groups = c.groups; members = c.members; rules = c.rules }

@@ -4,7 +4,7 @@ use mathlib.Core.List.{List, [], ◌∷◌, ◌++◌}
 use Prim.Native.Nat.{ℕ, zero, suc, ◌+◌, ◌<◌}
 use native.Mathlib.Omega.{arith}
 use lib.ListN.{length, get_or}
-use Rattle.text.specs.Test.{if◌then◌else◌}
+use Rattle.text.specs.Test.{whether◌then◌else◌}
 use Rattle.text.specs.String.{Str}
 use Rattle.text.proofs.Tests.{by}
 use Rattle.table.specs.Table.{Member, Table}
@@ -12,7 +12,7 @@ use Rattle.table.specs.Group.{lists, numbered, memberships, groups_of}
 use Rattle.table_membership.specs.Set.{has_of, numbers_in, UserGroups}
 
 pub numbers_more : (set n i : ℕ) → numbers_in set (suc n) i ≡ numbers_in set n i ++ numbered (has_of set (i + n)) (i + n) []
-unfolding numbers_in numbered if◌then◌else◌
+unfolding numbers_in numbered whether◌then◌else◌
 numbers_more set zero i = let e : i + 0 ≡ i = omega arith in rw e
 numbers_more set (suc n) i =
     let e : suc i + n ≡ i + suc n = omega arith in

@@ -10,7 +10,7 @@ use lib.Dec.{eqb}
 use lib.Count.{ones, ones_step, count_trailing_zeros}
 use lib.ListN.{length, get_or}
 use Rattle.limits.specs.Limits.{max_groups}
-use Rattle.text.specs.Test.{◌and◌, ◌or◌, if◌then◌else◌, any, twice}
+use Rattle.text.specs.Test.{◌and◌, ◌or◌, whether◌then◌else◌, any, twice}
 use Rattle.text.specs.String.{Str, same}
 use Rattle.text.proofs.Tests.{by, same_refl, neither, and_l}
 use Rattle.table_place.specs.Place.{str_in}
@@ -27,7 +27,7 @@ use Rattle.table_membership.proofs.Bits.{digit, digit_is, digit_small, has_inser
 -- ---- the loop
 
 module _ (user : Str) (f users owners : List ℕ) (n i : ℕ) where
-  pub set_turn : (w set set' : ℕ) → i < n → set' ≡ (if same user (str_in f (get_or users i 0)) then insert_of set (get_or owners i 0) else set)
+  pub set_turn : (w set set' : ℕ) → i < n → set' ≡ (whether same user (str_in f (get_or users i 0)) then insert_of set (get_or owners i 0) else set)
       → w ≡ set_in user f users owners (n - i) i set → w ≡ set_in user f users owners (n - (i + 1)) (i + 1) set'
   unfolding set_in
   set_turn w set set' h e g = let k : n - i ≡ suc (n - (i + 1)) = omega arith in g ∙ rw (k, e, add-one)
@@ -39,12 +39,12 @@ module _ (user : Str) (f users owners : List ℕ) (n i : ℕ) where
 pub set_start : (user : Str) (f users owners : List ℕ) (n : ℕ) → set_in user f users owners n 0 0 ≡ set_in user f users owners (n - 0) 0 0
 set_start user f users owners n = let e : n - 0 ≡ n = omega arith in rw e
 
-pub join_hit : (t : Bool) (r x y : ℕ) → t ≡ true → r ≡ x → r ≡ (if t then x else y)
-unfolding if◌then◌else◌
+pub join_hit : (t : Bool) (r x y : ℕ) → t ≡ true → r ≡ x → r ≡ (whether t then x else y)
+unfolding whether◌then◌else◌
 join_hit t r x y e h = rw (e, h)
 
-pub join_miss : (t : Bool) (x y : ℕ) → t ≡ false → y ≡ (if t then x else y)
-unfolding if◌then◌else◌
+pub join_miss : (t : Bool) (x y : ℕ) → t ≡ false → y ≡ (whether t then x else y)
+unfolding whether◌then◌else◌
 join_miss t x y e = rw e
 
 -- ---- a group is in the set exactly if a member has it and is the user
@@ -83,7 +83,7 @@ module _ (user : Str) (f users owners : List ℕ) (g : ℕ) where
   pair_other i e = rw e (and_none (eqb (get_or owners i 0) g))
 
   has_in : (n i set : ℕ) → has_of (set_in user f users owners n i set) g ≡ (has_of set g || has_pair g user f users owners n i)
-  unfolding set_in has_pair if◌then◌else◌
+  unfolding set_in has_pair whether◌then◌else◌
   has_in zero i set = or_end (has_of set g)
   has_in (suc n) i set =
       by (same user (str_in f (get_or users i 0)))
@@ -168,7 +168,7 @@ module _ (members : List Member) (user : Str) where
   low x e = let n : x % 2 ≡ 1 → ⊥ = eqb-false _ _ e in omega arith
 
   pub ones_count : (i : ℕ) (xs : List Str) (x : ℕ) → Answers (lists members user) [] xs x → ones x ≡ length (memberships members user i xs)
-  unfolding memberships numbered if◌then◌else◌
+  unfolding memberships numbered whether◌then◌else◌
   ones_count i [] x a = let z : x ≡ 0 = no_digits x x (omega arith) (λ g. a.1 g (omega arith)) in rw z ones_zero
   ones_count i (s ∷ xs) x a =
       let r : ones (x / 2) ≡ length (memberships members user (suc i) xs) = ones_count (suc i) xs (x / 2) (rest s xs x a) in
@@ -178,7 +178,7 @@ module _ (members : List Member) (user : Str) where
       (λ t. let o : x % 2 ≡ 0 = low x (f ∙ t) in rw t (omega (arith, ones_step x, r)))
 
   pub zeros_first : (i : ℕ) (xs : List Str) (k x n : ℕ) (ns : List ℕ) → length xs ≤ k → Answers (lists members user) [] xs x → memberships members user i xs ≡ n ∷ ns → n ≡ i + count_trailing_zeros k x
-  unfolding memberships numbered if◌then◌else◌ count_trailing_zeros
+  unfolding memberships numbered whether◌then◌else◌ count_trailing_zeros
   zeros_first i [] k x n ns l a e = never e
     where
       never : {X : Type 0} {n : ℕ} {ns : List ℕ} → [] ≡ n ∷ ns → X
@@ -199,7 +199,7 @@ module _ (members : List Member) (user : Str) where
       rw o (omega arith))
 
   pub few_count : (i : ℕ) (xs : List Str) → length (memberships members user i xs) ≤ length xs
-  unfolding memberships numbered if◌then◌else◌
+  unfolding memberships numbered whether◌then◌else◌
   few_count i [] = omega arith
   few_count i (s ∷ xs) = by (lists members user s) (λ t. rw t (omega (arith, few_count (suc i) xs))) (λ t. rw t (omega (arith, few_count (suc i) xs)))
 

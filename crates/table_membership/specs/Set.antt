@@ -3,7 +3,7 @@ use Rattle.std.specs.Prelude.{ℕ, zero, suc, ◌/◌, ◌%◌, ◌^◌, ◌≤�
 use Rattle.std.specs.Int.Bits.{bit_or}
 use Rattle.std.specs.Int.Count.{ones, count_trailing_zeros}
 use Rattle.limits.specs.Limits.{max_groups}
-use Rattle.text.specs.Test.{if◌then◌else◌}
+use Rattle.text.specs.Test.{whether◌then◌else◌}
 use Rattle.text.specs.String.{Str, same}
 use Rattle.table_place.specs.Place.{str_in}
 use Rattle.table_rows.specs.Strings.{Listed}
@@ -42,7 +42,7 @@ pub record Members (f users owners : List ℕ) (n : ℕ) : Type 0 where
 unfoldable pub set_in : Str → List ℕ → List ℕ → List ℕ → ℕ → ℕ → ℕ → ℕ
 set_in user f users owners zero i set = set
 set_in user f users owners (suc n) i set =
-    set_in user f users owners n (suc i) (if same user (str_in f (get_or users i 0)) then insert_of set (get_or owners i 0) else set)
+    set_in user f users owners n (suc i) (whether same user (str_in f (get_or users i 0)) then insert_of set (get_or owners i 0) else set)
 
 -- the group of a rule whose subject is a group; only a rule's number picks it
 abbrev pub group_of : List ℕ → RuleNumber → GroupNumber
@@ -51,6 +51,6 @@ group_of holders rule = record { 0 = get_or holders rule.0 0 }
 -- the answer of a group count: "the group count is its ones, the first group its trailing zeros"
 unfoldable pub count_in : Str → ℕ → Counted
 count_in user set =
-    if bad_user user then Declined 20 0
-    else if eqb (ones set) 0 then NoGroup
+    whether bad_user user then Declined 20 0
+    else whether eqb (ones set) 0 then NoGroup
     else Count (ones set) (record { 0 = count_trailing_zeros max_groups set })

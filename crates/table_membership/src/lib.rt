@@ -3,7 +3,7 @@
 // The groups of a user: a set with one bit for each group.
 ghost use Rattle.std.specs.Prelude.{◌≡◌, ◌≤◌, ◌<◌, length};
 ghost use Rattle.limits.specs.Limits.{max_groups};
-ghost use Rattle.text.specs.Test.{if◌then◌else◌};
+ghost use Rattle.text.specs.Test.{whether◌then◌else◌};
 ghost use Rattle.text.specs.String.{same};
 ghost use Rattle.table_place.specs.Place.{str_end, str_in};
 ghost use Rattle.table_membership.specs.Set.{insert_of, has_of, Members, set_in, group_of, count_in};
@@ -40,7 +40,7 @@ pub fn group_of(holders: &[u8], rule: RuleNumber) -> GroupNumber
 // The group is put in where the string at `at` is the user.
 pub fn join(set: u64, g: GroupNumber, f: &[u8], at: usize, user: &[u8]) -> u64
     requires { (g.0 < max_groups) × (str_end f.now at ≤ length f.now) }
-    ensures { result ≡ (if same user.now (str_in f.now at) then insert_of set g.0 else set) }
+    ensures { result ≡ (whether same user.now (str_in f.now at) then insert_of set g.0 else set) }
 {
     if table_rows::is_at(f, at, user) {
         return insert(set, g);

@@ -9,7 +9,7 @@ use borrow.Author.Tests.{eqb-true, eqb-false, ltb-true, lt-ltb}
 use lib.Dec.{eqb, ltb, eqb-zero-suc, eqb-suc-zero, eqb-suc-suc, leb-suc-suc}
 use lib.ListN.{length, get_or, set, length-append, get_or-append}
 use lib.Seq.{get_or-set_same, get_or-set_other}
-use Rattle.text.specs.Test.{◌and◌, ◌or◌, if◌then◌else◌, any, twice}
+use Rattle.text.specs.Test.{◌and◌, ◌or◌, whether◌then◌else◌, any, twice}
 use Rattle.text.specs.String.{Str, same}
 use Rattle.text.proofs.Frames.{part_front}
 use Rattle.text.proofs.Tests.{by, and_l, and_r, same→≡, same_sym, or_false_l, or_false_r, neither}
@@ -114,7 +114,7 @@ at_member (x ∷ xs) (suc i) f h e = at_member xs i f (omega arith) (or_false_r 
 
 -- the name is the string with number o exactly if that is its place
 pub place_test : (name : Str) (xs : List Str) (o : ℕ) → twice same xs ≡ false → o < length xs → same name (get_or xs o []) ≡ eqb o (place name xs)
-unfolding twice place if◌then◌else◌
+unfolding twice place whether◌then◌else◌
 place_test name [] o d h = absurd (omega arith)
 place_test name (x ∷ xs) zero d h = by (same name x) (λ e. rw e) (λ e. rw e (sym (eqb-zero-suc (place name xs))))
 place_test name (x ∷ xs) (suc o) d h =
@@ -138,17 +138,17 @@ number_is name f starts n o d e = place_is name f starts n o d (ltb-true o n (an
 
 -- a name that has no place is none of them
 pub place_any : (name : Str) (xs : List Str) → any (same name) xs ≡ ltb (place name xs) (length xs)
-unfolding any place if◌then◌else◌ ◌or◌
+unfolding any place whether◌then◌else◌ ◌or◌
 place_any name [] = refl
 place_any name (x ∷ xs) = by (same name x) (λ e. rw e (sym (lt-ltb 0 (suc (length xs)) (omega arith)))) (λ e. rw e (place_any name xs ∙ sym (leb-suc-suc (suc (place name xs)) (length xs))))
 
 pub place_le : (name : Str) (xs : List Str) → place name xs ≤ length xs
-unfolding place if◌then◌else◌
+unfolding place whether◌then◌else◌
 place_le name [] = omega arith
 place_le name (x ∷ xs) = by (same name x) (λ e. rw e (omega arith)) (λ e. rw e (omega (arith, place_le name xs)))
 
 pub place_at : (name : Str) (xs : List Str) → place name xs < length xs → get_or xs (place name xs) [] ≡ name
-unfolding place if◌then◌else◌
+unfolding place whether◌then◌else◌
 place_at name [] h = absurd (omega arith)
 place_at name (x ∷ xs) h = by (same name x) (λ e. rw e (sym (same→≡ _ _ e))) (λ e. rw e (place_at name xs (let k : suc (place name xs) < suc (length xs) = rw e at h in omega arith)))
 

@@ -6,7 +6,7 @@ use native.Mathlib.Omega.{arith}
 use borrow.Author.Tests.{ltb-true, ltb-false}
 use lib.Dec.{eqb, ltb}
 use lib.ListN.{length, get_or}
-use Rattle.text.specs.Test.{◌or◌, if◌then◌else◌}
+use Rattle.text.specs.Test.{◌or◌, whether◌then◌else◌}
 use Rattle.text.specs.String.{Str}
 use Rattle.text.specs.Frame.{Parsed, got, unread, and_then, ◌>>=◌, ret, byte, string}
 use Rattle.text.proofs.Tests.{by}
@@ -25,8 +25,8 @@ then_got (got a q) k b t e = (a, q, refl, e)
 then_got unread k b t e = let z : ◌≡◌ {A = ℕ} 0 1 = cc in absurd (omega arith)
 
 -- a code byte is the byte that stands there
-code_told : (f : List ℕ) (p a b m t : ℕ) (u v : ℕ) → (if eqb u a or eqb u b then ret u else unknown) f v ≡ got m t → (m ≡ u) × (t ≡ v)
-unfolding if◌then◌else◌ ret unknown
+code_told : (f : List ℕ) (p a b m t : ℕ) (u v : ℕ) → (whether eqb u a or eqb u b then ret u else unknown) f v ≡ got m t → (m ≡ u) × (t ≡ v)
+unfolding whether◌then◌else◌ ret unknown
 code_told f p a b m t u v e =
     by (eqb u a or eqb u b)
     (λ h. let g = rw h at e in (cc, cc))

@@ -8,7 +8,7 @@ use native.Mathlib.Omega.{arith}
 use lib.Dec.{ltb}
 use lib.ListN.{length, get_or}
 use borrow.Author.Tests.{le-ltb, lt-ltb}
-use Rattle.text.specs.Test.{◌and◌, if◌then◌else◌}
+use Rattle.text.specs.Test.{◌and◌, whether◌then◌else◌}
 use Rattle.text.specs.String.{Str, same}
 use Rattle.table_place.specs.Place.{str_end, str_in}
 use Rattle.table_rows.specs.Strings.{rows_of, strings_in, place}
@@ -28,11 +28,11 @@ module _ (f starts : List ℕ) (n : ℕ) (name : Str) (i : ℕ) where
 
   pub find_pass : (w : ℕ) → i < n → same name (str_in f (get_or starts i 0)) ≡ false
       → w ≡ i + place name (strings_in f starts (n - i) i) → w ≡ i + 1 + place name (strings_in f starts (n - (i + 1)) (i + 1))
-  unfolding place if◌then◌else◌
+  unfolding place whether◌then◌else◌
   find_pass w h e g = let k : place name (strings_in f starts (n - i) i) ≡ suc (place name (strings_in f starts (n - (i + 1)) (i + 1))) = rw (strings_cons h, e) in omega arith
 
   pub find_hit : (w : ℕ) → i < n → same name (str_in f (get_or starts i 0)) ≡ true → w ≡ i + place name (strings_in f starts (n - i) i) → i ≡ w
-  unfolding place if◌then◌else◌
+  unfolding place whether◌then◌else◌
   find_hit w h e g = let k : place name (strings_in f starts (n - i) i) ≡ 0 = rw (strings_cons h, e) in omega arith
 
   pub find_end : (w : ℕ) → i ≤ n → n ≤ i → w ≡ i + place name (strings_in f starts (n - i) i) → n ≡ w

@@ -1,6 +1,6 @@
 -- Rows of a table by arrays of positions: `starts` has the position of each row's string (its length byte) in the decoded bytes f.
 use Rattle.std.specs.Prelude.{ℕ, zero, suc, ◌/◌, ◌≤◌, ◌<◌, ◌≡◌, false, List, [], ◌∷◌, length, get_or}
-use Rattle.text.specs.Test.{if◌then◌else◌, twice}
+use Rattle.text.specs.Test.{whether◌then◌else◌, twice}
 use Rattle.text.specs.String.{Str, same}
 use Rattle.table_place.specs.Place.{str_end, str_in}
 use Rattle.text_hash.specs.declared.Seed.{Seed}
@@ -32,7 +32,7 @@ pub record Distinct (f starts : List ℕ) (n : ℕ) : Type 0 where
 -- the number of the first string that is the name; where none is, how many there are
 unfoldable pub place : Str → List Str → ℕ
 place name [] = 0
-place name (s ∷ ss) = if same name s then 0 else suc (place name ss)
+place name (s ∷ ss) = whether same name s then 0 else suc (place name ss)
 
 -- ---- a hash, which only says where to look first
 

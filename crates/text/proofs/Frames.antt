@@ -2,7 +2,7 @@
 use Rattle.std.proofs.Common.{◌≡◌, ℕ, zero, suc, ◌+◌, ◌-◌, ◌<◌, ◌≤◌, ltb, leb, List, [], ◌∷◌, ◌++◌, length, get_or, drop, sym, refl, ap, ◌∙◌, arith, length-drop, ltb-false, ltb-true, le-ltb, lt-ltb, le-leb, leb-false, leb-true}
 use borrow.Author.Tests.{lt-leb}
 use lib.Seq.{take-append-le, drop-append-le}
-use Rattle.text.specs.Test.{if◌then◌else◌}
+use Rattle.text.specs.Test.{whether◌then◌else◌}
 use Rattle.text.specs.String.{Str}
 use Rattle.text.specs.Frame.{Parsed, got, unread, and_then, Reader, ◌>>=◌, ret, byte, part, run, string, times}
 use Rattle.text.specs.Steps.{end_of}
@@ -12,16 +12,16 @@ use Rattle.text.proofs.Tests.{by}
 
 module _ (f : List ℕ) (at : ℕ) where
   pub byte_got : at < length f → byte f at ≡ got (get_or f at 0) (at + 1)
-  unfolding byte if◌then◌else◌
+  unfolding byte whether◌then◌else◌
   byte_got h = rw (lt-ltb _ _ h)
 
   pub byte_unread : length f ≤ at → byte f at ≡ unread
-  unfolding byte if◌then◌else◌
+  unfolding byte whether◌then◌else◌
   byte_unread h = rw (le-ltb _ _ h)
 
   pub string_got : at < length f → get_or f at 0 ≤ length f - (at + 1)
       → string f at ≡ got (part f (at + 1) (at + 1 + get_or f at 0)) (at + 1 + get_or f at 0)
-  unfolding string ◌>>=◌ run if◌then◌else◌
+  unfolding string ◌>>=◌ run whether◌then◌else◌
   string_got h k = rw (byte_got h, le-leb _ _ k)
 
   pub string_none : length f ≤ at → string f at ≡ unread
@@ -29,7 +29,7 @@ module _ (f : List ℕ) (at : ℕ) where
   string_none h = rw (byte_unread h)
 
   pub string_unread : at < length f → length f - (at + 1) < get_or f at 0 → string f at ≡ unread
-  unfolding string ◌>>=◌ run if◌then◌else◌
+  unfolding string ◌>>=◌ run whether◌then◌else◌
   string_unread h k = rw (byte_got h, lt-leb _ _ k)
 
 -- no bytes

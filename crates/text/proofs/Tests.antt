@@ -1,7 +1,7 @@
 -- What the tests of specs/Test and specs/String decide, each as the fact that it stands for.
 use Rattle.std.proofs.Common.{◌≡◌, ℕ, Bool, true, false, ◌&&◌, ◌||◌, ◌⊎◌, List, [], ◌∷◌, sym, refl, ap, ◌∙◌, subst, ap₂, inl, inr, arith, eq-eqb, eqb-true}
 use mathlib.Core.List.Memᴰ
-use Rattle.text.specs.Test.{◌and◌, ◌or◌, if◌then◌else◌, ◌∈◌, all, any, only}
+use Rattle.text.specs.Test.{◌and◌, ◌or◌, whether◌then◌else◌, ◌∈◌, all, any, only}
 use Rattle.text.specs.String.{Str, same}
 
 -- ---- Bool
@@ -184,7 +184,7 @@ module _ {A : Type 0} where
   none_any f xs e {x} m = by (f x) (λ p. clash (→any f m p) e) (λ p. p)
 
   pub only→ : (f : A → Bool) (xs : List A) {x : A} → x ∈ only f xs → (x ∈ xs) × (f x ≡ true)
-  unfolding only if◌then◌else◌
+  unfolding only whether◌then◌else◌
   only→ f [] m = absurd (Memᴰ.not-nil m)
   only→ f (y ∷ ys) {x} m = by (f y) (λ e. kept e (only→ f ys) (rw e at m)) (λ e. let r = only→ f ys (rw e at m) in (Memᴰ.tail r.0, r.1))
     where
@@ -193,6 +193,6 @@ module _ {A : Type 0} where
       kept e ih (Memᴰ.tail m) = let r = ih m in (Memᴰ.tail r.0, r.1)
 
   pub →only : (f : A → Bool) {x : A} {xs : List A} → x ∈ xs → f x ≡ true → x ∈ only f xs
-  unfolding only if◌then◌else◌
+  unfolding only whether◌then◌else◌
   →only f (Memᴰ.head p) e = rw (ap f (sym p) ∙ e) (Memᴰ.head p)
   →only f (Memᴰ.tail {x = y} m) e = by (f y) (λ h. rw h (Memᴰ.tail (→only f m e))) (λ h. rw h (→only f m e))

@@ -1,6 +1,6 @@
 -- Readers: from a position of the bytes on, a value and where it ends, which is where reading goes on; or the bytes do not read so.
 use Rattle.std.specs.Prelude.{ℕ, zero, suc, ◌+◌, ◌-◌, List, [], ◌∷◌, length, nat_le, nat_lt, slice_index, slice_range}
-use Rattle.text.specs.Test.{if◌then◌else◌}
+use Rattle.text.specs.Test.{whether◌then◌else◌}
 use Rattle.text.specs.String.{Str}
 
 -- a value, and where it ends
@@ -28,7 +28,7 @@ ret a f at = got a at
 
 -- the next byte
 unfoldable pub byte : Reader ℕ
-byte f at = if nat_lt at (length f) then got (slice_index f at) (at + 1) else unread
+byte f at = whether nat_lt at (length f) then got (slice_index f at) (at + 1) else unread
 
 -- the bytes of f from `from` up to, not including, `to`
 abbrev pub part : List ℕ → ℕ → ℕ → List ℕ
@@ -36,7 +36,7 @@ part f from to = slice_range f from to
 
 -- the next n bytes
 unfoldable pub run : ℕ → Reader Str
-run n f at = if nat_le n (length f - at) then got (part f at (at + n)) (at + n) else unread
+run n f at = whether nat_le n (length f - at) then got (part f at (at + n)) (at + n) else unread
 
 -- "S is one length byte, then that many bytes"
 unfoldable pub string : Reader Str

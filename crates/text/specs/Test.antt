@@ -1,4 +1,4 @@
--- Tests on values and on lists. `_and_`, `_or_` and `if◌then◌else◌` are the library's `&&`, `||` and `cond`, kept shut: they
+-- Tests on values and on lists. `_and_`, `_or_` and `whether◌then◌else◌` are the library's `&&`, `||` and `cond`, kept shut: they
 -- unfold only where a proof asks for it.
 use Rattle.std.specs.Prelude.{Bool, true, false, List, [], ◌∷◌}
 use mathlib.Core.List.{Memᴰ}
@@ -6,7 +6,7 @@ use Rattle.std.proofs.Math.Option.{Option, none, some}
 
 infixr 35 ◌and◌
 infixr 30 ◌or◌
-infix 20 if◌then◌else◌
+infix 20 whether◌then◌else◌
 infix 40 ◌∈◌
 unfoldable pub ◌and◌ : Bool → Bool → Bool
 true and b = b
@@ -16,9 +16,9 @@ unfoldable pub ◌or◌ : Bool → Bool → Bool
 true or b = true
 false or b = b
 
-unfoldable pub if◌then◌else◌ : {A : Type 0} → Bool → A → A → A
-if true then x else y = x
-if false then x else y = y
+unfoldable pub whether◌then◌else◌ : {A : Type 0} → Bool → A → A → A
+whether true then x else y = x
+whether false then x else y = y
 
 -- x is a member of xs
 abbrev pub ◌∈◌ : {A : Type 0} → A → List A → Type 0
@@ -36,7 +36,7 @@ module _ {A : Type 0} where
   -- the members that pass
   unfoldable pub only : (A → Bool) → List A → List A
   only f [] = []
-  only f (x ∷ xs) = if f x then x ∷ only f xs else only f xs
+  only f (x ∷ xs) = whether f x then x ∷ only f xs else only f xs
 
   -- two members are alike
   unfoldable pub twice : (A → A → Bool) → List A → Bool

@@ -9,25 +9,25 @@ use mathlib.Core.List.{List, [], ◌∷◌, ◌++◌, append_assoc}
 use lib.Dec.{eqb}
 use lib.ListN.{length, take, drop, set, length-set, length-drop}
 use lib.Seq.{set_split, drop_at, length-take-le, take_all}
-use Rattle.text.specs.Test.{if◌then◌else◌}
+use Rattle.text.specs.Test.{whether◌then◌else◌}
 use Rattle.text.specs.String.{Str}
 use Rattle.text_make.specs.Decimal.{digits, decimal}
 use Rattle.text_make.specs.Added.{Added, AddedUpTo}
 
 -- the digits of what is left of a number; none where nothing is left
 unfoldable pub left : ℕ → ℕ → Str
-left k n = if eqb n 0 then [] else digits k n
+left k n = whether eqb n 0 then [] else digits k n
 
 pub left_none : (k : ℕ) → left k 0 ≡ []
-unfolding left if◌then◌else◌
+unfolding left whether◌then◌else◌
 left_none k = refl
 
 pub left_some : (k n : ℕ) → (n ≡ 0 → ⊥) → left k n ≡ digits k n
-unfolding left if◌then◌else◌
+unfolding left whether◌then◌else◌
 left_some k n h = rw (ne_eqb n 0 h)
 
 pub last_digit : (k n : ℕ) → digits (suc k) n ≡ left k (n / 10) ++ ((48 + n % 10) ∷ [])
-unfolding digits if◌then◌else◌
+unfolding digits whether◌then◌else◌
 last_digit k n = go (dec_lt n 10)
   where
     go : Dec (n < 10) → digits (suc k) n ≡ left k (n / 10) ++ ((48 + n % 10) ∷ [])

@@ -7,7 +7,7 @@ use native.Mathlib.Numerals.{add-one}
 use native.Mathlib.Omega.{arith}
 use lib.ListN.{length, drop, get_or, length-drop, drop_of_length-le}
 use lib.Seq.{drop-cons}
-use Rattle.text.specs.Test.{if◌then◌else◌}
+use Rattle.text.specs.Test.{whether◌then◌else◌}
 use Rattle.text.specs.Byte.{is_print}
 use Rattle.text.specs.String.{Str}
 use Rattle.text.proofs.Tests.{by}
@@ -15,17 +15,17 @@ use Rattle.text_search.specs.Search.{until, unprinted}
 
 -- what is found lies within the string, or at its end
 pub until_fits : (p : ℕ → Bool) (s : Str) → until p s ≤ length s
-unfolding until if◌then◌else◌
+unfolding until whether◌then◌else◌
 until_fits p [] = omega arith
 until_fits p (x ∷ s) = by (p x) (λ u. rw u (omega arith)) (λ u. rw u (let h = until_fits p s in omega arith))
 
 module _ (p : ℕ → Bool) (s : Str) (i : ℕ) where
   pub found : i < length s → p (get_or s i 0) ≡ true → until p (drop i s) ≡ 0
-  unfolding until if◌then◌else◌
+  unfolding until whether◌then◌else◌
   found h t = rw (drop-cons s i 0 h, t)
 
   pub passed : i < length s → p (get_or s i 0) ≡ false → until p (drop i s) ≡ until p (drop (i + 1) s) + 1
-  unfolding until if◌then◌else◌
+  unfolding until whether◌then◌else◌
   passed h t = let k : drop (i + 1) s ≡ drop (suc i) s = ap (λ (n : ℕ). drop n s) (add-one i) in rw (drop-cons s i 0 h, t, k) (omega arith)
 
   pub ran_out : length s ≤ i → until p (drop i s) ≡ 0

@@ -8,7 +8,7 @@ use borrow.Author.Tests.{eqb-true, eqb-false, eq-eqb, ne_eqb}
 use lib.Dec.{eqb}
 use lib.ListN.{length, get_or, set, replicate, length-append, length-set}
 use lib.Seq.{get_or-set_same, get_or-set_other}
-use Rattle.text.specs.Test.{◌or◌, if◌then◌else◌, any}
+use Rattle.text.specs.Test.{◌or◌, whether◌then◌else◌, any}
 use Rattle.text.specs.String.{Str, same}
 use Rattle.text.proofs.Tests.{by, clash, same→≡, or_l, or_assoc, none_or}
 use Rattle.text_sorted.specs.Spans.{span_in, Inside, strings_of, Sought, inserted}
@@ -22,11 +22,11 @@ use Rattle.text_set.specs.Set.{among, Ready, Met, added, Holds}
 
 module _ (f keys : List ℕ) (room p : ℕ) (x : Str) where
   pub among_empty : get_or keys p 0 ≡ 0 → among f keys room p x ≡ false
-  unfolding among if◌then◌else◌
+  unfolding among whether◌then◌else◌
   among_empty e = rw (eq-eqb _ _ e)
 
   pub among_taken : (get_or keys p 0 ≡ 0 → ⊥) → among f keys room p x ≡ (same x (span_in f (get_or keys p 0)) or any (same x) (strings_of f keys (get_or keys room 0)))
-  unfolding among if◌then◌else◌
+  unfolding among whether◌then◌else◌
   among_taken e = rw (ne_eqb _ _ e)
 
 -- ---- nothing is kept
@@ -237,7 +237,7 @@ module _ (h : Str → ℕ) (f keys : List ℕ) (room : ℕ) (xs : List Str) (far
     }
 
   pub holds_added : Holds h f (added keys room (h x) r.at k) room (xs ++ (x ∷ []))
-  unfolding added if◌then◌else◌
+  unfolding added whether◌then◌else◌
   holds_added =
       by (eqb (get_or keys (h x) 0) 0)
       (λ t. rw t (one_holds (eqb-true _ _ t)))
@@ -274,15 +274,15 @@ module _ (f keys : List ℕ) (room p : ℕ) (x : Str) where
 
 module _ (keys : List ℕ) (room p at k : ℕ) where
   pub added_here : get_or keys p 0 ≡ 0 → set keys p k ≡ added keys room p at k
-  unfolding added if◌then◌else◌
+  unfolding added whether◌then◌else◌
   added_here e = rw (eq-eqb _ _ e)
 
   pub added_among : (get_or keys p 0 ≡ 0 → ⊥) → (keys' : List ℕ) → keys' ≡ inserted keys (get_or keys room 0) at k → set keys' room (get_or keys room 0 + 1) ≡ added keys room p at k
-  unfolding added if◌then◌else◌
+  unfolding added whether◌then◌else◌
   added_among d keys' e = rw (ne_eqb _ _ d, e)
 
   pub added_long : at ≤ get_or keys room 0 → get_or keys room 0 < length keys → length (added keys room p at k) ≡ length keys
-  unfolding added if◌then◌else◌
+  unfolding added whether◌then◌else◌
   added_long h l =
       by (eqb (get_or keys p 0) 0)
       (λ t. rw t (length-set keys p k))

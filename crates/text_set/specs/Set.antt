@@ -1,7 +1,7 @@
 -- A set of strings, each kept as a span of one text, in one array: the sorted strings in front, at number `room` how many they are, and after
 -- that the places. At a place stands the first string that came with it, 0 where none did; strings that found their place taken are sorted.
 use Rattle.std.specs.Prelude.{ℕ, ◌+◌, ◌≤◌, ◌<◌, ◌≡◌, Bool, false, List, eqb, length, get_or, set}
-use Rattle.text.specs.Test.{◌or◌, if◌then◌else◌, any}
+use Rattle.text.specs.Test.{◌or◌, whether◌then◌else◌, any}
 use Rattle.text.specs.String.{Str, same}
 use Rattle.text_sorted.specs.Spans.{span_in, Inside, strings_of, Sorted, Sought, inserted}
 use Rattle.text_sorted.specs.declared.Found.{Found}
@@ -9,7 +9,7 @@ use Rattle.text_sorted.specs.declared.Found.{Found}
 -- x, whose place is p, is in the set: a place where nothing stands proves that it is not
 unfoldable pub among : List ℕ → List ℕ → ℕ → ℕ → Str → Bool
 among f keys room p x =
-    if eqb (get_or keys p 0) 0 then false
+    whether eqb (get_or keys p 0) 0 then false
     else (same x (span_in f (get_or keys p 0)) or any (same x) (strings_of f keys (get_or keys room 0)))
 
 -- every span lies within the text
@@ -26,7 +26,7 @@ pub record Met (f keys : List ℕ) (room p : ℕ) (x : Str) (r : Found) : Type 0
 -- the span k comes to place p, or where this is taken to `at` of the sorted
 unfoldable pub added : List ℕ → ℕ → ℕ → ℕ → ℕ → List ℕ
 added keys room p at k =
-    if eqb (get_or keys p 0) 0 then set keys p k
+    whether eqb (get_or keys p 0) 0 then set keys p k
     else set (inserted keys (get_or keys room 0) at k) room (get_or keys room 0 + 1)
 
 -- The set has the strings xs, where h gives each string's place: each string is found, and none that finds its place empty is among the sorted.

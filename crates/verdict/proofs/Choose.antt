@@ -7,7 +7,7 @@ use mathlib.Core.Option.{Option, none, some}
 use Prim.Native.Nat.{ℕ, suc, ◌+◌}
 use native.Mathlib.Omega.{arith}
 use lib.ListN.{get_elem?}
-use Rattle.text.specs.Test.{if◌then◌else◌, ◌∈◌, twice}
+use Rattle.text.specs.Test.{whether◌then◌else◌, ◌∈◌, twice}
 use Rattle.text.proofs.Tests.{clash, by, on_cons, same→≡, ≡→same}
 use Rattle.table.specs.Table.{Rule}
 use Rattle.verdict.specs.Order.{Numbered, prefer, candidate, choose}
@@ -31,7 +31,7 @@ module _ {over : Rule → Rule → Bool} (o : Order over) (test : Rule → Bool)
 
   step : (r : Rule) (rs : List Rule) (i : ℕ) → test r ≡ true → (a : Option Numbered) → Chosen over test rs a
       → Chosen over test (r ∷ rs) (prefer over (some (record { number = i; rule = r })) a)
-  unfolding prefer if◌then◌else◌
+  unfolding prefer whether◌then◌else◌
   step r rs i e none h = record { listed = Memᴰ.head refl; passes = e; unbeaten = on_cons _ (λ t. irreflexive r) (λ s m t. clash t (h s m)) }
   step r rs i e (some n) h =
       by (over n.rule r)
@@ -43,7 +43,7 @@ module _ {over : Rule → Rule → Bool} (o : Order over) (test : Rule → Bool)
   skip r rs e (some n) h = record { listed = Memᴰ.tail h.listed; passes = h.passes; unbeaten = on_cons _ (λ t. clash t e) h.unbeaten }
 
   pub chosen : (rs : List Rule) (i : ℕ) → Chosen over test rs (choose over test i rs)
-  unfolding choose candidate prefer if◌then◌else◌
+  unfolding choose candidate prefer whether◌then◌else◌
   chosen [] i = λ s m. absurd (Memᴰ.not-nil m)
   chosen (r ∷ rs) i =
       by (test r) (λ e. rw e (step r rs i e (choose over test (suc i) rs) (chosen rs (suc i)))) (λ e. rw e (skip r rs e (choose over test (suc i) rs) (chosen rs (suc i))))
@@ -65,7 +65,7 @@ Placed i rs none = Unit {0}
 Placed i rs (some n) = (k : ℕ) × (n.number ≡ i + k) × (get_elem? rs k ≡ some n.rule)
 
 placed : (over : Rule → Rule → Bool) (test : Rule → Bool) (rs : List Rule) (i : ℕ) → Placed i rs (choose over test i rs)
-unfolding choose prefer candidate if◌then◌else◌
+unfolding choose prefer candidate whether◌then◌else◌
 placed over test [] i = tt
 placed over test (r ∷ rs) i =
     by (test r) (λ e. rw e (first (choose over test (suc i) rs) (placed over test rs (suc i)))) (λ e. rw e (later (choose over test (suc i) rs) (placed over test rs (suc i))))
@@ -92,7 +92,7 @@ module _ {over : Rule → Rule → Bool} (o : Order over) where
   over_trans r s u e h = by (over r u) (λ k. k) (λ k. clash e (o.ochain r u s k (o.oasym s u h)))
 
   pub prefer_assoc : (x y z : Option Numbered) → prefer over (prefer over x y) z ≡ prefer over x (prefer over y z)
-  unfolding prefer if◌then◌else◌
+  unfolding prefer whether◌then◌else◌
   prefer_assoc none y z = refl
   prefer_assoc (some n) none z = refl
   prefer_assoc (some n) (some m) none = refl

@@ -6,7 +6,7 @@ use lib.ListN.{length}
 use borrow.Author.Tests.{lt-ltb}
 use native.Mathlib.Omega.{arith}
 use native.Mathlib.Decide.{dec_lt}
-use Rattle.text.specs.Test.{if◌then◌else◌}
+use Rattle.text.specs.Test.{whether◌then◌else◌}
 use Rattle.text.specs.String.{more, before}
 use Rattle.text.proofs.Order.{more_less, more_same, more_other, asym, chain, tied, before_asym, before_chain, before_tied}
 use Rattle.table.specs.Table.{Rule}
@@ -65,7 +65,7 @@ nest x y u v a b tie l g ul ug ue = go (dec_lt x y) (dec_lt y x) (dec_lt u v) (d
         more_same x y _ e ∙ more_same u v tie i ∙ sym (more_same a b tie (ue e i))
 
 pub unless_small : (b : Bool) → one_unless b < 2
-unfolding if◌then◌else◌
+unfolding whether◌then◌else◌
 unless_small true = omega arith
 unless_small false = omega arith
 
@@ -86,7 +86,7 @@ better_rank r s p q =
     ∙ nest_2 _ _ (one_unless r.permit) (one_unless s.permit) _ (unless_small r.permit) (unless_small s.permit)
 
 unless_one : (x y : Bool) → one_unless x ≡ one_unless y → x ≡ y
-unfolding if◌then◌else◌
+unfolding whether◌then◌else◌
 unless_one true true h = refl
 unless_one true false h = absurd (omega arith)
 unless_one false true h = absurd (omega arith)

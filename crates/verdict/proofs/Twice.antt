@@ -4,7 +4,7 @@ use mathlib.Core.Logic.{◌⊎◌, inl, inr}
 use mathlib.Core.Bool.{Bool, true, false}
 use mathlib.Core.List.Memᴰ
 use mathlib.Core.List.{List, [], ◌∷◌, ◌++◌}
-use Rattle.text.specs.Test.{◌or◌, if◌then◌else◌, ◌∈◌, any, only, twice}
+use Rattle.text.specs.Test.{◌or◌, whether◌then◌else◌, ◌∈◌, any, only, twice}
 use Rattle.text.proofs.Tests.{clash, by, or_false_l, or_false_r, neither, any→, none_any, only→}
 
 module _ {A : Type 0} where
@@ -26,7 +26,7 @@ module _ {A : Type 0} where
     →alone x xs h d = neither (any (alike x) xs) (twice alike xs) (→none (alike x) xs h) d
 
     pub twice_only : (g : A → Bool) (xs : List A) → twice alike xs ≡ false → twice alike (only g xs) ≡ false
-    unfolding only if◌then◌else◌
+    unfolding only whether◌then◌else◌
     twice_only g [] d = d
     twice_only g (x ∷ xs) d =
         let ih = twice_only g xs (rest_alone x xs d) in

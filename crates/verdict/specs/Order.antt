@@ -1,7 +1,7 @@
 -- The orders of rules, and the best of a list.
 use Rattle.std.specs.Prelude.{ℕ, suc, ◌+◌, Bool, List, [], ◌∷◌, length}
 use Rattle.std.proofs.Math.Option.{Option, none, some}
-use Rattle.text.specs.Test.{if◌then◌else◌}
+use Rattle.text.specs.Test.{whether◌then◌else◌}
 use Rattle.text.specs.String.{more, before}
 use Rattle.path.specs.Path.{Path}
 use Rattle.table.specs.Table.{Rule}
@@ -14,7 +14,7 @@ definites (e ∷ es) = length (definite e) + definites es
 
 -- 1 unless b holds: so a user weighs more than a group, and a deny more than a permit
 abbrev pub one_unless : Bool → ℕ
-one_unless b = if b then 0 else 1
+one_unless b = whether b then 0 else 1
 
 -- "more elements; then more definite keys, counted over the whole rule path; then user over group; then deny over permit ..; then .. the
 -- smaller id in byte order, where a proper prefix is smaller"
@@ -41,11 +41,11 @@ pub record Numbered : Type 0 where
 unfoldable pub prefer : (Rule → Rule → Bool) → Option Numbered → Option Numbered → Option Numbered
 prefer over none y = y
 prefer over (some n) none = some n
-prefer over (some n) (some m) = some (if over m.rule n.rule then m else n)
+prefer over (some n) (some m) = some (whether over m.rule n.rule then m else n)
 
 -- the rule, if it passes
 unfoldable pub candidate : (Rule → Bool) → ℕ → Rule → Option Numbered
-candidate test i r = if test r then some (record { number = i; rule = r }) else none
+candidate test i r = whether test r then some (record { number = i; rule = r }) else none
 
 -- the best by the order `over` of the rules that pass the test; the list's first rule has the number i
 unfoldable pub choose : (Rule → Rule → Bool) → (Rule → Bool) → ℕ → List Rule → Option Numbered

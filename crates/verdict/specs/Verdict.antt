@@ -2,7 +2,7 @@
 use Rattle.std.specs.Prelude.{ℕ, Bool, true, false, eqb}
 use Rattle.std.specs.Bool.{xor}
 use Rattle.std.proofs.Math.Option.{Option, none, some}
-use Rattle.text.specs.Test.{◌and◌, if◌then◌else◌}
+use Rattle.text.specs.Test.{◌and◌, whether◌then◌else◌}
 use Rattle.text.specs.String.{Str, same}
 use Rattle.path.specs.Path.{Path}
 use Rattle.table.specs.Table.{Rule, Table}
@@ -26,7 +26,7 @@ at q d = record { user = q.user; mode = q.mode; origin = q.origin; path = d }
 
 -- "its subject is the user or a group holding the user"
 unfoldable pub concerns : Table → Rule → Str → Bool
-concerns t r u = if r.by_group then lists t.members u r.subject else same r.subject u
+concerns t r u = whether r.by_group then lists t.members u r.subject else same r.subject u
 
 -- "mode and origin are equal", and the subject matches
 unfoldable pub applies : Table → Request → Rule → Bool

@@ -5,7 +5,7 @@ use mathlib.Core.List.{List}
 use Prim.Native.Nat.{ℕ, ◌<◌}
 use lib.Dec.{eqb}
 use lib.ListN.{get_or}
-use Rattle.text.specs.Test.{◌and◌, if◌then◌else◌}
+use Rattle.text.specs.Test.{◌and◌, whether◌then◌else◌}
 use Rattle.text.specs.String.{Str, same}
 use Rattle.text.proofs.Tests.{by}
 use Rattle.path.specs.Path.{Path}
@@ -30,7 +30,7 @@ use Rattle.verdict_call.specs.Holding.{Holding}
 
 module _ (t : Table) (f starts holders : List ℕ) (n : ℕ) (holding : Holding t f starts holders n) (user : Str) (set : ℕ) (groups : UserGroups t user set) where
   concerned : (i : ℕ) → i < n → concerns_by set (get_or holders i 0) user (rule_in f (get_or starts i 0)) ≡ concerns t (rule_in f (get_or starts i 0)) user
-  unfolding concerns_by concerns if◌then◌else◌
+  unfolding concerns_by concerns whether◌then◌else◌
   concerned i l =
       by (rule_in f (get_or starts i 0)).by_group
       (λ e. let h = holding.groups i l e in rw e (groups (get_or holders i 0) h.0 ∙ ap (λ (s : Str). lists t.members user s) h.1))

@@ -10,7 +10,7 @@ use lib.Dec.{leb}
 use lib.ListN.{length, take, length-append}
 use lib.Seq.{take_at}
 use Rattle.limits.specs.Sizes.{max_path_bytes}
-use Rattle.text.specs.Test.{◌or◌, if◌then◌else◌, absent, or_nothing}
+use Rattle.text.specs.Test.{◌or◌, whether◌then◌else◌, absent, or_nothing}
 use Rattle.text.specs.String.{Str}
 use Rattle.text.specs.Fill.{put}
 use Rattle.text.specs.Refusal.{◌when◌else◌, clear}
@@ -56,7 +56,7 @@ module _ (s : Str) (out out' : List ℕ) (l : max_path_bytes ≤ length out) whe
   put_take b = take_at b _ (length b) refl
 
   of_path : (p : Path) → read_text s ≡ some p → (len : ℕ) → filled.Length len ≡ answer out (bytes_for s) → out' ≡ lent out (bytes_for s) → Read s len out'
-  unfolding answer lent bytes_for if◌then◌else◌
+  unfolding answer lent bytes_for whether◌then◌else◌
   of_path p e len r o =
       let g : good_path p ≡ true = (text_reader.only s p e).good in
       let b = bytes_length p g in
@@ -84,7 +84,7 @@ module _ (s : Str) (out out' : List ℕ) (l : max_path_bytes ≤ length out) whe
       go (some p) i = of_path p i len (sym e ∙ a) o
 
   of_refused : (p : Path) → read_text s ≡ some p → {X : Type 0} (x : ℕ) → filled.Refused x ≡ answer out (bytes_for s) → X
-  unfolding answer bytes_for if◌then◌else◌
+  unfolding answer bytes_for whether◌then◌else◌
   of_refused p e x r =
       let b = bytes_length p (text_reader.only s p e).good in
       let c : leb (length (path_bytes p)) (length out) ≡ true = le-leb (length (path_bytes p)) (length out) (omega arith) in
@@ -109,53 +109,53 @@ path_bytes_lem g p e =
 
 module _ (user : Str) (mode : ℕ) (origin : Str) (text : Str) (m : ℕ) (h : m ≡ (20 when (bad_user user or bad_mode mode) else 21 when bad_origin origin else clear)) where
   early : (m ≡ clear → ⊥) → request_refusal user mode origin text ≡ m
-  unfolding request_refusal if◌then◌else◌
+  unfolding request_refusal whether◌then◌else◌
   early n =
       by (bad_user user or bad_mode mode)
       (λ u. rw u (sym (rw u at h)))
       (λ u. by (bad_origin origin) (λ o. rw (u, o) (sym (rw (u, o) at h))) (λ o. absurd (n (rw (u, o) at h))))
 
   late : m ≡ clear → request_refusal user mode origin text ≡ (22 when absent (read_text text) else clear)
-  unfolding request_refusal if◌then◌else◌
+  unfolding request_refusal whether◌then◌else◌
   late e =
       by (bad_user user or bad_mode mode)
       (λ u. let z : m ≡ 20 = rw u at h in absurd (omega arith))
       (λ u. by (bad_origin origin) (λ o. let z : m ≡ 21 = rw (u, o) at h in absurd (omega arith)) (λ o. rw (u, o)))
 
   unread_22 : m ≡ clear → read_text text ≡ none → request_refusal user mode origin text ≡ 22
-  unfolding absent if◌then◌else◌
+  unfolding absent whether◌then◌else◌
   unread_22 e r = late e ∙ rw r
 
   read_clear : m ≡ clear → (p : Path) → read_text text ≡ some p → request_refusal user mode origin text ≡ clear
-  unfolding absent if◌then◌else◌
+  unfolding absent whether◌then◌else◌
   read_clear e p r = late e ∙ rw r
 
   -- ---- the answers
 
   module _ (d : Option Numbered) where
     path_early : (m ≡ clear → ⊥) → answers.Refused m 0 ≡ path_answer Accepted (request_refusal user mode origin text) d
-    unfolding path_answer if◌then◌else◌
+    unfolding path_answer whether◌then◌else◌
     path_early n = rw (early n, ne_eqb m clear n)
 
     path_unread : m ≡ clear → read_text text ≡ none → answers.Refused 22 0 ≡ path_answer Accepted (request_refusal user mode origin text) d
-    unfolding path_answer if◌then◌else◌
+    unfolding path_answer whether◌then◌else◌
     path_unread e r = rw (unread_22 e r)
 
     pub path_judged : m ≡ clear → (p : Path) → read_text text ≡ some p → decided_by d ≡ path_answer Accepted (request_refusal user mode origin text) d
-    unfolding path_answer if◌then◌else◌
+    unfolding path_answer whether◌then◌else◌
     path_judged e p r = rw (read_clear e p r)
 
   module _ (w : Tree) where
     tree_early : (m ≡ clear → ⊥) → trees.Refused m 0 ≡ tree_answer Accepted (request_refusal user mode origin text) w
-    unfolding tree_answer if◌then◌else◌
+    unfolding tree_answer whether◌then◌else◌
     tree_early n = rw (early n, ne_eqb m clear n)
 
     tree_unread : m ≡ clear → read_text text ≡ none → trees.Refused 22 0 ≡ tree_answer Accepted (request_refusal user mode origin text) w
-    unfolding tree_answer if◌then◌else◌
+    unfolding tree_answer whether◌then◌else◌
     tree_unread e r = rw (unread_22 e r)
 
     pub tree_judged : m ≡ clear → (p : Path) → read_text text ≡ some p → spread w ≡ tree_answer Accepted (request_refusal user mode origin text) w
-    unfolding tree_answer if◌then◌else◌
+    unfolding tree_answer whether◌then◌else◌
     tree_judged e p r = rw (read_clear e p r)
 
   -- either answer

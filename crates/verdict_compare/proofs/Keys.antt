@@ -7,7 +7,7 @@ use native.Mathlib.Omega.{arith}
 use lib.Dec.{eqb}
 use lib.ListN.{length, get_or}
 use lib.Seq.{drop-cons}
-use Rattle.text.specs.Test.{◌and◌, ◌or◌, if◌then◌else◌, all, any, only}
+use Rattle.text.specs.Test.{◌and◌, ◌or◌, whether◌then◌else◌, all, any, only}
 use Rattle.text.specs.String.{Str, bytes, same}
 use Rattle.text.proofs.Tests.{clash, by, and_r, same→≡}
 use Rattle.text.proofs.Scans.{same_lengths}
@@ -64,21 +64,21 @@ not_wild j k u v =
     (λ e. e)
 
 pub holds_given : (ks : List Key) (k : Key) → wild k ≡ false → holds (given ks) k ≡ holds ks k
-unfolding holds any only if◌then◌else◌ ◌or◌
+unfolding holds any only whether◌then◌else◌ ◌or◌
 holds_given [] k u = refl
 holds_given (j ∷ ks) k u =
     by (wild j) (λ e. rw (e, not_wild j k u e) (holds_given ks k u)) (λ e. rw e (ap (λ (b : Bool). same_key j k or b) (holds_given ks k u)))
 
 -- a key that clashes with a definite one is in conflict with one that is definite
 clashes_given : (ks : List Key) (k : Key) → clashes (given ks) k ≡ any (λ (j : Key). answers false j k) ks
-unfolding clashes any only if◌then◌else◌ ◌and◌ ◌or◌
+unfolding clashes any only whether◌then◌else◌ ◌and◌ ◌or◌
 clashes_given [] k = refl
 clashes_given (j ∷ ks) k = by (wild j) (λ e. rw e (clashes_given ks k)) (λ e. rw e (ap (λ (b : Bool). conflict j k or b) (clashes_given ks k)))
 
 -- ---- each definite one
 
 all_given : (t : Key → Bool) (j : Key) (ks : List Key) → all t (given (j ∷ ks)) ≡ ((wild j or t j) and all t (given ks))
-unfolding all only if◌then◌else◌ ◌and◌ ◌or◌
+unfolding all only whether◌then◌else◌ ◌and◌ ◌or◌
 all_given t j ks = by (wild j) (λ e. rw e) (λ e. rw e)
 
 module _ (t : Key → Bool) (g : List ℕ) (n q : ℕ) where

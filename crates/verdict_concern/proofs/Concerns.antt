@@ -7,7 +7,7 @@ use native.Mathlib.Omega.{arith}
 use borrow.Author.Tests.{eq-eqb, ne_eqb}
 use lib.Dec.{eqb}
 use lib.ListN.{length, take, drop, get_or}
-use Rattle.text.specs.Test.{◌and◌, if◌then◌else◌}
+use Rattle.text.specs.Test.{◌and◌, whether◌then◌else◌}
 use Rattle.text.specs.String.{Str, same}
 use Rattle.table_place.specs.Place.{str_end, str_in}
 use Rattle.table_place.proofs.Cursor.{str_grows}
@@ -26,7 +26,7 @@ module _ (f : List ℕ) (s : ℕ) where
   by_user e = ne_eqb _ _ e
 
   pub concerns_group : (set g : ℕ) (user : Str) → get_or f (s + 2) 0 ≡ 1 → has_of set g ≡ concerns_by set g user (rule_in f s)
-  unfolding concerns_by if◌then◌else◌
+  unfolding concerns_by whether◌then◌else◌
   concerns_group set g user e = rw (by_group_lem e)
 
   subject_in : (d : ℕ) → d ≡ str_end f (s + 3) → take (d - (s + 4)) (drop (s + 4) f) ≡ (rule_in f s).subject
@@ -35,7 +35,7 @@ module _ (f : List ℕ) (s : ℕ) where
 
   pub concerns_user : (set g d : ℕ) (user : Str) (t : Bool) → (get_or f (s + 2) 0 ≡ 1 → ⊥) → d ≡ str_end f (s + 3)
       → t ≡ same (take (d - (s + 4)) (drop (s + 4) f)) user → t ≡ concerns_by set g user (rule_in f s)
-  unfolding concerns_by if◌then◌else◌
+  unfolding concerns_by whether◌then◌else◌
   concerns_user set g d user t n e h = rw (by_user n) (h ∙ ap (λ (x : Str). same x user) (subject_in d e))
 
   -- the origin lies within the bytes

@@ -2,7 +2,7 @@
 -- with the group of a rule as its number.
 use Rattle.std.specs.Prelude.{ℕ, ◌≤◌, ◌<◌, ◌≡◌, Bool, true, List, eqb, length, get_or}
 use Rattle.limits.specs.Limits.{max_groups, max_rules}
-use Rattle.text.specs.Test.{◌and◌, if◌then◌else◌}
+use Rattle.text.specs.Test.{◌and◌, whether◌then◌else◌}
 use Rattle.text.specs.String.{Str, same}
 use Rattle.table.specs.Table.{Rule}
 use Rattle.table_membership.specs.Set.{has_of}
@@ -11,7 +11,7 @@ use Rattle.verdict_judge.specs.Rules.{Placed}
 
 -- the subject is the user or a group of the user; g is its number, if it is a group
 unfoldable pub concerns_by : ℕ → ℕ → Str → Rule → Bool
-concerns_by set g user r = if r.by_group then has_of set g else same r.subject user
+concerns_by set g user r = whether r.by_group then has_of set g else same r.subject user
 
 -- and mode and origin are equal
 unfoldable pub applies_by : ℕ → ℕ → Str → ℕ → Str → Rule → Bool

@@ -5,7 +5,7 @@ use Prim.Native.Nat.{ℕ, ◌<◌}
 use native.Mathlib.Omega.{arith}
 use borrow.Author.Tests.{ltb-true, lt-ltb, eqb-true, eq-eqb, ne_eqb}
 use lib.Dec.{eqb, ltb}
-use Rattle.text.specs.Test.{◌and◌, ◌or◌, if◌then◌else◌}
+use Rattle.text.specs.Test.{◌and◌, ◌or◌, whether◌then◌else◌}
 use Rattle.text.specs.String.{more}
 use Rattle.text.proofs.Tests.{by, and_l, and_r, both, or_l, or_r}
 use Rattle.verdict.specs.Order.{one_unless, better}
@@ -17,7 +17,7 @@ use Rattle.verdict_explain.specs.declared.Step.TheVariants as step
 -- one step: b is more than a, or they are level and the later steps decide
 module _ (P : Step → Type 0) (a b : ℕ) (here next : Step) (t : Bool) where
   one_step : more b a t ≡ true → (a < b → P here) → (b ≡ a → t ≡ true → P next) → P (decides a b here next)
-  unfolding more decides if◌then◌else◌ ◌or◌
+  unfolding more decides whether◌then◌else◌ ◌or◌
   one_step e f g =
       by (ltb a b)
       (λ l. let h : a < b = ltb-true a b l in rw (ne_eqb a b (λ q. let z : ⊥ = omega arith in z)) (f h))

@@ -1,6 +1,6 @@
 -- What the ranking looks at in a rule, and the step of the ranking at which one of two rules loses.
 use Rattle.std.specs.Prelude.{ℕ, eqb, length}
-use Rattle.text.specs.Test.{if◌then◌else◌}
+use Rattle.text.specs.Test.{whether◌then◌else◌}
 use Rattle.table.specs.Table.{Rule}
 use Rattle.verdict.specs.Order.{definites, one_unless}
 use Rattle.verdict_explain.specs.declared.Standing.{Standing}
@@ -13,7 +13,7 @@ standing r = record { elements = length r.path; keys = definites r.path; group =
 
 -- this step decides where its two numbers differ, and else the next
 unfoldable pub decides : ℕ → ℕ → Step → Step → Step
-decides a b here next = if eqb a b then next else here
+decides a b here next = whether eqb a b then next else here
 
 -- "more elements; then more definite keys ..; then user over group; then deny over permit ..; then .. the smaller id"
 unfoldable pub step_of : Standing → Standing → Step

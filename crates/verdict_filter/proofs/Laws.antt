@@ -7,7 +7,7 @@ use Prim.Native.Nat.{ℕ, zero, suc, ◌+◌, ◌/◌, ◌%◌, ◌≤◌, ◌<�
 use native.Mathlib.Nat.{mod-lt}
 use native.Mathlib.Omega.{arith}
 use lib.Bits.{bit_or, or_shr, or_mod, or_comm, or_self, or_zero_r}
-use Rattle.text.specs.Test.{◌and◌, ◌or◌, if◌then◌else◌, all, any, only}
+use Rattle.text.specs.Test.{◌and◌, ◌or◌, whether◌then◌else◌, all, any, only}
 use Rattle.text.specs.String.{same}
 use Rattle.text.proofs.Tests.{clash, by, and_l, and_r, or_l, or_r, or_cases, same→≡}
 use Rattle.path.specs.Path.{Key, Elem, Path}
@@ -90,7 +90,7 @@ module _ (x y : Filter) where
 -- ---- keys
 
 held_given : (ks : List Key) (k : Key) → holds (given ks) k ≡ true → holds ks k ≡ true
-unfolding holds any only if◌then◌else◌
+unfolding holds any only whether◌then◌else◌
 held_given [] k e = e
 held_given (j ∷ ks) k e = by (wild j) (λ h. or_r _ _ (held_given ks k (rw h at e))) (λ h. go (held_given ks k) (or_cases _ _ (rw h at e)))
   where
@@ -105,7 +105,7 @@ module _ (s : Seed) (d : ℕ) (asked : List Key) where
   key_alike j k e = rw (same→≡ j.name k.name (and_l _ _ e), same→≡ j.value k.value (and_r _ _ e))
 
   key_held : (ks : List Key) (k : Key) → holds (given ks) k ≡ true → Within (key_digits s d asked k) (keys_digits s d asked ks)
-  unfolding holds any only if◌then◌else◌ keys_digits
+  unfolding holds any only whether◌then◌else◌ keys_digits
   key_held [] k e = clash e refl
   key_held (j ∷ ks) k e =
       by (wild j)
@@ -120,13 +120,13 @@ module _ (s : Seed) (d : ℕ) (asked : List Key) where
 
   -- a key that is left out
   key_out : (m : Filter) (k : Key) → (wild k or holds asked k) ≡ true → Within (key_digits s d asked k) m
-  unfolding key_digits if◌then◌else◌
+  unfolding key_digits whether◌then◌else◌
   key_out m k z = rw z (nothing m)
 
   -- each definite key is within m
   keys_within : (t : Key → Bool) (m : Filter) → ((k : Key) → t k ≡ true → Within (key_digits s d asked k) m) → (ks : List Key) → all t (given ks) ≡ true
       → Within (keys_digits s d asked ks) m
-  unfolding all only if◌then◌else◌ keys_digits
+  unfolding all only whether◌then◌else◌ keys_digits
   keys_within t m h [] e = nothing m
   keys_within t m h (k ∷ ks) e =
       by (wild k)

@@ -7,7 +7,7 @@ use native.Mathlib.Nat.{mod-lt, one-mul}
 use native.Mathlib.Omega.{arith}
 use lib.ListN.{get_or}
 use lib.Pow.{shl_exact}
-use Rattle.text.specs.Test.{◌or◌, if◌then◌else◌}
+use Rattle.text.specs.Test.{◌or◌, whether◌then◌else◌}
 use Rattle.path.specs.Path.{Key, Path}
 use Rattle.verdict.specs.Cover.{wild, holds}
 use Rattle.table_place.specs.Place.{str_end, str_in, key_end, key_in, keys_in, elem_end, elem_in, elems_in}
@@ -37,11 +37,11 @@ digits_are h = rw (digit 26 h, digit 20 h, digit 14 h, digit 8 h)
 module _ (s : Seed) (d : ℕ) (asked : List Key) (f : List ℕ) where
   pub key_is : (q v : ℕ) → v ≡ str_end f q → wild (key_in f q) ≡ false → holds asked (key_in f q) ≡ false
       → digits (mix s (mix s d (str_in f q)) (str_in f v)) ≡ key_digits s d asked (key_in f q)
-  unfolding key_digits key_in if◌then◌else◌ ◌or◌
+  unfolding key_digits key_in whether◌then◌else◌ ◌or◌
   key_is q v i e n = rw (e, n, i)
 
   pub key_left : (q : ℕ) → (wild (key_in f q) or holds asked (key_in f q)) ≡ true → none ≡ key_digits s d asked (key_in f q)
-  unfolding key_digits if◌then◌else◌
+  unfolding key_digits whether◌then◌else◌
   key_left q e = rw e
 
   pub keys_turn : (k q : ℕ) → 0 < k → (b : ℕ) (c x t : Filter) → b ≡ key_end f q → c ≡ key_digits s d asked (key_in f q)

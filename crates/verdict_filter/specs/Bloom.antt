@@ -3,7 +3,7 @@
 -- the other lacks (proofs/Laws), whatever the seed of the hash is. So most comparisons can be left out.
 use Rattle.std.specs.Prelude.{ℕ, ◌+◌, ◌/◌, ◌%◌, ◌^◌, List, [], ◌∷◌}
 use Rattle.std.specs.Int.Bits.{bit_or}
-use Rattle.text.specs.Test.{◌or◌, if◌then◌else◌}
+use Rattle.text.specs.Test.{◌or◌, whether◌then◌else◌}
 use Rattle.path.specs.Path.{Key, Elem, Path}
 use Rattle.verdict.specs.Cover.{wild, holds}
 use Rattle.verdict_filter.specs.declared.Filter.{Filter}
@@ -34,7 +34,7 @@ depth_step = 256
 
 -- a key, unless it is a wildcard or among the asked ones
 unfoldable pub key_digits : Seed → ℕ → List Key → Key → Filter
-key_digits s d asked k = if wild k or holds asked k then none else digits (mix s (mix s d k.name) k.value)
+key_digits s d asked k = whether wild k or holds asked k then none else digits (mix s (mix s d k.name) k.value)
 
 unfoldable pub keys_digits : Seed → ℕ → List Key → List Key → Filter
 keys_digits s d asked [] = none

@@ -4,7 +4,7 @@ use mathlib.Core.List.{List, ◌∷◌}
 use Prim.Native.Nat.{ℕ, zero, suc, ◌+◌, ◌-◌, ◌≤◌, ◌<◌}
 use native.Mathlib.Omega.{arith}
 use lib.ListN.{length, get_or}
-use Rattle.text.specs.Test.{if◌then◌else◌, only}
+use Rattle.text.specs.Test.{whether◌then◌else◌, only}
 use Rattle.text.proofs.Tests.{by}
 use Rattle.path.specs.Path.{Key}
 use Rattle.verdict.specs.Cover.{wild, given, definite}
@@ -14,7 +14,7 @@ use Rattle.table_place.specs.Place.{str_end, key_end, key_in, keys_end, keys_in,
 use Rattle.table_place.proofs.Cursor.{str_grows, keys_cons, keys_nil, elems_cons, elems_nil}
 
 given_cons : (k : Key) (ks : List Key) → length (given (k ∷ ks)) ≡ one_unless (wild k) + length (given ks)
-unfolding only if◌then◌else◌
+unfolding only whether◌then◌else◌
 given_cons k ks = by (wild k) (λ e. rw e (omega arith)) (λ e. rw e (omega arith))
 
 module _ (f : List ℕ) where

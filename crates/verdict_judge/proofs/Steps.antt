@@ -9,7 +9,7 @@ use native.Mathlib.Omega.{arith}
 use borrow.Author.Tests.{ne_eqb}
 use lib.ListN.{get_or}
 use Rattle.table_rows.specs.Strings.{rows_of}
-use Rattle.text.specs.Test.{◌and◌, ◌or◌, if◌then◌else◌}
+use Rattle.text.specs.Test.{◌and◌, ◌or◌, whether◌then◌else◌}
 use Rattle.text.proofs.Tests.{clash, by, and_first, and_second}
 use Rattle.table.specs.Table.{Rule}
 use Rattle.verdict.specs.Order.{Numbered, prefer, candidate, choose}
@@ -32,7 +32,7 @@ module _ (over : Rule → Rule → Bool) where
     After = prefer over (held f b) (candidate (λ r. app r and also r) i (rule_in f s))
 
     fails : (app (rule_in f s) and also (rule_in f s)) ≡ false → held f b ≡ After
-    unfolding candidate if◌then◌else◌
+    unfolding candidate whether◌then◌else◌
     fails e = rw e (sym (prefer_none (held f b)))
 
     pub step_off : app (rule_in f s) ≡ false → held f b ≡ After
@@ -43,7 +43,7 @@ module _ (over : Rule → Rule → Bool) where
 
     -- whatever the test says, so the cheaper test may come first
     pub step_keep : wins over f s b ≡ false → held f b ≡ After
-    unfolding held candidate prefer if◌then◌else◌ ◌or◌
+    unfolding held candidate prefer whether◌then◌else◌ ◌or◌
     step_keep e =
         by (lacks b)
         (λ h. clash refl (rw h at e))
@@ -51,7 +51,7 @@ module _ (over : Rule → Rule → Bool) where
 
     pub step_take : (x : ℕ) → (x ≡ 0 → ⊥) → app (rule_in f s) ≡ true → also (rule_in f s) ≡ true → wins over f s b ≡ true
         → held f (record { weight = x; number = record { 0 = i }; at = s }) ≡ After
-    unfolding held candidate prefer if◌then◌else◌ ◌or◌ ◌and◌
+    unfolding held candidate prefer whether◌then◌else◌ ◌or◌ ◌and◌
     step_take x n e a w =
         by (lacks b) (λ h. rw (h, ne_eqb x 0 n, e, a)) (λ h. rw (h, ne_eqb x 0 n, e, a) (rw (rw h at w)))
 
@@ -59,7 +59,7 @@ module _ (over : Rule → Rule → Bool) where
 
   module _ (o : Order over) (test : Rule → Bool) (f starts : List ℕ) (n : ℕ) where
     pub best_none : choose over test 0 (rules_in f starts n 0) ≡ prefer over (held f (record { weight = 0; number = record { 0 = 0 }; at = 0 })) (choose over test 0 (rules_in f starts (n - 0) 0))
-    unfolding held prefer if◌then◌else◌
+    unfolding held prefer whether◌then◌else◌
     best_none = let e : n - 0 ≡ n = omega arith in rw e
 
     rules_cons : (i : ℕ) → i < n → rules_in f starts (n - i) i ≡ rule_in f (get_or starts i 0) ∷ rules_in f starts (n - (i + 1)) (i + 1)

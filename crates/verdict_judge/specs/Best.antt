@@ -3,7 +3,7 @@
 use Rattle.std.specs.Prelude.{◌≡◌, ℕ, suc, ◌≤◌, ◌<◌, Bool, false, List, eqb, length}
 use Rattle.std.proofs.Math.Option.{Option, none, some}
 use Rattle.limits.specs.Limits.{max_rules}
-use Rattle.text.specs.Test.{◌and◌, ◌or◌, if◌then◌else◌}
+use Rattle.text.specs.Test.{◌and◌, ◌or◌, whether◌then◌else◌}
 use Rattle.path.specs.Path.{Path}
 use Rattle.table.specs.Table.{Rule}
 use Rattle.verdict.specs.Cover.{covers}
@@ -20,7 +20,7 @@ lacks b = eqb b.weight 0
 
 -- the rule that is kept, with its number
 unfoldable pub held : List ℕ → Best → Option Numbered
-held f b = if lacks b then none else some (record { number = b.number.0; rule = rule_in f b.at })
+held f b = whether lacks b then none else some (record { number = b.number.0; rule = rule_in f b.at })
 
 -- where there is one, it lies within the bytes
 abbrev pub Sound : List ℕ → Best → Type 0

@@ -8,7 +8,7 @@ use Prim.Native.Nat.{ℕ, ◌+◌}
 use native.Mathlib.Omega.{arith}
 use borrow.Author.Tests.{eqb-true}
 use lib.Dec.{eqb}
-use Rattle.text.specs.Test.{◌and◌, if◌then◌else◌, ◌∈◌}
+use Rattle.text.specs.Test.{◌and◌, whether◌then◌else◌, ◌∈◌}
 use Rattle.text.specs.String.{Str}
 use Rattle.text.specs.Refusal.{clear}
 use Rattle.text.proofs.Tests.{clash, by, and_l, and_r, both, on_cons}
@@ -33,7 +33,7 @@ clean_entries b [] = true
 clean_entries b (e ∷ es) = eqb (refusal b (reads e)) clear and clean_entries (with b e) es
 
 pub judge_clean : (n : ℕ) (b : Earlier) (ls : List Str) → judge n b ls ≡ Accepted → clean b ls ≡ true
-unfolding judge unless clean if◌then◌else◌
+unfolding judge unless clean whether◌then◌else◌
 judge_clean n b [] e = refl
 judge_clean n b (l ∷ ls) e =
     by (eqb (refusal b (line_of l)) clear)
@@ -41,7 +41,7 @@ judge_clean n b (l ∷ ls) e =
     (λ u. let e' = rw u at e in let z : ◌≡◌ {A = ℕ} 0 1 = cc in absurd (omega arith))
 
 pub clean_judge : (n : ℕ) (b : Earlier) (ls : List Str) → clean b ls ≡ true → judge n b ls ≡ Accepted
-unfolding judge unless clean if◌then◌else◌
+unfolding judge unless clean whether◌then◌else◌
 clean_judge n b [] e = refl
 clean_judge n b (l ∷ ls) e = rw (and_l _ _ e) (clean_judge (n + 1) (after b (line_of l)) ls (and_r _ _ e))
 

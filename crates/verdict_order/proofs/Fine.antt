@@ -9,7 +9,7 @@ use native.Mathlib.Omega.{arith}
 use borrow.Author.Tests.{eqb-true, leb-false, lt-leb, lt-ltb, not-true, not-false, ne_eqb}
 use lib.Dec.{eqb, ltb}
 use lib.ListN.{length, length-append}
-use Rattle.text.specs.Test.{◌and◌, ◌or◌, if◌then◌else◌, ◌∈◌, any, twice}
+use Rattle.text.specs.Test.{◌and◌, ◌or◌, whether◌then◌else◌, ◌∈◌, any, twice}
 use Rattle.text.specs.String.{Str, same}
 use Rattle.text.specs.Refusal.{◌when◌else◌, clear}
 use Rattle.text.proofs.Tests.{clash, by, and_l, and_r, both, or_l, or_r, or_false_l, or_false_r, neither, on_cons, none_any, same→≡, ≡→same}
@@ -39,7 +39,7 @@ never : {X : Type 0} (n : ℕ) → n < clear → eqb n clear ≡ true → X
 never n h e = let z : n ≡ clear = eqb-true _ _ e in absurd (omega arith)
 
 chain_clear : (a b c d e f : Bool) → eqb (chain a b c d e f) clear ≡ true → Clear a b c d e f
-unfolding chain if◌then◌else◌
+unfolding chain whether◌then◌else◌
 chain_clear true b c d e f h = never 4 (omega arith) h
 chain_clear false true c d e f h = never 5 (omega arith) h
 chain_clear false false true d e f h = never 6 (omega arith) h
@@ -49,7 +49,7 @@ chain_clear false false false false false true h = never 9 (omega arith) h
 chain_clear false false false false false false h = record { four = refl; five = refl; six = refl; seven = refl; eight = refl; nine = refl }
 
 clear_chain : (a b c d e f : Bool) → Clear a b c d e f → eqb (chain a b c d e f) clear ≡ true
-unfolding chain if◌then◌else◌
+unfolding chain whether◌then◌else◌
 clear_chain a b c d e f h = rw (h.four, h.five, h.six, h.seven, h.eight, h.nine)
 
 abbrev ClearOf : Earlier → Entry → Type 0
@@ -374,11 +374,11 @@ no_groups k [] h o = refl
 no_groups k (version v t ∷ es) h o = clash (and_l _ _ o) (first_kind k h)
   where
     first_kind : (k : ℕ) → 3 ≤ k → not (out_of_order k (kind_of (version v t))) ≡ false
-    first_kind k h = unfold out_of_order kind_of if◌then◌else◌ ◌or◌ in rw (ne_eqb k 0 (λ z. omega arith))
+    first_kind k h = unfold out_of_order kind_of whether◌then◌else◌ ◌or◌ in rw (ne_eqb k 0 (λ z. omega arith))
 no_groups k (group n ∷ es) h o = clash (and_l _ _ o) (second_kind k h)
   where
     second_kind : (k : ℕ) → 3 ≤ k → not (out_of_order k (kind_of (group n))) ≡ false
-    second_kind k h = unfold out_of_order kind_of if◌then◌else◌ ◌or◌ in rw (ne_eqb k 0 (λ z. omega arith), lt-ltb 2 k (omega arith))
+    second_kind k h = unfold out_of_order kind_of whether◌then◌else◌ ◌or◌ in rw (ne_eqb k 0 (λ z. omega arith), lt-ltb 2 k (omega arith))
 no_groups k (member m ∷ es) h o = no_groups 3 es (omega arith) (third_kind (and_r _ _ o))
   where
     third_kind : ordered (kind_of (member m)) es ≡ true → ordered 3 es ≡ true

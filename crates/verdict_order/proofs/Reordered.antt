@@ -11,7 +11,7 @@ use native.Mathlib.Omega.{arith}
 use borrow.Author.Tests.{leb-true, le-ltb, ne_eqb}
 use lib.Dec.{eqb, ltb, leb}
 use lib.ListN.{length}
-use Rattle.text.specs.Test.{◌and◌, ◌or◌, if◌then◌else◌, ◌∈◌, twice}
+use Rattle.text.specs.Test.{◌and◌, ◌or◌, whether◌then◌else◌, ◌∈◌, twice}
 use Rattle.text.specs.String.{Str, same, joined}
 use Rattle.text.proofs.Tests.{clash, by, and_l, and_r, both, or_false_r, on_cons}
 use Rattle.limits.specs.Limits.{max_table_text}
@@ -45,7 +45,7 @@ versions_in es = filter_map as_version es
 
 -- after the first line no version comes
 no_version : (k : ℕ) (es : List Entry) → 1 ≤ k → ordered k es ≡ true → versions_in es ≡ []
-unfolding ordered filter_map Option-elim as_version kind_of out_of_order if◌then◌else◌ ◌or◌
+unfolding ordered filter_map Option-elim as_version kind_of out_of_order whether◌then◌else◌ ◌or◌
 no_version k [] h o = refl
 no_version k (version v t ∷ es) h o = clash (and_l _ _ o) (rw (ne_eqb k 0 (λ z. omega arith)))
 no_version k (group n ∷ es) h o = no_version 2 es (omega arith) (and_r _ _ o)
@@ -54,7 +54,7 @@ no_version k (rule r ∷ es) h o = no_version 4 es (omega arith) (and_r _ _ o)
 
 -- the first line is the version
 one_version : (e : Entry) (es : List Entry) → ordered 0 (e ∷ es) ≡ true → length (versions_in (e ∷ es)) ≡ 1
-unfolding ordered filter_map Option-elim as_version kind_of out_of_order if◌then◌else◌
+unfolding ordered filter_map Option-elim as_version kind_of out_of_order whether◌then◌else◌
 one_version (version v t) es o = ap (λ (l : List Entry). suc (length l)) (no_version 1 es (omega arith) (and_r _ _ o))
 one_version (group n) es o = clash (and_l _ _ o) refl
 one_version (member m) es o = clash (and_l _ _ o) refl
@@ -70,7 +70,7 @@ high k (member m ∷ es) h o = high 3 es (omega arith) (and_r _ _ o)
 high k (rule r ∷ es) h o = high 4 es (omega arith) (and_r _ _ o)
 
 kept : (k kind : ℕ) → 1 ≤ k → 2 ≤ kind → leb k kind ≡ true → not (out_of_order k kind) ≡ true
-unfolding out_of_order if◌then◌else◌ ◌or◌
+unfolding out_of_order whether◌then◌else◌ ◌or◌
 kept k kind h i l = rw (ne_eqb k 0 (λ z. omega arith), ne_eqb kind 1 (λ z. omega arith), le-ltb kind k (leb-true _ _ l))
 
 rising_ordered : (k : ℕ) (es : List Entry) → 1 ≤ k → rising k es ≡ true → versions_in es ≡ [] → ordered k es ≡ true
@@ -89,7 +89,7 @@ too_many : (k : ℕ) (es : List Entry) → 2 ≤ k → rising k es ≡ true → 
 too_many k es h o n = let z : length (versions_in es) ≡ 0 = ap length (high k es h o) in omega arith
 
 first_ordered : (es : List Entry) → rising 0 es ≡ true → length (versions_in es) ≡ 1 → ordered 0 es ≡ true
-unfolding rising ordered filter_map Option-elim as_version kind_of out_of_order if◌then◌else◌
+unfolding rising ordered filter_map Option-elim as_version kind_of out_of_order whether◌then◌else◌
 first_ordered [] o n = absurd (omega arith)
 first_ordered (version v t ∷ es) o n = both _ _ refl (rising_ordered 1 es (omega arith) (and_r _ _ o) (none_left (versions_in es) (let z : length (versions_in es) ≡ 0 = omega arith in z)))
 first_ordered (group g ∷ es) o n = absurd (too_many 2 es (omega arith) (and_r _ _ o) n)
@@ -181,7 +181,7 @@ as_long x y p = sym (ap length (lines_joined x)) ∙ perm_joined p ∙ ap length
 
 -- an accepted text: neither too long nor empty, and its lines are clean
 check_opens : (s : Str) → check s ≡ Accepted → (ltb max_table_text (length s) ≡ false) × (eqb (length s) 0 ≡ false) × (clean first (lines s) ≡ true)
-unfolding check if◌then◌else◌
+unfolding check whether◌then◌else◌
 check_opens s e =
     by (ltb max_table_text (length s))
     (λ u. let e' = rw u at e in let z : ◌≡◌ {A = ℕ} 0 1 = cc in absurd (omega arith))
@@ -190,7 +190,7 @@ check_opens s e =
     (λ v. let e' = rw (u, v) at e in (u, v, judge_clean 1 first (lines s) e')))
 
 check_closes : (s : Str) → ltb max_table_text (length s) ≡ false → eqb (length s) 0 ≡ false → clean first (lines s) ≡ true → check s ≡ Accepted
-unfolding check if◌then◌else◌
+unfolding check whether◌then◌else◌
 check_closes s u v h = rw (u, v) (clean_judge 1 first (lines s) h)
 
 pub accepted_again : (x y : Str) → check x ≡ Accepted → ReorderedLines x y → check y ≡ Accepted

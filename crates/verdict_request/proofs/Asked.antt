@@ -6,7 +6,7 @@ use borrow.Author.Tests.{lt-ltb, le-ltb}
 use lib.Dec.{eqb}
 use lib.ListN.{length}
 use Rattle.limits.specs.Limits.{max_short_string}
-use Rattle.text.specs.Test.{◌or◌, if◌then◌else◌, all}
+use Rattle.text.specs.Test.{◌or◌, whether◌then◌else◌, all}
 use Rattle.text.specs.Byte.{is_print}
 use Rattle.text.specs.String.{Str}
 use Rattle.text.specs.Refusal.{◌when◌else◌, clear}
@@ -29,17 +29,17 @@ mode_is m = ap not (or_is _ _)
 
 module _ (u m o : Bool) where
   pub number_user : u ≡ true → 20 ≡ (20 when (u or m) else 21 when o else clear)
-  unfolding ◌or◌ if◌then◌else◌
+  unfolding ◌or◌ whether◌then◌else◌
   number_user e = rw e
 
   pub number_mode : u ≡ false → m ≡ true → 20 ≡ (20 when (u or m) else 21 when o else clear)
-  unfolding ◌or◌ if◌then◌else◌
+  unfolding ◌or◌ whether◌then◌else◌
   number_mode e f = rw (e, f)
 
   pub number_origin : u ≡ false → m ≡ false → o ≡ true → 21 ≡ (20 when (u or m) else 21 when o else clear)
-  unfolding ◌or◌ if◌then◌else◌
+  unfolding ◌or◌ whether◌then◌else◌
   number_origin e f g = rw (e, f, g)
 
   pub number_none : u ≡ false → m ≡ false → o ≡ false → clear ≡ (20 when (u or m) else 21 when o else clear)
-  unfolding ◌or◌ if◌then◌else◌
+  unfolding ◌or◌ whether◌then◌else◌
   number_none e f g = rw (e, f, g)

@@ -2,7 +2,7 @@
 use Rattle.std.specs.Prelude.{ℕ, Bool, not, eqb, ltb, length}
 use Rattle.std.proofs.Math.Option.{Option, none, some}
 use Rattle.limits.specs.Limits.{max_short_string}
-use Rattle.text.specs.Test.{◌or◌, if◌then◌else◌, absent, or_nothing}
+use Rattle.text.specs.Test.{◌or◌, whether◌then◌else◌, absent, or_nothing}
 use Rattle.text.specs.String.{Str}
 use Rattle.text.specs.Refusal.{◌when◌else◌, clear}
 use Rattle.path.specs.Path.{Path}
@@ -54,12 +54,12 @@ request user mode origin text = asked user mode origin (or_nothing (read_text te
 -- "The answer is the action and that rule's number. With no match: deny, by default, no rule."
 unfoldable pub decided_by : Option Numbered → PathAnswer
 decided_by none = path.Default
-decided_by (some n) = if n.rule.permit then path.Permit (record { 0 = n.number }) else path.Deny (record { 0 = n.number })
+decided_by (some n) = whether n.rule.permit then path.Permit (record { 0 = n.number }) else path.Deny (record { 0 = n.number })
 
 -- the table's refusal, the request's, or the verdict: "text before request"
 unfoldable pub path_answer : Checked → ℕ → Option Numbered → PathAnswer
 path_answer (checked.Refused n l) number d = path.Refused n l
-path_answer checked.Accepted number d = if eqb number clear then decided_by d else path.Refused number 0
+path_answer checked.Accepted number d = whether eqb number clear then decided_by d else path.Refused number 0
 
 -- the call, on texts
 unfoldable pub path_verdict : Str → Str → ℕ → Str → Str → PathAnswer
@@ -77,7 +77,7 @@ spread (MIXED n) = trees.Mixed (record { 0 = n.number })
 -- the same order of refusals
 unfoldable pub tree_answer : Checked → ℕ → Tree → TreeAnswer
 tree_answer (checked.Refused n l) number w = trees.Refused n l
-tree_answer checked.Accepted number w = if eqb number clear then spread w else trees.Refused number 0
+tree_answer checked.Accepted number w = whether eqb number clear then spread w else trees.Refused number 0
 
 -- the call, on texts
 unfoldable pub tree_verdict : Str → Str → ℕ → Str → Str → TreeAnswer

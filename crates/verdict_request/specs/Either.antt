@@ -1,6 +1,6 @@
 -- For programs: both calls are one function with a flag, the answer for the whole tree where `whole` holds, and for one path otherwise.
 use Rattle.std.specs.Prelude.{ℕ, Bool}
-use Rattle.text.specs.Test.{if◌then◌else◌}
+use Rattle.text.specs.Test.{whether◌then◌else◌}
 use Rattle.verdict_request.specs.declared.PathAnswer.{PathAnswer}
 use Rattle.verdict_request.specs.declared.PathAnswer.TheVariants as path
 use Rattle.verdict_request.specs.declared.TreeAnswer.{TreeAnswer}
@@ -9,7 +9,7 @@ use Rattle.verdict_request.specs.declared.Verdict.{Verdict}
 use Rattle.verdict_request.specs.declared.Verdict.TheVariants.{Path, Tree}
 
 unfoldable pub one_of : Bool → PathAnswer → TreeAnswer → Verdict
-one_of whole p t = if whole then Tree t else Path p
+one_of whole p t = whether whole then Tree t else Path p
 
 -- a refusal
 unfoldable pub refused_as : Bool → ℕ → ℕ → Verdict

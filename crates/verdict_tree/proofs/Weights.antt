@@ -7,7 +7,7 @@ use native.Mathlib.Omega.{arith}
 use lib.Dec.{eqb}
 use lib.ListN.{get_or}
 use Rattle.limits.specs.Limits.{max_rules}
-use Rattle.text.specs.Test.{◌and◌, if◌then◌else◌}
+use Rattle.text.specs.Test.{◌and◌, whether◌then◌else◌}
 use Rattle.text.proofs.Tests.{by}
 use Rattle.path.specs.Path.{Path}
 use Rattle.table.specs.Table.{Rule}
@@ -22,15 +22,15 @@ use Rattle.verdict_tree.specs.Tree.{weight, fitting, Packed, Fits, Paths, PathsL
 -- ---- the weight of a rule
 
 pub weight_off : (app : Rule → Bool) (p : Path) (r : Rule) → app r ≡ false → 0 ≡ weight (fitting app p) r
-unfolding weight if◌then◌else◌ ◌and◌
+unfolding weight whether◌then◌else◌ ◌and◌
 weight_off app p r e = rw e
 
 pub weight_apart : (app : Rule → Bool) (p : Path) (r : Rule) → agree r.path p ≡ false → 0 ≡ weight (fitting app p) r
-unfolding weight if◌then◌else◌ ◌and◌
+unfolding weight whether◌then◌else◌ ◌and◌
 weight_apart app p r e = by (app r) (λ h. rw (h, e)) (λ h. rw h)
 
 pub weight_fit : (app : Rule → Bool) (p : Path) (r : Rule) (x : ℕ) → app r ≡ true → agree r.path p ≡ true → x ≡ rank r → x + 1 ≡ weight (fitting app p) r
-unfolding weight if◌then◌else◌ ◌and◌
+unfolding weight whether◌then◌else◌ ◌and◌
 weight_fit app p r x h e i = rw (h, e) (omega arith)
 
 pub agree_in : (f : List ℕ) (s a : ℕ) (p : Path) (t : Bool) → a ≡ path_at f s → t ≡ agree (elems_in (get_or f a 0) f (a + 1)) p → agree (rule_in f s).path p ≡ t
@@ -52,11 +52,11 @@ pack x i h l = record { number = omega arith; light = omega arith }
 
 module _ (test : Rule → Bool) (r : Rule) (i x : ℕ) (l : i < max_rules) (h : x ≡ weight test r * max_rules + i) where
   heavy : test r ≡ true → x ≡ suc (rank r) * max_rules + i
-  unfolding weight if◌then◌else◌
+  unfolding weight whether◌then◌else◌
   heavy e = h ∙ rw e
 
   light : test r ≡ false → x ≡ i
-  unfolding weight if◌then◌else◌
+  unfolding weight whether◌then◌else◌
   light e = let z : x ≡ 0 * max_rules + i = h ∙ rw e in omega arith
 
   pub unfit : x < max_rules → test r ≡ false

@@ -2,7 +2,7 @@
 use Rattle.std.specs.Prelude.{◌≡◌, ℕ, suc, ◌+◌, ◌*◌, ◌/◌, ◌%◌, ◌≤◌, ◌<◌, Bool, true, List, length, get_or}
 use Rattle.std.specs.Bool.{xor}
 use Rattle.limits.specs.Limits.{max_rules}
-use Rattle.text.specs.Test.{◌and◌, if◌then◌else◌}
+use Rattle.text.specs.Test.{◌and◌, whether◌then◌else◌}
 use Rattle.path.specs.Path.{Path}
 use Rattle.table.specs.Table.{Rule}
 use Rattle.verdict.specs.Join.{agree}
@@ -38,7 +38,7 @@ opposing app rules p v r = app r and xor (permits_both app rules r.path p) v
 
 -- a rule's rank and 1, or 0 where it fails the test
 unfoldable pub weight : (Rule → Bool) → Rule → ℕ
-weight test r = if test r then suc (rank r) else 0
+weight test r = whether test r then suc (rank r) else 0
 
 -- of each of the first n rules its weight and its number, as one number
 abbrev pub Weights : (Rule → Bool) → List ℕ → List ℕ → List ℕ → ℕ → Type 0

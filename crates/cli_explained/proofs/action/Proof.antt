@@ -1,18 +1,18 @@
 -- `action` is the definition.
 use borrow.Author.Rules.{rules}
 use native.Mathlib.Omega.{arith}
-use Rattle.text.specs.Test.{if◌then◌else◌}
+use Rattle.text.specs.Test.{whether◌then◌else◌}
 use Rattle.cli_explained.specs.Explained.{action_text}
 use Rattle.cli_explained.proofs.action.Statement.{statement}
 use Rattle.cli_explained.proofs.action.Tie as tie
 
 returns : tie.Need-returns
-unfolding action_text if◌then◌else◌
+unfolding action_text whether◌then◌else◌
 returns c = let at-if1 = c.before.before.before.before.before in
     record { added = rw at-if1.if1.true c.before.before.string.ensures; short = omega (arith, c.before.before.string.ensures.wrote.ends) }
 
 returns_2 : tie.Need-returns-2
-unfolding action_text if◌then◌else◌
+unfolding action_text whether◌then◌else◌
 returns_2 c = let at-if1 = c.before.before.before.before.before in
     record { added = rw at-if1.if1.false c.before.before.string2.ensures; short = omega (arith, c.before.before.string2.ensures.wrote.ends) }
 

@@ -2,14 +2,14 @@
 use borrow.Author.Rules.{rules}
 use native.Mathlib.Omega.{arith}
 use borrow.Author.Tests.{eq-eqb, ne_eqb}
-use Rattle.text.specs.Test.{if◌then◌else◌}
+use Rattle.text.specs.Test.{whether◌then◌else◌}
 use Rattle.text_make.proofs.Adding.{◌then◌}
 use Rattle.cli_explained.specs.Explained.{fate}
 use Rattle.cli_explained.proofs.add_fate.Statement.{statement}
 use Rattle.cli_explained.proofs.add_fate.Tie as tie
 
 returns : tie.Need-returns
-unfolding fate if◌then◌else◌
+unfolding fate whether◌then◌else◌
 returns c = let at-if1 = c.before.before.before.before.before in
     record {
       added = rw (eq-eqb _ _ at-if1.if1.true) c.before.before.string.ensures;
@@ -17,7 +17,7 @@ returns c = let at-if1 = c.before.before.before.before.before in
     }
 
 returns_2 : tie.Need-returns-2
-unfolding fate if◌then◌else◌
+unfolding fate whether◌then◌else◌
 returns_2 c = let at-step-name = c.before.before.before.before.before.before.before in
     let at-string2 = at-step-name.before.before.before.before in let at-if1 = at-string2.before.before.before in
     record {

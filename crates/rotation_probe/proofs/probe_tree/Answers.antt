@@ -1,8 +1,8 @@
 use mathlib.Core.Path.{ap, ◌∙◌}
-use Rattle.text.specs.Test.{if◌then◌else◌}
+use Rattle.text.specs.Test.{whether◌then◌else◌}
 use Rattle.verdict_request.specs.Either.{one_of, tree_of}
 use Rattle.rotation_probe.proofs.probe_tree.Goals as goal
 
 pub returns : goal.returns
-unfolding one_of tree_of if◌then◌else◌
+unfolding one_of tree_of whether◌then◌else◌
 returns c = c.tree_of.ensures ∙ ap tree_of c.probe.ensures

@@ -3,7 +3,7 @@ use native.Mathlib.Omega.{arith}
 use mathlib.Core.Bool.{false}
 use mathlib.Core.Path.{refl, sym, ◌∙◌}
 use borrow.Author.Tests.{not-true, not-false}
-use Rattle.text.specs.Test.{if◌then◌else◌}
+use Rattle.text.specs.Test.{whether◌then◌else◌}
 use Rattle.readable_parts.proofs.Stored.{put_by}
 use Rattle.readable_lines.specs.Form.{parts, request_form}
 use Rattle.readable_lines.specs.Steps.{parts_by, nothing}
@@ -24,7 +24,7 @@ close_shown-requires c =
     shown_room (parts (parts_by false) request_form) _ _ (put_by _ _ c.convert_parts-r.ensures refl room_request) c.requires
 
 pub returns : goal.returns
-unfolding parts_by if◌then◌else◌
+unfolding parts_by whether◌then◌else◌
 returns c =
     rw (c.close_shown.ensures, request_shown c.args.f.now (sym c.is_good.ensures ∙ not-false _ c.if-not-is_good.false-raw))
     (shown_fills _ _ _ (put_by _ _ c.convert_parts-r.ensures refl room_request))

@@ -1,6 +1,6 @@
 use native.Mathlib.Omega.{arith}
 use mathlib.Core.Path.{◌∙◌}
-use Rattle.text.specs.Test.{if◌then◌else◌}
+use Rattle.text.specs.Test.{whether◌then◌else◌}
 use Rattle.table_place.specs.Place.{str_end}
 use Rattle.table_place.proofs.Cursor.{str_grows}
 use Rattle.verdict_compare.proofs.Keys.{wild_in}
@@ -14,9 +14,9 @@ pub is_star-requires : goal.is_star-requires
 is_star-requires c = rw c.str_end.ensures c.requires
 
 pub returns-then-is_star : goal.returns-then-is_star
-unfolding if◌then◌else◌
+unfolding whether◌then◌else◌
 returns-then-is_star c = rw (wild_in _ _ _ _ c.str_end.ensures c.is_star.ensures ∙ c.if-is_star.true)
 
 pub returns : goal.returns
-unfolding if◌then◌else◌
+unfolding whether◌then◌else◌
 returns c = rw (wild_in _ _ _ _ c.str_end.ensures c.is_star.ensures ∙ c.if-is_star.false)
