@@ -23,6 +23,10 @@ PLAIN = "Rattle.std.proofs.Math."
 # what proofs have operators from: any of its modules
 LIBRARY = "the library"
 
+# the modules of the library with the operators of definitions and contracts: the first hands on those of the others
+PRELUDE = "Rattle.std.specs.Prelude"
+SAME = {"mathlib.Core.List": PRELUDE, "Prim.Native.Nat": PRELUDE}
+
 OWN = {path.name for path in Path("crates").iterdir()}
 
 BARRED = {
@@ -58,7 +62,7 @@ def try_files():
             if ".proofs." in module + "." and not is_proof and not (module + ".").startswith(PLAIN):
                 fail(f"{path} rests on a file of proofs: {module}")
             if "◌" in name:
-                operators.setdefault(name, {}).setdefault(LIBRARY if is_proof and not is_own(module) else module, path)
+                operators.setdefault(name, {}).setdefault(LIBRARY if is_proof and not is_own(module) else SAME.get(module, module), path)
         for name in re.findall(r"^ *(?:unfoldable |abbrev )*(?:pub )?([^\s:(){}]*◌[^\s:(){}]*) :", text, re.M) if path.suffix == ".antt" else []:
             operators.setdefault(name, {}).setdefault("its own", path)
     return operators
