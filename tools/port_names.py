@@ -17,7 +17,7 @@ CAMEL = re.compile(r"(?<![A-Za-z0-9_'])[a-z][a-z0-9]*(?:[A-Z][a-z0-9]*)+")
 PLAIN = re.compile(r"[a-z][A-Za-z0-9_']*(?:-[A-Za-z0-9_']+)+$")
 WORD = re.compile(r"[^\s(){}\[\];,.\"`|:]+")
 USE = re.compile(r"^\s*(?:pub )?use ([^\s{]+)\.\{([^}]*)\}", re.M)
-DEFINED = re.compile(r"^\s*(?:(?:pub|abbrev|unfoldable)\s+)*([^\s:({]+)\s*:\s", re.M)
+DEFINED = re.compile(r"^\s*(?:(?:pub|abbrev|unfoldable)\s+)*([^\s:({]+)(?:\s*\{ℓ[^}]*\})?\s*:\s", re.M)
 
 
 def snake(word):
