@@ -8,7 +8,7 @@ use borrow.Author.Tests.{lt-ltb, le-ltb, ltb-false}
 use lib.Dec.{ltb}
 use lib.ListN.{length, take, get_or, length-append}
 use Rattle.limits.specs.Limits.{max_string, max_members, max_rules}
-use Rattle.text.specs.Test.{◌or◌, if◌then◌else◌, any, only}
+use Rattle.text.specs.Test.{◌or◌, whether◌then◌else◌, any, only}
 use Rattle.text.specs.String.{Str, same}
 use Rattle.text.proofs.Tests.{by, or_assoc, or_l, or_r, or_false_l, or_false_r, neither}
 use Rattle.text_make.specs.Added.{Added}
@@ -39,7 +39,7 @@ any_append f [] b = refl
 any_append f (x ∷ a) b = ap (λ (t : Bool). f x or t) (any_append f a b) ∙ sym (or_assoc (f x) (any f a) (any f b))
 
 only_append : (f : Str → Bool) (a b : List Str) → only f (a ++ b) ≡ only f a ++ only f b
-unfolding only if◌then◌else◌
+unfolding only whether◌then◌else◌
 only_append f [] b = refl
 only_append f (x ∷ a) b =
     by (f x)
@@ -49,7 +49,7 @@ only_append f (x ∷ a) b =
 gather_append : (names a b : List Str) → gather names (a ++ b) ≡ gather (gather names a) b
 unfolding gather
 gather_append names [] b = refl
-gather_append names (x ∷ a) b = gather_append (if any (same x) names then names else names ++ (x ∷ [])) a b
+gather_append names (x ∷ a) b = gather_append (whether any (same x) names then names else names ++ (x ∷ [])) a b
 
 pub none_yet : (f places : List ℕ) → strings_in f places 0 0 ≡ []
 unfolding strings_in rows_of
@@ -65,7 +65,7 @@ module _ (f users : List ℕ) (members : ℕ) (starts : List ℕ) (rules : ℕ) 
   found_place places n r e = place_any user (strings_in f places n 0) ∙ rw (strings_length f places n, e)
 
   told_none : (d : List ℕ) → any (same user) all ≡ true → Added d 0 (told grouped user all) d 0
-  unfolding told if◌then◌else◌
+  unfolding told whether◌then◌else◌
   told_none d e = rw e (nothing_added d 0 (omega arith))
 
   pub told_member : (d : List ℕ) (r : ℕ) → r ≡ place user (strings_in f users members 0) → r < members → Added d 0 (told grouped user all) d 0
@@ -93,7 +93,7 @@ module _ (f users : List ℕ) (members : ℕ) (starts : List ℕ) (rules : ℕ) 
           ∙ gather_append [] (only (alike user) (strings_in f users members 0)) (only (alike user) (subjects_in f starts rules 0))))
 
       pub told_is : sentence grouped user (strings_in f kept' n 0) ≡ told grouped user all
-      unfolding told if◌then◌else◌
+      unfolding told whether◌then◌else◌
       told_is =
           let e : any (same user) all ≡ false =
           any_append (same user) (strings_in f users members 0) (subjects_in f starts rules 0)
@@ -140,12 +140,12 @@ module _ {text buf : List ℕ} {u : ℕ} {c : Counts} {groups users owners start
 
   module _ (user : Str) where
     pub slip_refused : bad_user user ≡ true → [] ≡ slip (check text) (table_of text) user
-    unfolding slip if◌then◌else◌
+    unfolding slip whether◌then◌else◌
     slip_refused e = rw (K.accepts, e)
 
     pub slip_is : bad_user user ≡ false → (r : ℕ) → r ≡ place user (strings_in (take u buf) groups c.groups 0)
         → told (ltb r c.groups) user (users_in (take u buf) users c.members starts c.rules) ≡ slip (check text) (table_of text) user
-    unfolding slip if◌then◌else◌
+    unfolding slip whether◌then◌else◌
     slip_is e r p =
         rw (K.accepts, e, users_are, K.holds.groups_are)
         (ap (λ (t : Bool). told t user (users_in (take u buf) users c.members starts c.rules))

@@ -1,13 +1,13 @@
 -- `add_fate` is the definition.
 use native.Mathlib.Omega.{arith}
 use borrow.Author.Tests.{eq-eqb, ne_eqb}
-use Rattle.text.specs.Test.{if◌then◌else◌}
+use Rattle.text.specs.Test.{whether◌then◌else◌}
 use Rattle.text_make.proofs.Adding.{◌then◌}
 use Rattle.cli_explained.specs.Explained.{fate}
 use Rattle.cli_explained.proofs.add_fate.Goals as goal
 
 pub returns-then-place-eq1 : goal.returns-then-place-eq1
-unfolding fate if◌then◌else◌
+unfolding fate whether◌then◌else◌
 returns-then-place-eq1 c =
     record {
       added = rw (eq-eqb _ _ c.if-place-eq1.true) c.string.ensures;
@@ -15,7 +15,7 @@ returns-then-place-eq1 c =
     }
 
 pub returns : goal.returns
-unfolding fate if◌then◌else◌
+unfolding fate whether◌then◌else◌
 returns c =
     record {
       added =

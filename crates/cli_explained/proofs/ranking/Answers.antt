@@ -47,12 +47,11 @@ overflow_cast-best c =
     omega (arith, c.type_inv.starts (get_or c.args.order.now 0 0))
 
 pub line-at-requires : goal.line-at-requires
-line-at-requires c =
-    (
-      c.requires.placed.laid _ (c.requires.listed.numbers _ c.loop-i-test.true),
-      c.requires.placed.laid _ (c.requires.listed.numbers 0 (omega arith)),
-      listed_room _ _ _ _ _ _ _ _ c.loop-i.invariant.1 _ c.loop-i-test.true c.requires.room,
-    )
+line-at-requires c = (
+  c.requires.placed.laid _ (c.requires.listed.numbers _ c.loop-i-test.true),
+  c.requires.placed.laid _ (c.requires.listed.numbers 0 (omega arith)),
+  listed_room _ _ _ _ _ _ _ _ c.loop-i.invariant.1 _ c.loop-i-test.true c.requires.room,
+)
 
 pub loop-i-preserved : goal.loop-i-preserved
 loop-i-preserved c =
