@@ -17,7 +17,7 @@ CAMEL = re.compile(r"(?<![A-Za-z0-9_'])[a-z][a-z0-9]*(?:[A-Z][a-z0-9]*)+")
 PLAIN = re.compile(r"[a-z][A-Za-z0-9_']*(?:-[A-Za-z0-9_']+)+$")
 WORD = re.compile(r"[^\s(){}\[\];,.\"`|:]+")
 USE = re.compile(r"^\s*(?:pub )?use ([^\s{]+)\.\{([^}]*)\}", re.M)
-DEFINED = re.compile(r"^\s*(?:(?:pub|abbrev|unfoldable)\s+)*([^\s:({]+)\s*:\s", re.M)
+DEFINED = re.compile(r"^\s*(?:(?:pub|abbrev|unfoldable)\s+)*([^\s:({]+)(?:\s*\{ℓ[^}]*\})?\s*:\s", re.M)
 
 
 def snake(word):
@@ -76,8 +76,15 @@ def turn(p, t):
         return new
 
     if p.endswith(".antt"):
-        parts = re.split(r'("[^"\n]*")', t)
-        out = "".join(x if i % 2 else WORD.sub(one, x) for i, x in enumerate(parts))
+        out = []
+        for line in t.split("\n"):
+            # What a comment quotes of the RFC's grammar stays.
+            if line.startswith("--") and ("%x" in line or "uXXXX" in line):
+                out.append(line)
+                continue
+            parts = re.split(r'("[^"\n]*")', line)
+            out.append("".join(x if i % 2 else WORD.sub(one, x) for i, x in enumerate(parts)))
+        out = "\n".join(out)
     elif p.endswith(".rt"):
         parts = re.split(r"""(b?"(?:[^"\\]|\\[\s\S])*"|b?'(?:\\.|[^'\\\n])')""", "\n".join(l if "//" not in l else l.split("//")[0] + "//" for l in t.split("\n")))
         tails = ["//".join([""] + l.split("//")[1:])[2:] if "//" in l else None for l in t.split("\n")]

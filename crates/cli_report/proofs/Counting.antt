@@ -18,8 +18,6 @@ use Rattle.season.proofs.Figures.{all_rules, rules_few, grid_few}
 use Rattle.season.proofs.Parts.{both_lines, both_logs, both_checked}
 use Rattle.season_count.specs.Counts.{UpTo}
 use Rattle.season_count.specs.Counting.{CountsOf, CountedLines, Counts-lines}
-use Rattle.text_hash.specs.declared.Seed.{Seed}
-use Rattle.season_count.specs.declared.heading.Asked.{Asked}
 use Rattle.season_count.specs.declared.lines.Ended.{Ended}
 use Rattle.season_count.specs.declared.lines.Ended.TheVariants.{Lines}
 use Rattle.season_call.specs.Counted.{CountedLog}
@@ -27,11 +25,11 @@ use Rattle.season_call.proofs.Reporting.{is_table}
 use Rattle.cli_report.specs.Counted.{NothingCounted, CountedRead, CountedOn}
 
 module _ (f users owners : List ℕ) (m : ℕ) (starts holders : List ℕ) (n : ℕ) (text : Str) (before : ℕ) (counts : List ℕ) (cells : List (List ℕ))
-    (seed : Seed) (key counts' : List ℕ) (cells' : List (List ℕ)) (e : Ended)
-    (C : Counts-lines seed f users owners m starts holders n text before counts cells key counts' cells' e) where
-  pub counted : (all : ℕ) (asked : Asked) → e ≡ Lines all asked → CountedLines seed f users owners m starts holders n text before counts cells all key asked counts' cells'
+    (key on counts' : List ℕ) (cells' : List (List ℕ)) (e : Ended)
+    (C : Counts-lines f users owners m starts holders n text before counts cells key on counts' cells' e) where
+  pub counted : (all len : ℕ) → e ≡ Lines all len → CountedLines f users owners m starts holders n text before counts cells all key len on counts' cells'
   unfolding Counts-lines
-  counted all asked i = subst (λ (x : Ended). Counts-lines seed f users owners m starts holders n text before counts cells key counts' cells' x) i C
+  counted all len i = subst (λ (x : Ended). Counts-lines f users owners m starts holders n text before counts cells key on counts' cells' x) i C
 
 -- ---- part after part
 
@@ -45,8 +43,8 @@ module _ (f users owners : List ℕ) (m : ℕ) (starts holders : List ℕ) (n : 
   unfolding check_log log_of lines judge_log requests_of
   nothing_so_far = record { read = record { log = []; counted = record { accepted = refl; counts_are = λ t is c. c } }; number = refl }
 
-  module _ (text : Str) (all : ℕ) (counts : List ℕ) (cells : List (List ℕ)) (all' : ℕ) (seed : Seed) (key : List ℕ) (asked : Asked) (counts' : List ℕ) (cells' : List (List ℕ))
-      (S : SoFar all counts cells) (L : CountedLines seed f users owners m starts holders n text all counts cells all' key asked counts' cells') where
+  module _ (text : Str) (all : ℕ) (counts : List ℕ) (cells : List (List ℕ)) (all' : ℕ) (key : List ℕ) (len : ℕ) (on counts' : List ℕ) (cells' : List (List ℕ))
+      (S : SoFar all counts cells) (L : CountedLines f users owners m starts holders n text all counts cells all' key len on counts' cells') where
     abbrev before : Str
     before = S.read.log
 

@@ -5,7 +5,7 @@
 mod long;
 mod paths;
 mod policies;
-mod seasons;
+mod reports;
 mod split;
 mod tables;
 mod word;
@@ -67,7 +67,7 @@ fn answer(console: &mut Console, text: &[u8], letter: u8, rest: &[u8])
         b'g' => tables::groups(console, text, rest),
         b'v' => tables::request(console, text, false, rest),
         b't' => tables::request(console, text, true, rest),
-        b's' => seasons::report(console, text, rest),
+        b's' => reports::report(console, text, rest),
         b'p' => policies::check(console, text),
         b'b' => long::policy(console, split::digit(rest)),
         b'i' => policies::rpc(console, text, rest),
