@@ -2,9 +2,10 @@
 """Nothing is taken on trust but the prover, its libraries and what they say.
 
 - No axiom, no hole, no classical axiom of the library, and no attribute that could leave code out. (The prover refuses these too; here they are seen at once.)
-- Definitions and contracts rest on definitions: neither specs/ nor src/ names a file of proofs/, where a reader does not look.
-- An operator of the library is the library's in every file: none is declared anew, and each comes from one module. (The prover would accept a contract
-  that is written with an `≡` of its own.)
+- Definitions and contracts rest on definitions: neither specs/ nor src/ names a file of proofs/, where a reader does not look. (The library keeps some
+  plain types, as that of options, in `Rattle.std.proofs.Math`.)
+- An operator of the library is the library's in every file: none is declared anew, and definitions and contracts have each from one module. (The prover
+  would accept a contract that is written with an `≡` of its own.)
 - The exported functions and the promises reach no library that has contracts of C functions, which nothing proves.
 """
 import re
@@ -16,9 +17,24 @@ from sources import definitions, imports, program
 # libraries of the toolchain that declare functions of C
 OF_C = {"libc", "io", "os"}
 
+# where the library has plain types that definitions may name
+PLAIN = "Rattle.std.proofs.Math."
+
+# what proofs have operators from: any of its modules
+LIBRARY = "the library"
+
+# the modules of the library with the operators of definitions and contracts: the first hands on those of the others
+PRELUDE = "Rattle.std.specs.Prelude"
+SAME = {"mathlib.Core.List": PRELUDE, "Prim.Native.Nat": PRELUDE}
+
+OWN = {path.name for path in Path("crates").iterdir()}
+
 BARRED = {
     ".antt": {"an axiom": r"(?m)^\s*axiom\b|\bPrim\.Axiom\b", "a hole": r"(?:(?<=[\s(])|^)\?|\{!"},
-    ".rt": {"an attribute": r"#!?\[(?!no_mangle\]|repr\(C\)\])[^\]]*\]", "`unsafe`": r"\bunsafe\b"},
+    ".rt": {
+        "an attribute": r"#!?\[(?!unsafe\(no_mangle\)\]|repr\(C\)\]|tactic\(|derive\(|cycle\(|test\])[^\]]*\]",
+        "`unsafe`": r"(?<!#\[)\bunsafe\b",
+    },
 }
 
 failures = []
@@ -27,6 +43,10 @@ failures = []
 def fail(text):
     failures.append(text)
     print(f"assumptions: {text}")
+
+
+def is_own(module):
+    return module.startswith("Rattle.") and module.split(".")[1] in OWN
 
 
 def try_files():
@@ -38,24 +58,27 @@ def try_files():
             if found := re.search(pattern, text):
                 fail(f"{path}: {what}: {found[0].strip()}")
         for name, module, _ in imports(text):
-            if ".proofs." in module + "." and path.parts[2] != "proofs":
+            is_proof = path.parts[2] == "proofs"
+            if ".proofs." in module + "." and not is_proof and not (module + ".").startswith(PLAIN):
                 fail(f"{path} rests on a file of proofs: {module}")
-            if "_" in name.strip("_") or name.startswith("_") or name.endswith("_"):
-                operators.setdefault(name, {}).setdefault(module, path)
-        for name in re.findall(r"^ *(?:unfoldable |abbrev )*(?:pub )?([^\s:(){}]*_[^\s:(){}]*) :", text, re.M) if path.suffix == ".antt" else []:
+            if "◌" in name:
+                operators.setdefault(name, {}).setdefault(LIBRARY if is_proof and not is_own(module) else SAME.get(module, module), path)
+        for name in re.findall(r"^ *(?:unfoldable |abbrev )*(?:pub )?([^\s:(){}]*◌[^\s:(){}]*) :", text, re.M) if path.suffix == ".antt" else []:
             operators.setdefault(name, {}).setdefault("its own", path)
     return operators
 
 
 def try_operators(operators):
     for name, modules in operators.items():
-        if len(modules) > 1 and any(not module.startswith("Rattle") and module != "its own" for module in modules):
-            fail(f"{name} is that of " + ", ".join(f"{module} in {path}" for module, path in modules.items()))
+        if not all(module == "its own" or is_own(module) for module in modules):
+            named = {module: path for module, path in modules.items() if module != LIBRARY}
+            if len(named) > 1 or any(module == "its own" or is_own(module) for module in named):
+                fail(f"{name} is that of " + ", ".join(f"{module} in {path}" for module, path in modules.items()))
 
 
 def try_libraries():
-    uses = {name: deps.split() for name, deps in re.findall(r"^(\w+):(.*)$", Path("crates.txt").read_text(encoding="utf-8"), re.M)}
-    for root in ("burgee", "promises"):
+    uses = {name: deps.split() for name, deps in re.findall(r"^(\w+)(?: staticlib)?:(.*)$", Path("crates.txt").read_text(encoding="utf-8"), re.M)}
+    for root in ("burgee_c", "promises"):
         reached, todo = set(), [root]
         while todo:
             name = todo.pop()

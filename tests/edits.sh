@@ -1,13 +1,33 @@
 #!/usr/bin/env bash
-# Each must-fail edit that `rt ci` tried was refused at a fact, in a proof that stands. Not at a name that cannot be found, which a slip in the edit, or a proof
-# file that no longer fits, would cause as well. And not only since no proof is found of a function that has none of its own: of such a function a search is
-# tried, which might find none for a right program of that shape either. (An edit that only exchanges words has the program itself as that right one.)
+# edits.sh [LOG]: each must-fail edit was refused at a fact, in a proof that stands. LOG is what `rt ci` (or `rt must-fail`) said; without it `rt must-fail` is run.
+# Not at a name that cannot be found, which a slip in the edit, or a proof file that no longer fits, would cause as well; not at a limit of the prover. And not
+# only since no proof is found of a function that has none of its own: of such a function a search is tried, which might find none for a right program of that
+# shape either. (An edit that only exchanges words has the program itself as that right one.)
 set -uo pipefail
 cd "$(dirname "$0")/.."
+work=$(mktemp -d)
+trap 'rm -rf "$work"' EXIT
+log=${1-}
+if [ -z "$log" ]; then
+    log=$work/log
+    rt must-fail >"$log" 2>&1
+fi
 
 # EDIT old|new: the text that it takes away, or puts there instead, each word as `w`.
 shape() {
     sed -n "s/^$2: *//p" "$1" | sed 's/[A-Za-z0-9_]\+/w/g'
+}
+
+# CRATE PLACE: whether the function at this place, FILE:LINE:.., has answers of its own.
+has_answers() {
+    local crate=$1 file line name module
+    IFS=: read -r file line _ <<<"$2"
+    [ -f "crates/$crate/$file" ] || return 1
+    name=$(head -n "$line" "crates/$crate/$file" | grep -o '\bfn [a-z_0-9]*' | tail -n 1 | cut -d ' ' -f 2)
+    module=${file#src/}
+    module=${module%.rt}
+    case $module in lib | main) module=. ;; esac
+    [ -n "$name" ] && { [ -d "crates/$crate/proofs/$module/$name" ] || ls -d "crates/$crate"/proofs/+*/"$module/$name" "crates/$crate"/proofs/+*/"$name" >"$work/found" 2>&1; }
 }
 
 status=0
@@ -18,25 +38,26 @@ fail() {
 }
 
 for edit in crates/*/must-fail/*.edit; do
-    name=${edit#crates/}
-    name=${name%.edit}
-    name=${name/must-fail\//}
-    log=target/must-fail/$name/.log
-    [ -f "$log" ] || { fail "$name was not tried"; continue; }
+    crate=${edit#crates/}
+    crate=${crate%%/*}
+    name=$crate/$(basename "$edit")
+    said=$(grep -F -m 1 "must-fail $name: " "$log") || { fail "$name was not tried"; continue; }
+    said=${said#*"must-fail $name: "}
     tried=$((tried + 1))
-    first=$(grep -m 1 ': error: ' "$log")
-    case $first in
-    *'is not in scope'* | *'can be named from here'*) fail "$name is refused, but not at a fact: $first" ;;
+    case $said in
+    'refused, as it must be: '*) said=${said#*: } ;;
+    *) fail "$name is not refused at a fact: $said"; continue ;;
     esac
-    # Where a function is not proved, those that call it are not admitted either.
-    if ! grep ': error: ' "$log" | grep -qv ' was not admitted '; then
-        unproved=$(sed -n 's/^fn \(.*\): no proof: .* does not close.*/\1/p' "$log" | paste -sd ' ')
-        if [ -z "$unproved" ]; then
-            fail "$name is refused at nothing that $log names"
-        elif [ "$(shape "$edit" old)" != "$(shape "$edit" new)" ]; then
-            fail "$name is refused only since no proof is found of $unproved, which has none of its own: a right program of its shape might be refused too"
+    case $said in
+    *'is not in scope'* | *'can be named from here'* | *'has no field'* | *'has no `'*) fail "$name is refused, but not at a fact: $said" ;;
+    # What is said of a place in a program is that a goal of it stays open, to which no file has the answer.
+    'note: '*)
+        said=${said#note: }
+        if ! has_answers "$crate" "$said" && [ "$(shape "$edit" old)" != "$(shape "$edit" new)" ]; then
+            fail "$name is refused only since no proof is found of a function that has none of its own: a right program of its shape might be refused too: $said"
         fi
-    fi
+        ;;
+    esac
 done
 
 [ $tried -gt 0 ] || fail "there are no edits"

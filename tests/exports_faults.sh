@@ -6,7 +6,7 @@ cd "$(dirname "$0")/.."
 export PYTHONDONTWRITEBYTECODE=1
 work=$(mktemp -d) && mkdir "$work/repository" || exit
 trap 'rm -rf "$work"' EXIT
-tar -c --exclude=./target --exclude=./rust/target --exclude=./.git . | tar -x -C "$work/repository" || exit
+tar -c --exclude=./target --exclude=./rust/target --exclude=./.git --exclude='./crates/*/out' . | tar -x -C "$work/repository" || exit
 
 # COMMAND: makes this folder a copy of the repository, in which what the command names, and what else it may change, is copied, and the rest are links.
 copy() {
@@ -73,9 +73,9 @@ of_contract() {
 exports | the contract of $name deleted | $name: its contract is not that of $call
     sed -i '$head{/^    ensures/,/^{/{/^{/!d}}' $file
 exports | $name given a requires | $name: its contract is not that of $call
-    sed -i '$head s/^    ensures/    requires { ⌜ ⊥ ⌝ }\n    ensures/' $file
+    sed -i '$head s/^    ensures/    requires { ⊥ }\n    ensures/' $file
 exports | the contract of $name with another way out | $name: its contract is not that of $call
-    sed -i '$head s/⌝ }/⊎ Unit {0} ⌝ }/' $file
+    sed -i '$head s/ }$/ ⊎ ⊤ }/' $file
 exports | the contract of $name that of another call | $name: its contract is not that of $call
     sed -i '$head s/($call /(Other$call /' $file
 END
@@ -85,7 +85,7 @@ of_contracts() {
     local file name
     while IFS=: read -r file name; do
         of_contract "$file" "$name"
-    done < <(grep -o 'pub extern "C" fn [a-z_]*' crates/burgee/src/*.rt | sed 's/pub extern "C" fn //')
+    done < <(grep -o 'pub extern "C" fn [a-z_]*' crates/burgee_c/src/*.rt | sed 's/pub extern "C" fn //')
 }
 
 # ---- of single places
@@ -93,55 +93,55 @@ of_contracts() {
 others() {
     cat <<'END'
 exports | a contract that says nothing | its contract is not that of TableCheck
-    sed -i 's/⌜ r ≡ word (TableCheck .*⌝/⌜ Unit {0} ⌝/' crates/burgee/src/lib.rt
+    sed -i 's/{ result ≡ word (TableCheck .*}/{ ⊤ }/' crates/burgee_c/src/lib.rt
 exports | arguments exchanged | its contract is not that of PathVerdict
-    sed -i '/PathVerdict/s/(now (origin .entry)) (now (path .entry))/(now (path .entry)) (now (origin .entry))/' crates/burgee/src/lib.rt
+    sed -i '/PathVerdict/s/origin.now path.now/path.now origin.now/' crates/burgee_c/src/lib.rt
 exports | one argument twice | its contract is not that of RpcVerdict
-    sed -i '/RpcVerdict/s/(now (identity .entry)) (now (path .entry))/(now (path .entry)) (now (path .entry))/' crates/burgee/src/policies.rt
+    sed -i '/RpcVerdict/s/identity.now path.now/path.now path.now/' crates/burgee_c/src/policies.rt
 exports | numbers of a record exchanged | its contract is not that of ProbeTree
-    sed -i '/ProbeTree (rec/s/«live_slot» «live_len»/«live_len» «live_slot»/' crates/burgee/src/probes.rt
+    sed -i '/ProbeTree (rec/s/live_slot live_len/live_len live_slot/' crates/burgee_c/src/probes.rt
 exports | nothing said of the buffer | its contract does not say what it leaves in out
-    sed -i '/fn burgee_path_read(/,/^{/{s/ensures .*/ensures { λ r. ⌜ r ≡ word (PathRead (now (text .entry)) (now (out .entry))) ⌝ }/; /^        ×/d}' crates/burgee/src/lib.rt
+    sed -i '/fn burgee_path_read(/,/^{/{s/ensures .*/ensures { result ≡ word (PathRead text.now out.old) }/; /^        ×/d}' crates/burgee_c/src/lib.rt
 exports | the buffer as it was lent | its contract does not say what it leaves in out
-    sed -i '/fn burgee_path_write(/,/^{/s/(out .exit)/(out .entry)/' crates/burgee/src/lib.rt
+    sed -i '/fn burgee_path_write(/,/^{/s/out.new/out.old/' crates/burgee_c/src/lib.rt
 exports | the store of an upload as it was lent | its contract does not say what it leaves in store
-    sed -i '/fn burgee_upload(/,/^{/s/(store .exit)/(store .entry)/' crates/burgee/src/records.rt
+    sed -i '/fn burgee_upload(/,/^{/s/store.new/store.old/' crates/burgee_c/src/records.rt
 exports | two clauses | its contract is not that of GroupCount
-    sed -i '/GroupCount (now/s/$/\n    ensures { λ r. ⌜ r ≡ 0 ⌝ }/' crates/burgee/src/lib.rt
+    sed -i '/word (GroupCount/s/$/\n    ensures { result ≡ 0 }/' crates/burgee_c/src/lib.rt
 exports | a comment in place of a contract | its contract is not that of PolicyCheck
-    sed -i '/PolicyCheck (now/s:^:// :' crates/burgee/src/policies.rt
-exports | another sign of equality | _≡_, which its contracts name, does not come from
-    sed -i 's/^ghost use mathlib.Core.Path.{_≡_};/ghost use mathlib.Core.Other.{_≡_};/' crates/burgee/src/lib.rt
+    sed -i '/word (PolicyCheck/s:^:// :' crates/burgee_c/src/policies.rt
+exports | another sign of equality | ◌≡◌, which its contracts name, does not come from
+    sed -i 's/^ghost use Rattle.std.specs.Prelude.{◌≡◌};/ghost use Rattle.std.specs.Other.{◌≡◌};/' crates/burgee_c/src/lib.rt
 exports | a sign of equality of our own | as it should not
-    sed -i 's/^ghost use mathlib.Core.Path.{_≡_};/ghost use Rattle·burgee·specs.specs.Word.{_≡_};/' crates/burgee/src/lib.rt
+    sed -i 's/^ghost use Rattle.std.specs.Prelude.{◌≡◌};/ghost use Rattle.burgee.specs.Word.{◌≡◌};/' crates/burgee_c/src/lib.rt
 exports | another definition as word | as it should not
-    sed -i 's/, word}/, before as word}/' crates/burgee/src/policies.rt
+    sed -i 's/, word}/, before as word}/' crates/burgee_c/src/policies.rt
 exports | word of another file | word, which its contracts name, does not come from
-    sed -i 's/, word};/};\nghost use Rattle·burgee·specs.specs.Word.{word};/' crates/burgee/src/policies.rt
+    sed -i 's/, word};/};\nghost use Rattle.burgee.specs.Word.{word};/' crates/burgee_c/src/policies.rt
 exports | a name brought in twice | as it should not
-    sed -i 's/^\(ghost use .*\){PolicyCheck, /\1{PolicyCheck, PolicyCheck, /' crates/burgee/src/policies.rt
+    sed -i 's/^\(ghost use .*\){PolicyCheck, /\1{PolicyCheck, PolicyCheck, /' crates/burgee_c/src/policies.rt
 exports | another product | as it should not
-    sed -i 's/^ghost use mathlib.Core.Path.{_≡_};/ghost use mathlib.Core.Path.{_≡_, _×_};/' crates/burgee/src/lib.rt
+    sed -i 's/^ghost use Rattle.std.specs.Prelude.{◌≡◌};/ghost use Rattle.std.specs.Prelude.{◌≡◌, ◌×◌};/' crates/burgee_c/src/lib.rt
 exports | a parameter that hides a name | its parameter word hides
-    sed -i '/fn burgee_policy_check(/,/^{/s/\bpolicy\b/word/' crates/burgee/src/policies.rt
+    sed -i '/fn burgee_policy_check(/,/^{/s/\bpolicy\b/word/' crates/burgee_c/src/policies.rt
 exports | a clause that is for the prover alone | `ghost` elsewhere than in a line
-    sed -i 's/^    ensures { λ r. ⌜ r ≡ word (TableCheck/    ghost { n : ℕ }\n&/' crates/burgee/src/lib.rt
+    sed -i 's/^    ensures { result ≡ word (TableCheck/    ghost { n : ℕ }\n&/' crates/burgee_c/src/lib.rt
 exports | a record and a store of which nothing is held | does not say: held
     sed -i 's/^held rec store = .*/held rec store = nothing/' crates/burgee/specs/Calls.antt
-exports | a record that is always on | does not say: recordOf
-    sed -i '/^recordOf kind/s/rotating = rotating/rotating = 1/' crates/burgee/specs/Calls.antt
+exports | a record that is always on | does not say: record_of
+    sed -i '/^record_of kind/s/rotating = rotating/rotating = 1/' crates/burgee/specs/Calls.antt
 exports | a loan without its record | does not say: pub record Loan
     sed -i '/^  pub rec : Option Record/d' crates/burgee/specs/Calls.antt
 exports | a word cut to its action | does not say: word
-    sed -i 's/^word c = outcome c .word/& % 2 ^ 16/' crates/burgee/specs/Calls.antt
+    sed -i 's/^word c = (outcome c).word/& % 2 ^ 16/' crates/burgee/specs/Calls.antt
 exports | a definition that goes on in the next line | does not say: after
-    sed -i 's/^after c = outcome c .after/&\n    .rec/' crates/burgee/specs/Calls.antt
+    sed -i 's/^after c = (outcome c).after/&\n    .rec/' crates/burgee/specs/Calls.antt
 exports | a constructor dropped | TreeVerdict: a call, but not among the constructors
     sed -i '/^  TreeVerdict : /d' crates/burgee/specs/Calls.antt
 exports | a declaration dropped | burgee_close: a call, but not among the declarations
     sed -i '/^uint64_t burgee_close(/d' include/burgee.h
 exports | an export dropped | burgee_start: not a call, but among the declarations
-    sed -i '/#\[no_mangle\]/{N; s/#\[no_mangle\]\npub extern "C" fn burgee_start(/pub fn burgee_start(/}' crates/burgee/src/records.rt
+    sed -i '/#\[unsafe(no_mangle)\]/{N; s/#\[unsafe(no_mangle)\]\npub extern "C" fn burgee_start(/pub fn burgee_start(/}' crates/burgee_c/src/records.rt
 exports | a constructor that is given less | is given
     sed -i 's/^  RpcVerdict : (policy identity path headers : Str)/  RpcVerdict : (policy identity path : Str)/' crates/burgee/specs/Calls.antt
 exports | a constructor's arguments exchanged | is given
@@ -149,11 +149,17 @@ exports | a constructor's arguments exchanged | is given
 exports | a constructor too many | Reset: not a call
     sed -i 's/^  Close : .*/&\n  Reset : (rec : Record) (store : Str) → PublicCall/' crates/burgee/specs/Calls.antt
 exports | an export too many | burgee_reset: a call, but not among
-    sed -i '$ s/$/\n\n#[no_mangle]\npub extern "C" fn burgee_reset(table: \&[u8]) -> u64\n    ensures { λ r. ⌜ r ≡ word (Reset (now (table .entry))) ⌝ }\n{\n    0\n}/' crates/burgee/src/lib.rt
+    sed -i '$ s/$/\n\n#[unsafe(no_mangle)]\npub extern "C" fn burgee_reset(table: \&[u8]) -> u64\n    ensures { result ≡ word (Reset table.now) }\n{\n    0\n}/' crates/burgee_c/src/lib.rt
 exports | an export of another crate | marks of exports
-    sed -i '$ s/$/\n\n#[no_mangle]\npub extern "C" fn burgee_reset() -> u64\n{\n    0\n}/' crates/text/src/lib.rt
+    sed -i '$ s/$/\n\n#[unsafe(no_mangle)]\npub extern "C" fn burgee_reset() -> u64\n{\n    0\n}/' crates/text/src/lib.rt
+exports | an export that calls another function | is not the call of its function of burgee
+    sed -i 's/burgee::burgee_tree_verdict(/burgee::burgee_path_verdict(/' crates/burgee_c/src/lib.rt
+exports | an export that calls its function on other arguments | is not the call of its function of burgee
+    sed -i 's/burgee_group_count(table, user)/burgee_group_count(user, table)/' crates/burgee_c/src/lib.rt
+exports | a function of the library that says less | burgee_close: its contract is not that of Close
+    sed -i '/fn burgee_close(/,/^{/s/ensures .*/ensures { (result ≡ 0)/' crates/burgee/src/records.rt
 exports | a function of C | marks of exports
-    sed -i '$ s/$/\n\nextern "C" { fn magic() -> u64 ensures { λ r. ⌜ r ≡ 8 ⌝ }; }/' crates/text/src/lib.rt
+    sed -i '$ s/$/\n\nunsafe extern "C" { safe fn magic() -> u64 ensures { result ≡ 8 }; }/' crates/text/src/lib.rt
 exports | a call that Rust does not try | among the calls of rust
     sed -i '/burgee_close/d' rust/src/boundary/rotation.rs
 exports | a row dropped | among the rows of docs/PROMISES.md
@@ -169,9 +175,9 @@ exports | no step's answer is read back | Upload: a call, but not among the call
 reading | a promise without one of its fields | this file changed: promises/Verdicts
     sed -i '/pub only : (a : Tree)/d' crates/promises/specs/Verdicts.antt
 reading | a definition that says something else | this file changed: verdict/Order
-    sed -i 's/more (definites (r .path)) (definites (s .path))/more (definites (s .path)) (definites (r .path))/' crates/verdict/specs/Order.antt
-reading | a promise that no longer speaks of a function which it determined | promises/Probes does not speak of probeTree
-    sed -i '/probeTree/d' crates/promises/specs/Probes.antt
+    sed -i 's/more (definites r.path) (definites s.path)/more (definites s.path) (definites r.path)/' crates/verdict/specs/Order.antt
+reading | a promise that no longer speaks of a function which it determined | promises/Probes does not speak of probe_tree
+    sed -i '/probe_tree/d' crates/promises/specs/Probes.antt
 exports | a row twice | two rows
     sed -i '/^| `burgee_tree_verdict`/p' docs/PROMISES.md
 promises | a crate named that is not there | policy_faults: a crate that docs/PROMISES.md names, but not there
@@ -187,21 +193,21 @@ promises | a promise without a proof | AnyBytes: nothing of crates/promises/proo
 promises | a file that states nothing | AnyBytes states no promise
     sed -i 's/^abbrev pub AnyBytes : Type 0/abbrev AnyBytes : Type 0/' crates/promises/specs/AnyBytes.antt
 promises | a theorem that is not public | Rpc: no theorem
-    sed -i 's/^  pub rpc-promise : /  rpc-promise : /' crates/promises/proofs/Rpc.antt
+    sed -i 's/^  pub rpc_promise : /  rpc_promise : /' crates/promises/proofs/Rpc.antt
 promises | a theorem of something else | AnyBytes: no theorem
-    sed -i 's/^pub any-bytes : AnyBytes/pub any-bytes : Unit {0}/' crates/promises/proofs/AnyBytes.antt
+    sed -i 's/^pub any_bytes : AnyBytes/pub any_bytes : ⊤/' crates/promises/proofs/AnyBytes.antt
 promises | a theorem that assumes more | Verdicts: no theorem
-    sed -i 's/^  pub tree-promise : /  pub tree-promise : (no : ⊥) → /' crates/promises/proofs/Verdicts.antt
+    sed -i 's/^  pub tree_promise : /  pub tree_promise : (no : ⊥) → /' crates/promises/proofs/Verdicts.antt
 promises | a section that assumes more | Groups: no theorem
     sed -i 's/^\(module _ (x user : Str) (ok .*\) where/\1 (no : ⊥) where/' crates/promises/proofs/Groups.antt
 promises | a section that assumes something else | Rpc: no theorem
-    sed -i 's/(fine : rpcRefusal identity path headers ≡ clear) where/(fine : rpcRefusal identity identity headers ≡ clear) where/' crates/promises/proofs/Rpc.antt
+    sed -i 's/(fine : rpc_refusal identity path headers ≡ clear) where/(fine : rpc_refusal identity identity headers ≡ clear) where/' crates/promises/proofs/Rpc.antt
 promises | a theorem of one case | Rotation: no theorem
-    sed -i 's/^pub rotation-promise : (l : Lent) (w : Whole l) → RotationPromise l w/pub rotation-promise : (l : Lent) (w : Whole l) → RotationPromise factory w/' crates/promises/proofs/Rotation.antt
+    sed -i 's/^pub rotation_promise : (l : Lent) (w : Whole l) → RotationPromise l w/pub rotation_promise : (l : Lent) (w : Whole l) → RotationPromise factory w/' crates/promises/proofs/Rotation.antt
 promises | a promise of another file under its name | AnyBytes: no theorem
     sed -i '/specs.AnyBytes/s/AnyBytes}/Weaker as AnyBytes}/' crates/promises/proofs/AnyBytes.antt
 promises | an assumption of another meaning | Verdicts: no theorem
-    sed -i 's/^use Rattle·table.specs.Text.{check, /use Rattle·table.specs.Other.{check, /' crates/promises/proofs/Verdicts.antt
+    sed -i 's/^use Rattle.table.specs.Text.{check, /use Rattle.table.specs.Other.{check, /' crates/promises/proofs/Verdicts.antt
 promises | an edit dropped | verdict/user_before_keys: named as one by docs/PROMISES.md, but not an edit
     rm crates/verdict/must-fail/user_before_keys.edit
 promises | an edit that the page does not name | text/prefix_same: an edit, but not named
@@ -229,25 +235,25 @@ assumptions | an axiom among proofs | an axiom
 assumptions | excluded middle | an axiom
     sed -i '1 s/^/use Prim.Axiom.{lem}\n/' crates/promises/proofs/Rpc.antt
 assumptions | a hole | a hole
-    sed -i 's/^any-bytes (TableCheck table) bad = refl/any-bytes (TableCheck table) bad = ?/' crates/promises/proofs/AnyBytes.antt
+    sed -i 's/^any_bytes (TableCheck table) bad = refl/any_bytes (TableCheck table) bad = ?/' crates/promises/proofs/AnyBytes.antt
 assumptions | code for another target | an attribute
-    sed -i 's/^mod word;/#[cfg(target = other)]\nmod word;/' crates/burgee/src/lib.rt
+    sed -i 's/^pub mod records;/#[cfg(target = other)]\npub mod records;/' crates/burgee_c/src/lib.rt
 assumptions | unsafe code | `unsafe`
-    sed -i 's/^pub extern "C" fn burgee_table_check/pub unsafe extern "C" fn burgee_table_check/' crates/burgee/src/lib.rt
+    sed -i 's/^pub extern "C" fn burgee_table_check/pub unsafe extern "C" fn burgee_table_check/' crates/burgee_c/src/lib.rt
 assumptions | a definition that rests on proofs | rests on a file of proofs
-    sed -i '1 s/^/use Rattle·text.proofs.Tests.{by}\n/' crates/verdict/specs/Verdict.antt
+    sed -i '1 s/^/use Rattle.text.proofs.Tests.{by}\n/' crates/verdict/specs/Verdict.antt
 assumptions | a contract that rests on proofs | rests on a file of proofs
-    sed -i 's/^ghost use Rattle·burgee·specs.specs.Calls/ghost use Rattle·rotation.proofs.Calls/' crates/burgee/src/probes.rt
-assumptions | an operator of the library declared anew | _≡_ is that of
-    sed -i '$ s/$/\n\nabbrev pub _≡_ : ℕ → ℕ → Type 0\nx ≡ y = Unit {0}/' crates/verdict/specs/Order.antt
-assumptions | an operator of another file | _≡_ is that of
-    sed -i 's/^use mathlib.Core.Path.{_≡_}/use mathlib.Core.Other.{_≡_}/' crates/promises/specs/Verdicts.antt
-assumptions | functions of C in the library | burgee reaches libc
+    sed -i 's/^ghost use Rattle.burgee.specs.Calls/ghost use Rattle.rotation.proofs.Calls/' crates/burgee_c/src/probes.rt
+assumptions | an operator of the library declared anew | ◌≡◌ is that of
+    sed -i '$ s/$/\n\nabbrev pub ◌≡◌ : ℕ → ℕ → Type 0\nx ≡ y = ⊤/' crates/verdict/specs/Order.antt
+assumptions | an operator of another file | ◌≡◌ is that of
+    sed -i 's/^use Rattle.std.specs.Prelude.{\(.*\)◌≡◌/use Rattle.std.specs.Other.{\1◌≡◌/' crates/promises/specs/Verdicts.antt
+assumptions | functions of C in the library | burgee_c reaches libc
     sed -i 's/^text_search: text/& libc/' crates.txt
 gate | a test left out of the gate | tests/limits.sh is no phase of .ci/run
     sed -i '/tests\/limits.sh/d' .ci/run
 gate | a contract deleted, as the gate sees it | its contract is not that of PathVerdict
-    sed -i '/⌜ r ≡ word (PathVerdict/d' crates/burgee/src/lib.rt
+    sed -i '/{ result ≡ word (PathVerdict/d' crates/burgee_c/src/lib.rt
 gate | no Python | python3
     mkdir alone && ln -s "$(command -v bash)" alone && sed -i 's/^export PYTHON.*/&; PATH=$PWD\/alone/' tests/exports.sh
 END

@@ -1,7 +1,7 @@
 #!/usr/bin/env bash
 # The C header, as hard as the library: tests/header.c and tests/header_wrappers.c try every constant, reader, wrapper and call, as C99 and as C++,
 # with all warnings as errors, and with sanitizers where the compiler has them. Each name that the header gives is named in those files; its words for
-# refusals are those of the command line; its declarations are the exported functions of crates/burgee.
+# refusals are those of the command line; its declarations are the exported functions of crates/burgee_c.
 # With an argument, the folder of another header: that one is tried, as C99 alone and without warnings. Status 1: it is wrong; 2: it does not compile.
 set -uo pipefail
 cd "$(dirname "$0")/.."
@@ -59,7 +59,7 @@ done
 
 # A slice is a pointer and a length in C.
 exported() {
-    cat crates/burgee/src/*.rt | tr -s '\n ' '  ' | grep -o 'pub extern "C" fn burgee_[a-z_]*([^)]*)' | sed '
+    cat crates/burgee_c/src/*.rt | tr -s '\n ' '  ' | grep -o 'pub extern "C" fn burgee_[a-z_]*([^)]*)' | sed '
         s/pub extern "C" fn /uint64_t /
         s/\([a-z_]*\): &mut \[u8\]/uint8_t *\1, size_t \1_len/g
         s/\([a-z_]*\): &\[u8\]/const uint8_t *\1, size_t \1_len/g

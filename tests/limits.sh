@@ -29,9 +29,9 @@ declared_constants() {
     sed 's://.*::' $programs | tr '\n' ' ' | tr ';' '\n' | sed -n 's/.*pub const \([A-Z_]*\): u[a-z0-9]* = \(.*\)$/\1 \2/p'
 }
 
-# A definition's name in capitals is the constant's: maxKeys, MAX_KEYS.
+# A definition's name in capitals is the constant's: max_keys, MAX_KEYS.
 declared_definitions() {
-    sed -n 's/^\([a-z][A-Za-z]* = ..*\)$/\1/p' $definitions | sed 's/[A-Z]/_&/g' | tr 'a-z' 'A-Z' | sed 's/ = / /'
+    sed -n 's/^\([a-z][a-z_]* = ..*\)$/\1/p' $definitions | tr 'a-z' 'A-Z' | sed 's/ = / /'
 }
 
 # Lines NAME EXPRESSION, each naming only what stands before it: lines NAME VALUE.
@@ -226,18 +226,14 @@ allowed() {
     cat <<'END'
 clear = 255             the definition of "no refusal number"
 leb 32 c                a byte that prints
-ltb c 32                a byte that does not
 within 32 126           the bytes that print
-r < 256                 a byte, a bucket
-r ≤ 255                 the same
+result < 256            a byte, a bucket
+result ≤ 255            the same
 b = [0u8; 4]            a number by chance
-digits = [0u8; 16]      the digits of a number, as io makes them
 b < 256                 a byte, a bucket
 ltb b 256               a byte
-hex: &[u8; 256]         a value for each byte
--> [u8; 256]            the same
+-> [u8; 256]            a value for each byte
 [16u8; 256]             the same
-g < 256                 a group's number as it is stored, in a byte
 n < 16                  a hex digit
 Puts 16                 a creation time has 16 digits
 then 16                 the same
@@ -248,22 +244,21 @@ return 32               the same
 STARTS: usize = 16384   a place's number has the start of its string in 14 bits: the layout of a word
 starts = 16384          the same
 word_at(b, 16)          where the record's fifth number stands
-numberAt b 16           the same
+number_at b 16          the same
 slot, 256)              a number's second byte, in the record's file; and so for each of its numbers
 kind, 256)
 len, 256)
 rotating, 256)
-byteOf n 256            the same
+byte_of n 256           the same
 HASHES: usize = 8192    how many hints the groups' names have: a size of its own
 hashes = 8192           the same
 Small s × (n < 256)     a count of elements, in a byte
 words < 4               arguments of the command line
 4 <= t.len() - i        four bytes a turn of a hash
-f.len() < 4             a rule's kind, action, mode and subject
-(pathText p) ≤ 13520    a promise says the rules' own number
-(pathText p) ≡ 13520    the same
-(pathBytes p) ≤ 9377    the same
-(pathBytes p) ≡ 9377    the same
+(path_text p) ≤ 13520   a promise says the rules' own number
+(path_text p) ≡ 13520   the same
+(path_bytes p) ≤ 9377   the same
+(path_bytes p) ≡ 9377   the same
 zeros 255               lines of a report, in an example
 END
 }

@@ -28,7 +28,7 @@ cd "$(dirname "$0")/.."
     for folder in crates/*/; do
         echo "folder $(basename "$folder") 0"
     done
-    sed -n 's/^\([a-z0-9_]*\):/crate \1/p' crates.txt
+    sed -n 's/^\([a-z0-9_]*\)\( staticlib\)\{0,1\}:/crate \1 /p' crates.txt
 } | awk '
     function fail(text) { print text; status = 1 }
     $1 != "crate" {

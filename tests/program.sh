@@ -6,27 +6,31 @@ cd "$(dirname "$0")/.."
 work=$(mktemp -d)
 trap 'chmod -R u+w "$work"; rm -rf "$work"' EXIT
 here=$work/here
-mkdir -p "$here/bin" "$here/crates/cli/src" "$work/tools"
+mkdir -p "$here/bin" "$here/tools" "$here/crates/cli/src" "$work/tools"
 cp bin/burgee "$here/bin"
+cp tools/build.sh "$here/tools"
 printf 'below:\ncli: below\nother: below\n' >"$here/crates.txt"
 echo one >"$here/crates/cli/src/main.rt"
 echo kit >"$here/toolchain.txt"
 
 cat >"$work/tools/rt" <<'RT'
 #!/bin/sh
-# Stands in for rt check cli.
-[ "$*" = 'check cli' ] || exit 2
+# Stands in for rt run -- version in crates/cli.
+[ "$*" = 'run -- version' ] && [ "${PWD##*/}" = cli ] && cd ../.. || exit 2
 cat >/dev/null # nothing is left of standard input, were it handed on
 said=$(cat crates/*/src/*.rt toolchain.txt | tr '\n' ' ')
 echo "$$" >>../builds
 sleep "$(cat ../slow 2>/dev/null || echo 0)"
 if [ -e ../broken ]; then
-    echo 'rt: cli NOT PROVED (exit 1, 0 s)'
+    echo 'rt: the library below did not build, so nothing above it was checked' >&2
     exit 1
 fi
-echo 'rt: below proved (unchanged since it was last proved)'
-echo 'rt: cli proved (7 s)'
-mkdir -p target/bin
+for crate in below cli; do
+    echo "crate $crate: modules loaded=1 checked=0" >&2
+    echo 'logic=proved functions=7 sum=0' >&2
+done
+echo 'a version'
+mkdir -p crates/cli/out
 {
     printf '#!/bin/sh\necho %s\ncase ${1:-} in\n' "$said"
     printf 'read) cat ;;\n'
@@ -36,8 +40,8 @@ mkdir -p target/bin
     printf 'killed) kill -SEGV $$ ;;\n'
     printf 'failed) exit 101 ;;\n'
     printf 'esac\n'
-} >target/bin/cli
-chmod +x target/bin/cli
+} >crates/cli/out/cli
+chmod +x crates/cli/out/cli
 RT
 chmod +x "$work/tools/rt"
 export PATH="$work/tools:$PATH"
@@ -80,7 +84,7 @@ silent() {
 # A first build says what it does, and how far it is; then it is silent.
 expect 0 'one kit' 1
 complained_of 'not built yet: of its 2 crates'
-complained_of '^burgee: proved crate 2 of 2: cli (7 s)$'
+complained_of '^burgee: proved crate 2: cli, functions: 7$'
 complained_of '^burgee: it is built$'
 expect 0 'one kit' 1
 silent
@@ -122,23 +126,33 @@ expect 0 'five another' 9
 # A program that was removed.
 rm "$here/target/burgee/program"
 expect 0 'five another' 10
+# What tools/build.sh built of the sources as they are is taken; what it built of others is not, nor a build that something is done to.
+rm "$here/target/burgee/program"
+expect 0 'five another' 10
+complained_of '^burgee: it is built$'
+echo 'between' >"$here/crates/cli/src/main.rt"
+sh "$here/tools/build.sh" cli 2>"$work/complaint"
+expect 0 'between another' 11
+expect 0 'between another' 11
+echo five >"$here/crates/cli/src/main.rt"
+expect 0 'five another' 12
 
 # A build that fails: told, each time, and what was built before is not run.
 touch "$work/broken"
 echo six >"$here/crates/cli/src/main.rt"
-expect 3 '' 11
-complained_of 'NOT PROVED'
+expect 3 '' 13
+complained_of 'did not build'
 complained_of 'it cannot be built'
-expect 3 '' 12
+expect 3 '' 14
 # Back to what was built before: it is built again, and is right.
 rm "$work/broken"
 echo five >"$here/crates/cli/src/main.rt"
-expect 0 'five another' 13
+expect 0 'five another' 15
 # There is no rt.
 echo seven >"$here/crates/cli/src/main.rt"
 mkdir "$work/few"
 for name in sh find sha256sum sort cat readlink dirname touch rm mv wc; do ln -s "$(command -v $name)" "$work/few"; done
-PATH=$work/few expect 3 '' 13
+PATH=$work/few expect 3 '' 15
 complained_of 'rt, the Rattle toolchain, is not in the PATH'
 
 # Two calls at once: one builds, the other waits for it.
@@ -146,29 +160,29 @@ echo 1 >"$work/slow"
 for i in 1 2 3; do "$burgee" >"$work/said.$i" 2>/dev/null & done
 wait
 [ "$(cat "$work"/said.*)" = "$(printf 'seven another\n%.0s' 1 2 3)" ] || { echo 'calls at once: not all are right'; status=1; }
-expect 0 'seven another' 14
-# A build that is cut off is no build: the next call waits for what is left of it, and builds.
+expect 0 'seven another' 16
+# A call that is cut off: the next one waits for what is left of its build, and takes that.
 echo cut >"$here/crates/cli/src/main.rt"
 "$burgee" >"$work/said.1" 2>&1 &
-begun 15
+begun 17
 kill $!
-expect 0 'cut another' 16
+expect 0 'cut another' 17
 # A source that changes while it is built: the next call builds again.
 echo before >"$here/crates/cli/src/main.rt"
 "$burgee" >"$work/said.1" 2>&1 &
-begun 17
+begun 18
 echo during >"$here/crates/cli/src/main.rt"
 wait
-expect 0 'during another' 18
+expect 0 'during another' 19
 rm "$work/slow"
 # A find that does not know -files0-from: by the sum of the sources, each time.
 mkdir "$work/older"
 printf '#!/bin/sh\ncase $* in *files0-from*) exit 1 ;; esac\nexec %s "$@"\n' "$(command -v find)" >"$work/older/find"
 chmod +x "$work/older/find"
-PATH=$work/older:$PATH expect 0 'during another' 18
+PATH=$work/older:$PATH expect 0 'during another' 19
 silent
 echo older >"$here/crates/cli/src/main.rt"
-PATH=$work/older:$PATH expect 0 'older another' 19
+PATH=$work/older:$PATH expect 0 'older another' 20
 
 # A build leaves standard input alone.
 echo eight >"$here/crates/cli/src/main.rt"
@@ -181,19 +195,19 @@ ln -s ../here/bin/burgee "$work/links/relative"
 ln -s relative "$work/links/burgee"
 ln -s "$here/bin" "$work/folder"
 for link in links/whole links/relative links/burgee folder/burgee; do
-    burgee=$work/$link expect 0 'eight another' 20
+    burgee=$work/$link expect 0 'eight another' 21
     silent
 done
 [ "$(cd "$work/links" && PATH=$work/links:$PATH burgee)" = 'eight another' ] || { echo 'not by a link in the PATH'; status=1; }
 [ "$(cd "$here/bin" && sh burgee)" = 'eight another' ] || { echo 'not from its own folder'; status=1; }
 
 # The exit status is the program's; that of a program that does not end well is 3.
-expect 1 'eight another' 20 refused
-expect 2 'eight another' 20 complained
-expect 3 'eight another' 20 broken
+expect 1 'eight another' 21 refused
+expect 2 'eight another' 21 complained
+expect 3 'eight another' 21 broken
 complained_of 'did not end as it should'
-expect 3 'eight another' 20 killed
-expect 3 'eight another' 20 failed
+expect 3 'eight another' 21 killed
+expect 3 'eight another' 21 failed
 
 # A folder that cannot be written, and is built: it works, though chmod changes the status of every file; and once its sources have changed it is told.
 chmod -R a-w "$here"

@@ -20,6 +20,10 @@ HELPERS = {"Lib", "First"}
 # folders of the repository and of crates
 FOLDERS = ["bin", "crates", "docs", "examples", "include", "must-fail", "proofs", "rust", "specs", "src", "tests", "tools"]
 
+# the library has a name in several modules: definitions take it from one of them, proofs from another
+LIBRARY = "the library"
+OWN = {path.name for path in Path("crates").iterdir()}
+
 failures = []
 
 
@@ -36,11 +40,15 @@ def same(names, what, others, where):
 # ---- what is stated, and what is proved
 
 
+def is_own(module):
+    return module.startswith("Rattle.") and module.split(".")[1] in OWN
+
+
 class File:
     """A file of antt: where its names come from, and its declarations as pairs of a text and the parameters of the sections that it stands in."""
 
     def __init__(self, folder, name):
-        self.module = f"Rattle·promises·{folder}.{folder}.{name}"
+        self.module = f"Rattle.promises.{folder}.{name}"
         text = definitions(f"crates/promises/{folder}/{name}.antt")
         self.imported = {name: (module, there) for name, module, there in imports(text)}
         self.declared, self.own = [], set()
@@ -72,9 +80,10 @@ class File:
 
     def source(self, name):
         """Where a name comes from."""
-        for known in (name, f"_{name}_", name.split(".")[0]):
+        for known in (name, f"◌{name}◌", name.split(".")[0]):
             if known in self.imported:
-                return self.imported[known]
+                module, there = self.imported[known]
+                return module if is_own(module) else LIBRARY, there
             if known in self.own:
                 return self.module, known
         return None
@@ -161,16 +170,18 @@ def try_files(page):
 
 
 def try_crates():
-    listed = set(re.findall(r"^(\w+):", Path("crates.txt").read_text(encoding="utf-8"), re.M))
+    listed = set(re.findall(r"^(\w+)(?: staticlib)?:", Path("crates.txt").read_text(encoding="utf-8"), re.M))
     same(listed | {"promises"}, "a crate", {path.parent.name for path in Path("crates").glob("*/src")} & listed, "proved")
     same(listed, "in crates.txt", {path.name for path in Path("crates").iterdir() if path.is_dir()}, "a folder of crates/")
 
 
 def try_named_crates(page):
-    """A word of the page that begins as crates do, and is no exported call, is a crate."""
+    """A word of the page that begins as crates do, and is no exported call, nor a definition or a theorem, is a crate."""
     crates = {path.name for path in Path("crates").iterdir()}
     rooms = {crate.split("_")[0] for crate in crates}
-    for name in sorted(set(re.findall(r"`([a-z]+(?:_[a-z]+)+)`", page)) - crates):
+    texts = [definitions(path) for part in ("specs", "proofs") for path in Path("crates").glob(f"*/{part}/*.antt")]
+    named = {name for text in texts for name in re.findall(r"^ *(?:unfoldable |abbrev )*(?:pub )?([^\s:(){}]+) :", text, re.M)}
+    for name in sorted(set(re.findall(r"`([a-z]+(?:_[a-z]+)+)`", page)) - crates - named):
         if name.split("_")[0] in rooms and not name.startswith("burgee_"):
             fail(f"{name}: a crate that {PAGE} names, but not there")
 

@@ -1,5 +1,7 @@
 """Proof files as text: answers, the places that they cite, and the one form in which both are written.
 
+Of the older kit, as tools/prove.py, which uses it: today's proof files are Invariants.antt and Answers.antt, and cite facts by name.
+
 A proof file is blocks with a blank line between them. An answer is a block `NAME : ..Need-X ..`, perhaps `unfolding ..`, then `NAME c = BODY`
 (or `c κs`, `t c`). Its body cites facts of the places on the way to the need: `c` is the nearest place, `c .before` the one before it, and so
 on back to the start. A place has one thing, a field named after what happened there: `.loop`, `.if1`, `.string-end2`.

@@ -1,7 +1,7 @@
 #!/usr/bin/env python3
 """before_after.py OLD NEW [ROUNDS]: the benchmarks of two checkouts, run in turn in one go, compared row by row.
 
-OLD and NEW are checkouts of this repository in which `rt staticlib burgee` was run. Their benchmarks are built, then run alternately (5 rounds
+OLD and NEW are checkouts of this repository in which `tools/build.sh library` was run. Their benchmarks are built, then run alternately (5 rounds
 unless told otherwise); of each row the proved library's best time counts. Prints every row with its ratio new/old, the dearest last, and ends with status 1
 where a row is more than 3 % slower than before. Rows below 100 ns are noisy: look twice before you believe them.
 """

@@ -8,7 +8,7 @@
 
 The sums are there so that no definition and no promise changes unseen: whoever changes one changes its line of tests/believed.txt too.
 
-It goes by names: from the names in the `ensures` of each exported function of `burgee`, and from every definition of `promises/specs`, through
+It goes by names: from the names in the `ensures` of each exported function of `burgee_c`, and from every definition of `promises/specs`, through
 `use` lines to definitions, and on from the names in these. Lines of code are those that are neither blank nor comments; `use` lines
 are not counted. A name that is also that of a variable may reach too much, never too little.
 
@@ -22,27 +22,27 @@ import sys
 
 # a function's file and name, the page of promises that speaks of it, and the promises that say what it answers, for each input that occurs
 DETERMINED = {
-    ("path_read/TextReader", "readText"): ("PathReturn", ["PathReturn"]),
+    ("path_read/TextReader", "read_text"): ("PathReturn", ["PathReturn"]),
     ("json_grammar/Parser", "parse"): ("Json", ["JsonPromise"]),
     ("path_read/Calls", "answer"): ("PathReturn", ["FillPromise"]),
     ("path_read/Calls", "lent"): ("PathReturn", ["FillPromise", "AnyBytes", "Leaves", "Words"]),
-    ("table/Group", "groupCount"): ("Groups", ["GroupPromise", "CountRefusals"]),
+    ("table/Group", "group_count"): ("Groups", ["GroupPromise", "CountRefusals"]),
     ("verdict/Verdict", "tree"): ("Verdicts", ["TreePromise"]),
-    ("verdict_request/Calls", "pathVerdict"): ("Verdicts", ["PathPromise", "VerdictRefusals"]),
-    ("verdict_request/Calls", "treeVerdict"): ("Verdicts", ["TreePromise", "VerdictRefusals"]),
-    ("log/Log", "checkLog"): ("Season", ["ReportAnswers"]),
-    ("season/Calls", "seasonAnswer"): ("Season", ["ReportAnswers"]),
-    ("season/Calls", "seasonLent"): ("Season", ["ReportAnswers"]),
-    ("rpc/Call", "rpcVerdict"): ("Rpc", ["RpcPromise", "RpcRefusals"]),
+    ("verdict_request/Calls", "path_verdict"): ("Verdicts", ["PathPromise", "VerdictRefusals"]),
+    ("verdict_request/Calls", "tree_verdict"): ("Verdicts", ["TreePromise", "VerdictRefusals"]),
+    ("request_log/Log", "check_log"): ("Season", ["ReportAnswers"]),
+    ("season/Calls", "season_answer"): ("Season", ["ReportAnswers"]),
+    ("season/Calls", "season_lent"): ("Season", ["ReportAnswers"]),
+    ("rpc/Call", "rpc_verdict"): ("Rpc", ["RpcPromise", "RpcRefusals"]),
     ("rotation/Machine", "answers"): ("Rotation", ["StepPromise", "RotationPromise"]),
     ("rotation/Machine", "leaves"): ("Rotation", ["StepPromise"]),
-    ("rotation_probe/Probe", "probePath"): ("Probes", ["Answers", "TableProbePromise"]),
-    ("rotation_probe/Probe", "probeTree"): ("Probes", ["Answers", "TableProbePromise"]),
-    ("rotation_probe/Rpc", "probeRpc"): ("Probes", ["Answers", "PolicyProbePromise"]),
+    ("rotation_probe/Probe", "probe_path"): ("Probes", ["Answers", "TableProbePromise"]),
+    ("rotation_probe/Probe", "probe_tree"): ("Probes", ["Answers", "TableProbePromise"]),
+    ("rotation_probe/Rpc", "probe_rpc"): ("Probes", ["Answers", "PolicyProbePromise"]),
     ("burgee/Calls", "outcome"): ("Words", ["Words", "Leaves"]),
 }
 # of these not even those who compare definitions read the bodies: they are parsers
-PARSERS = {("path_read/TextReader", "readText"), ("json_grammar/Parser", "parse")}
+PARSERS = {("path_read/TextReader", "read_text"), ("json_grammar/Parser", "parse")}
 DECLARED = re.compile(r"^ *(unfoldable |abbrev |pub (record|data) |(record|data) \S.* where$)")
 PLAIN = re.compile(r"^ *pub \S+ :")
 NAME = re.compile(r"^ *(?:unfoldable |abbrev )?(?:pub )?(?:(record|data) )?([^\s:(){}]+)")
@@ -56,10 +56,10 @@ def words(text):
 def mentions(name, tokens):
     if name in tokens:
         return True
-    if name in ("_>>=_", "_>>_"):
-        return "do" in tokens or name.strip("_") in tokens
-    parts = [p for p in name.split("_") if p]
-    return "_" in name and bool(parts) and all(p in tokens for p in parts)
+    if name in ("◌>>=◌", "◌>>◌"):
+        return "do" in tokens or name.strip("◌") in tokens
+    parts = [p for p in name.split("◌") if p]
+    return "◌" in name and bool(parts) and all(p in tokens for p in parts)
 
 
 def uncommented(line):
@@ -68,12 +68,12 @@ def uncommented(line):
 
 def file_of(module, crates="crates"):
     """The file of a module named in a `use` line; None for the libraries; a declared type is `crate:Type`."""
-    m = re.match(r"Rattle·([a-z0-9_]+?)(?:·specs)?\.specs\.(.+)$", module)
-    if not m:
+    m = re.match(r"Rattle\.([a-z0-9_]+)\.specs\.(.+)$", module)
+    if not m or not os.path.isdir(os.path.join(crates, m.group(1))):
         return None
     crate, path = m.groups()
     if path.startswith("declared."):
-        parts = [p for p in path.split(".")[1:] if p != "the-variants"]
+        parts = [p for p in path.split(".")[1:] if p != "TheVariants"]
         return f"{crate}:{parts[-1]}"
     return os.path.join(crates, crate, "specs", *path.split(".")) + ".antt"
 
@@ -127,7 +127,7 @@ def load():
 
 def contracts():
     """Pairs of a module and a name that the `ensures` of exported functions mention."""
-    for path in sorted(glob.glob("crates/burgee/src/**/*.rt", recursive=True)):
+    for path in sorted(glob.glob("crates/burgee_c/src/**/*.rt", recursive=True)):
         text = open(path, encoding="utf-8").read()
         named = {}
         for line in text.split("\n"):

@@ -36,19 +36,6 @@ def minutes(seconds):
     return f"{seconds // 60} min {seconds % 60} s" if seconds >= 60 else f"{seconds} s"
 
 
-def told(items):
-    return ", ".join(items[:-1]) + " and " + items[-1]
-
-
-def grid(checks):
-    """Four crates to a line."""
-    rows = ["| crate | s | crate | s | crate | s | crate | s |", "|---|---:|---|---:|---|---:|---|---:|"]
-    for k in range(0, len(checks), 4):
-        four = [f"{name} | {s}" for name, s in checks[k:k + 4]] + [" | "] * (k + 4 - len(checks))
-        rows.append("| " + " | ".join(four) + " |")
-    return "\n".join(rows)
-
-
 def fill(log, run):
     text, found = read(log), dict(tables(run))
     if not found:
@@ -57,21 +44,20 @@ def fill(log, run):
     bad = [name for name, _, status in phases if status != "0"]
     if bad or not phases:
         sys.exit(f"{log} is not of a gate that passed: {', '.join(bad) or 'it has no phases'}")
-    checks = [(name, int(s)) for name, s in re.findall(r"^rt: ([a-z0-9_]+) proved \((\d+) s\)$", text.split("phase: proofs")[0], re.M)]
-    edits = [(name, int(s)) for name, s in re.findall(r"^rt: must-fail ([a-z0-9_/]+): refused.*; (\d+) s\)$", text, re.M)]
+    edits = re.findall(r"^rt: must-fail ([a-z0-9_/]+)\.edit: refused", text, re.M)
+    done = re.findall(r"^rt: ok; .*; (done in this run: .*|every proof .*)$", text, re.M)
+    if not done:
+        sys.exit(f"{log} has no line of rt ci that all is well")
     ratios = {title: [float(cells(line)[5]) for line in lines[2:] if len(cells(line)) == 6] for title, lines in found.items()}
     over = [f"`{cells(line)[0]}` {cells(line)[5]} ({title})" for title, lines in found.items() for line in lines[2:] if len(cells(line)) == 6 and float(cells(line)[5]) > 1.5]
-    dearest = sorted(checks, key=lambda c: -c[1])[:5]
     values = {
         "tables": "\n\n".join(f"## {title}\n\n" + "\n".join(lines) for title, lines in found.items()),
         "above 1.5": "stand " + "; ".join(over) if over else "there is no row",
         "gate": minutes(sum(int(s) for _, s, _ in phases)),
         "phases": ", ".join(f"{name} {s} s" for name, s, _ in phases),
         "proofs": minutes(int(dict((name, s) for name, s, _ in phases)["proofs"])),
-        "crates": grid(checks),
+        "done": done[-1],
         "count of edits": str(len(edits)),
-        "edits": ", ".join(f"`{name}` {s} s" for name, s in sorted(edits, key=lambda e: -e[1])[:5]),
-        "dearest": told([f"`{name}` ({s} s)" for name, s in dearest]),
     }
     for title, numbers in ratios.items():
         if numbers:

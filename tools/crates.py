@@ -5,12 +5,16 @@
                         and each line that stands above one that it needs; exits 1 where there is something to mend
 
 A crate that no file names may still be needed: a type may be reached through another crate's function. So those are told, and not taken away:
-try without, by `rt dev`.
+try without, by `rt check` in its folder.
 """
 import glob
 import os
 import re
 import sys
+
+
+# what no line of crates.txt names
+LIBRARY = {"std", "core"}
 
 
 def read_lines():
@@ -20,20 +24,20 @@ def read_lines():
 
 def listed(lines):
     """{crate: the crates of its line}, in the file's order."""
-    return {n: d.split() for n, _, d in (line.partition(":") for line in lines if line.strip() and not line.startswith("#"))}
+    return {n.split()[0]: d.split() for n, _, d in (line.partition(":") for line in lines if line.strip() and not line.startswith("#"))}
 
 
 def named_by(crate, crates):
-    """The crates that the files of a crate name, by `Rattle·NAME` or in programs by `NAME::`."""
+    """The crates that the files of a crate name, by `Rattle.NAME` or in programs by `NAME::`."""
     found = set()
     for path in glob.glob(f"crates/{crate}/s*/**/*", recursive=True) + glob.glob(f"crates/{crate}/proofs/**/*", recursive=True):
         if os.path.isfile(path):
             with open(path, encoding="utf-8") as f:
                 text = f.read()
-            found |= set(re.findall(r"Rattle·([a-z_0-9]+)\b", text))
+            found |= set(re.findall(r"\bRattle\.([a-z_0-9]+)\b", text))
             if path.endswith(".rt"):
                 found |= named_in_program(re.sub(r"//.*", "", text))
-    return found & crates - {crate}
+    return found & crates - {crate} - LIBRARY
 
 
 def named_in_program(text):
@@ -59,7 +63,8 @@ def main(write):
                 print(f"{crate}: no file names {d}")
         if missing and write:
             deps = sorted({*deps, *missing}, key=lambda d: (order.get(d, len(order)), d))
-            lines[next(k for k, line in enumerate(lines) if line.startswith(crate + ":"))] = f"{crate}: {' '.join(deps)}"
+            k = next(k for k, line in enumerate(lines) if re.match(rf"{crate}( staticlib)?:", line))
+            lines[k] = f"{lines[k].partition(':')[0]}: {' '.join(deps)}"
     wrong += [f"{n}: stands in crates/ and not in crates.txt" for n in sorted(os.listdir("crates")) if os.path.isdir(f"crates/{n}/src") and n not in needs]
     print("\n".join(wrong) or "crates.txt has what the files use")
     if write:

@@ -63,18 +63,21 @@ def believed(root):
     return f"{commas(sum(counts))} in {sum(n > 0 for n in counts)} files"
 
 
+ANSWERS = ("Proof.antt", "Answers.antt", "Invariants.antt")
+
+
 def sources(root):
     src = files(root, "src/**/*.rt")
     specs = [p for p in files(root, "specs/**/*.antt") if os.path.basename(p) != "Lib.antt"]
     proofs = [p for p in files(root, "proofs/**/*.antt") if os.path.basename(p) != "Lib.antt"]
-    answers = [p for p in proofs if os.path.basename(p) == "Proof.antt"]
-    laws = [p for p in proofs if os.path.basename(p) != "Proof.antt"]
-    yield "crates", commas(sum(bool(re.match(r"[a-z0-9_]+:", line)) for line in lines(os.path.join(root, "crates.txt"))))
+    answers = [p for p in proofs if os.path.basename(p) in ANSWERS]
+    laws = [p for p in proofs if os.path.basename(p) not in ANSWERS]
+    yield "crates", commas(sum(bool(re.match(r"[a-z0-9_]+( staticlib)?:", line)) for line in lines(os.path.join(root, "crates.txt"))))
     yield "lines of programs (`src`)", commas(code(src))
     yield "lines of definitions (`specs`)", commas(code(specs))
     yield "of them to be believed", believed(root)
     yield "lines of laws (`proofs`)", commas(code(laws))
-    yield "lines of answers (`Proof.antt`)", commas(code(answers))
+    yield "lines of answers (`Answers.antt`, `Invariants.antt`; once `Proof.antt`)", commas(code(answers))
     yield "`let at-` lines in answers", commas(sum(line.strip().startswith("let at-") for p in answers for line in lines(p)))
     yield "`.before` in answers", commas(sum(line.count(".before") for p in answers for line in lines(p)))
     loops = [(above, line) for p in answers for above, line in zip([""] + lines(p), lines(p)) if re.match(r"abbrev Inv-\S+ :", line)]
@@ -84,8 +87,8 @@ def sources(root):
         group = [p for p in group if not p.startswith(os.path.join(root, "crates", "limits") + os.sep)]
         found = [sum(len(re.findall(r"(?<![\w.])(?:%s)(?!\w)" % "|".join(map(str, KEY_SIZES)), line)) for line in lines(p) if is_code(line)) for p in group]
         yield f"sizes that follow from the limit of keys as literals, {name}", f"{commas(sum(found))} in {sum(n > 0 for n in found)} files"
-    widest, many = over(src + specs, 160)
-    yield "widest line of `src`, `specs`; lines over 160", f"{commas(widest)}; {commas(many)}"
+    widest, many = over(src + specs, 165)
+    yield "widest line of `src`, `specs`; lines over 165", f"{commas(widest)}; {commas(many)}"
     widest, many = over(proofs, 300)
     yield "widest line of `proofs`; lines over 300", f"{commas(widest)}; {commas(many)}"
 
@@ -102,10 +105,9 @@ def gate(log):
     if "lines" in phases:
         yield "`.ci/run`", minutes(sum(phases.values()))
     yield "functions proved", commas(len(set(re.findall(r"^fn (\S+): proved$", text.split("phase: proofs")[0], re.M))))
-    checks = [(int(s), name) for name, s in re.findall(r"^rt: ([a-z0-9_]+) proved \((\d+) s\)$", text.split("phase: proofs")[0], re.M)]
-    edits = [(int(s), name) for name, s in re.findall(r"^rt: must-fail ([a-z0-9_/]+): refused.*; (\d+) s\)$", text, re.M)]
-    yield "seconds of checks, of edits, added up", f"{commas(sum(s for s, _ in checks))}, {commas(sum(s for s, _ in edits))}"
-    yield "the five dearest crates", ", ".join(f"`{name}` {s} s" for s, name in sorted(checks, reverse=True)[:5])
+    done = re.findall(r"^rt: ok; .*; (done in this run: .*|every proof .*)$", text, re.M)
+    if done:
+        yield "of that", done[-1]
     last = re.findall(r"^\d+ passed, \d+ failed$", text, re.M)
     if last:
         yield "its last line", last[-1]

@@ -1,4 +1,4 @@
-"""What `rt goals` writes of a function: its needs in order, and the places on the way to each."""
+"""What `rt goals` writes of a function: its needs in order, and the places on the way to each. Of the older kit, as tools/prove.py, which uses it."""
 import glob
 import os
 import re

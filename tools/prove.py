@@ -1,6 +1,8 @@
 #!/usr/bin/env python3
 """Takes the counting out of proof files. Run it at the top of the repository.
 
+Of the older kit, and kept for who reads the history: it works on proof files (Proof.antt) and by commands (`rt dev`, `rt goals`) that today's rt does not have.
+
     prove.py dev CRATE [WORDS..]           rt dev, shortened; the proof files that it offers are written where none stands yet
     prove.py things CRATE FUNCTION         for each need: the things on the way to it, nearest first, with their fields
     prove.py fill CRATE FUNCTION [FILE]    puts answers into an offered proof file: lines `NAME := BODY` (a body may go on in indented lines;

@@ -1,7 +1,7 @@
 #!/usr/bin/env python3
 """rename_crate.py OLD=NEW ..: renames crates, all at once. Run it at the top of the repository.
 
-Moves crates/OLD to crates/NEW and rewrites what names it: `Rattle·OLD` in antt files and ghost lines, `OLD::` and `use OLD::` in programs (where
+Moves crates/OLD to crates/NEW and rewrites what names it: `Rattle.OLD` in antt files and ghost lines, `OLD::` and `use OLD::` in programs (where
 OLD is a crate there and not a module of the crate's own), the lines of crates.txt and of must-fail edits. Documents, scripts and tests
 name crates in backquotes, as `crates/OLD`, `OLD/specs` or after `rt`: these are rewritten too, and the rest is listed for a look.
 """
@@ -17,7 +17,7 @@ def crates():
     for line in open("crates.txt", encoding="utf-8"):
         name, colon, used = line.split("#")[0].partition(":")
         if colon:
-            listed[name.strip()] = used.split()
+            listed[name.split()[0]] = used.split()
     return listed
 
 
@@ -26,7 +26,7 @@ def in_antt(text, names):
     def new(match):
         return match.group(1) + names.get(match.group(2), match.group(2))
 
-    text = re.sub(r"(Rattle·)([a-z_0-9]+)(?=[.·])", new, text)
+    text = re.sub(r"(\bRattle\.)([a-z_0-9]+)(?=\.)", new, text)
     text = re.sub(r"((?<![\w/]))([a-z_0-9]+)(?=/(?:specs|proofs|src)/|/[A-Z]\w*\))", new, text)
     return re.sub(r"(`)([a-z_0-9]+)(?=::\w+::\w+`)", new, text)
 
@@ -78,7 +78,7 @@ def in_document(text, names):
     one = "|".join(sorted(names, key=len, reverse=True))
     text = re.sub(rf"(?<![\w/])(crates/)({one})(?![\w])", lambda m: m.group(1) + names[m.group(2)], text)
     text = re.sub(rf"`({one})(?=`|/specs|/proofs|/src|::|/[a-z_]+`)", lambda m: "`" + names[m.group(1)], text)
-    text = re.sub(rf"(?<![\w/])(rt (?:dev|check|staticlib|try) )({one})(?![\w])", lambda m: m.group(1) + names[m.group(2)], text)
+    text = re.sub(rf"(?<![\w/])((?:rt (?:ci|must-fail)|tools/build.sh) )({one})(?![\w])", lambda m: m.group(1) + names[m.group(2)], text)
     return re.sub(rf"(?<=[(, ])`?({one})(?=/(?:specs|must-fail)/)", lambda m: m.group(0).replace(m.group(1), names[m.group(1)]), text)
 
 

@@ -1,4 +1,4 @@
-"""The names that `use` lines bring, and which of them a file mentions."""
+"""The names that `use` lines bring, and which of them a file mentions. (`rt tidy` drops those that a proved crate does not need.)"""
 import re
 
 BRINGS = re.compile(r"^((?:ghost )?use [^\s{]+\.\{)([^}]*)(\};?)$", re.M)

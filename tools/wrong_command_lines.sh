@@ -198,7 +198,7 @@ compile() {
 run() {
     local as=()
     mkdir "$1/rt"
-    printf '#!/bin/sh\nmkdir -p target/bin && cp %s target/bin/cli && echo "rt: cli proved (0 s)"\n' "$1/program" >"$1/rt/rt"
+    printf '#!/bin/sh\nmkdir -p out && cp %s out/cli\n' "$1/program" >"$1/rt/rt"
     chmod +x "$1/rt/rt"
     mkdir "$1/here/target"
     if [ "$(id -u)" -eq 0 ] && cmp -s bin/burgee "$1/here/bin/burgee"; then

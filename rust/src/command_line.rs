@@ -30,7 +30,7 @@ pub fn burgee_saying(said: &str, words: &[&[u8]], input: &[u8]) -> String {
         .stdout(Stdio::piped())
         .stderr(Stdio::piped())
         .spawn()
-        .expect("target/bin/cli, which `rt check cli` builds");
+        .expect("target/bin/cli, which `tools/build.sh cli` builds");
     // It may end before it has read all.
     let _ = child.stdin.take().expect("piped").write_all(input);
     let output = child.wait_with_output().expect("an end");

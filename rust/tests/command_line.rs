@@ -1,5 +1,5 @@
 //! The command line on any files and words, beside the Rust implementation: what it prints
-//! is tested, not proved. It takes the program that `rt check cli` builds.
+//! is tested, not proved. It takes the program that `tools/build.sh cli` builds.
 
 use std::fs;
 use std::os::unix::ffi::OsStrExt;

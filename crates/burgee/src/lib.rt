@@ -1,17 +1,16 @@
 #![tactic(auto)]
 
-// The C boundary: every exported function. Each takes numbers and byte slices and answers one word.
+// The C boundary: every function that crate `burgee_c` exports. Each takes numbers and byte slices and answers one word.
 pub mod policies;
-mod probes;
-mod records;
+pub mod probes;
+pub mod records;
 mod word;
 
 ghost use Rattle.std.specs.Prelude.{◌≡◌};
 ghost use Rattle.burgee.specs.Calls.{PathRead, PathWrite, TableCheck, GroupCount, PathVerdict, TreeVerdict, SeasonReport, buffer, word, after};
 
 // Path text to path bytes.
-#[unsafe(no_mangle)]
-pub extern "C" fn burgee_path_read(text: &[u8], out: &mut [u8]) -> u64
+pub fn burgee_path_read(text: &[u8], out: &mut [u8]) -> u64
     ensures { (result ≡ word (PathRead text.now out.old))
         × (buffer out.new ≡ after (PathRead text.now out.old)) }
 {
@@ -19,8 +18,7 @@ pub extern "C" fn burgee_path_read(text: &[u8], out: &mut [u8]) -> u64
 }
 
 // Path bytes to path text.
-#[unsafe(no_mangle)]
-pub extern "C" fn burgee_path_write(bytes: &[u8], out: &mut [u8]) -> u64
+pub fn burgee_path_write(bytes: &[u8], out: &mut [u8]) -> u64
     ensures { (result ≡ word (PathWrite bytes.now out.old))
         × (buffer out.new ≡ after (PathWrite bytes.now out.old)) }
 {
@@ -28,52 +26,35 @@ pub extern "C" fn burgee_path_write(bytes: &[u8], out: &mut [u8]) -> u64
 }
 
 // A rule table: accepted, or refused with its first faulty line.
-#[unsafe(no_mangle)]
-pub extern "C" fn burgee_table_check(table: &[u8]) -> u64
+pub fn burgee_table_check(table: &[u8]) -> u64
     ensures { result ≡ word (TableCheck table.now) }
 {
     word::of_checked(table_check::check_table(table))
 }
 
 // How many groups of the table list the user, and the first of them.
-#[unsafe(no_mangle)]
-pub extern "C" fn burgee_group_count(table: &[u8], user: &[u8]) -> u64
+pub fn burgee_group_count(table: &[u8], user: &[u8]) -> u64
     ensures { result ≡ word (GroupCount table.now user.now) }
 {
     word::of_counted(table_check::count_groups(table, user))
 }
 
 // The action for one path, and the deciding rule.
-#[unsafe(no_mangle)]
-pub extern "C" fn burgee_path_verdict(
-    table: &[u8],
-    user: &[u8],
-    mode: u32,
-    origin: &[u8],
-    path: &[u8],
-) -> u64
+pub fn burgee_path_verdict(table: &[u8], user: &[u8], mode: u32, origin: &[u8], path: &[u8]) -> u64
     ensures { result ≡ word (PathVerdict table.now user.now mode origin.now path.now) }
 {
     word::of_path(verdict_call::path_verdict(table, user, mode, origin, path))
 }
 
 // ALL, NONE or MIXED for the paths at or beneath, and the rule that MIXED names.
-#[unsafe(no_mangle)]
-pub extern "C" fn burgee_tree_verdict(
-    table: &[u8],
-    user: &[u8],
-    mode: u32,
-    origin: &[u8],
-    path: &[u8],
-) -> u64
+pub fn burgee_tree_verdict(table: &[u8], user: &[u8], mode: u32, origin: &[u8], path: &[u8]) -> u64
     ensures { result ≡ word (TreeVerdict table.now user.now mode origin.now path.now) }
 {
     word::of_tree(verdict_call::tree_verdict(table, user, mode, origin, path))
 }
 
 // How often each rule decided over a log of requests, and a grid of modes against outcomes: the report's lines.
-#[unsafe(no_mangle)]
-pub extern "C" fn burgee_season_report(table: &[u8], log: &[u8], out: &mut [u8]) -> u64
+pub fn burgee_season_report(table: &[u8], log: &[u8], out: &mut [u8]) -> u64
     ensures { (result ≡ word (SeasonReport table.now log.now out.old))
         × (buffer out.new ≡ after (SeasonReport table.now log.now out.old)) }
 {

@@ -17,8 +17,7 @@ fn record_of(kind: u32, live_slot: u32, live_len: u32, rotating: u32, candidate_
 }
 
 // The action for one path, and the deciding rule.
-#[unsafe(no_mangle)]
-pub extern "C" fn burgee_probe_path(
+pub fn burgee_probe_path(
     kind: u32,
     live_slot: u32,
     live_len: u32,
@@ -38,8 +37,7 @@ pub extern "C" fn burgee_probe_path(
 }
 
 // ALL, NONE or MIXED for the paths at or beneath, and the rule that MIXED names.
-#[unsafe(no_mangle)]
-pub extern "C" fn burgee_probe_tree(
+pub fn burgee_probe_tree(
     kind: u32,
     live_slot: u32,
     live_len: u32,
@@ -59,8 +57,7 @@ pub extern "C" fn burgee_probe_tree(
 }
 
 // The action for one RPC, and the rule that decides.
-#[unsafe(no_mangle)]
-pub extern "C" fn burgee_probe_rpc(
+pub fn burgee_probe_rpc(
     kind: u32,
     live_slot: u32,
     live_len: u32,

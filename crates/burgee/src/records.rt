@@ -53,8 +53,7 @@ pub fn upload_step(r: Record, store: &mut [u8], text: &[u8]) -> Answered
 }
 
 // A rotation begins.
-#[unsafe(no_mangle)]
-pub extern "C" fn burgee_start(rec: &mut Record, store: &[u8]) -> u64
+pub fn burgee_start(rec: &mut Record, store: &[u8]) -> u64
     ensures { (result ≡ word (Start rec.old store.now))
         × (held rec.new store.now ≡ after (Start rec.old store.now)) }
 {
@@ -68,8 +67,7 @@ pub extern "C" fn burgee_start(rec: &mut Record, store: &[u8]) -> u64
 }
 
 // A text is tried: the one call that stores to the slots.
-#[unsafe(no_mangle)]
-pub extern "C" fn burgee_upload(rec: &mut Record, store: &mut [u8], text: &[u8]) -> u64
+pub fn burgee_upload(rec: &mut Record, store: &mut [u8], text: &[u8]) -> u64
     ensures { (result ≡ word (Upload rec.old store.old text.now))
         × (held rec.new store.new ≡ after (Upload rec.old store.old text.now)) }
 {
@@ -83,8 +81,7 @@ pub extern "C" fn burgee_upload(rec: &mut Record, store: &mut [u8], text: &[u8])
 }
 
 // The candidate becomes the live text.
-#[unsafe(no_mangle)]
-pub extern "C" fn burgee_finalize(rec: &mut Record, store: &[u8]) -> u64
+pub fn burgee_finalize(rec: &mut Record, store: &[u8]) -> u64
     ensures { (result ≡ word (Finalize rec.old store.now))
         × (held rec.new store.now ≡ after (Finalize rec.old store.now)) }
 {
@@ -98,8 +95,7 @@ pub extern "C" fn burgee_finalize(rec: &mut Record, store: &[u8]) -> u64
 }
 
 // The candidate is dropped.
-#[unsafe(no_mangle)]
-pub extern "C" fn burgee_close(rec: &mut Record, store: &[u8]) -> u64
+pub fn burgee_close(rec: &mut Record, store: &[u8]) -> u64
     ensures { (result ≡ word (Close rec.old store.now))
         × (held rec.new store.now ≡ after (Close rec.old store.now)) }
 {

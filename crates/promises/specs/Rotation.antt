@@ -55,7 +55,8 @@ pub record RotationPromise (l : Lent) (whole : Whole l) : Type 0 where
       → answers offered_check Close (end offered_check cs l) ≡ Accepted → force (leaves offered_check Close (end offered_check cs l)) ≡ live l
   -- a text that was uploaded is in force, the first as well as every later one
   pub tried : (cs : List Call) (text : Str)
-      → answers offered_check (Upload text) (end offered_check cs l) ≡ Accepted → force (leaves offered_check (Upload text) (end offered_check cs l)) ≡ some text
+      → answers offered_check (Upload text) (end offered_check cs l) ≡ Accepted
+      → force (leaves offered_check (Upload text) (end offered_check cs l)) ≡ some text
   -- and finalize makes live what was in force
   pub settled : (cs : List Call)
       → answers offered_check Finalize (end offered_check cs l) ≡ Accepted

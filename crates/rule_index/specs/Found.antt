@@ -51,7 +51,8 @@ module _ (f starts holders : List ℕ) (n set : ℕ) (user : Str) (mode : ℕ) (
   -- the rules of a bucket were
   pub record Scanned (seed : Seed) (keys : List ℕ) (bucket : ℕ) (b c : Best) : Type 0 where
     pub after : After b c
-    pub done : (i j : ℕ) → i < n → j < n → KeyedAt seed f starts i (get_or keys j 0) → get_or keys j 0 / span ≡ bucket → matches_at i ≡ true → over_at i c ≡ false
+    pub done : (i j : ℕ)
+        → i < n → j < n → KeyedAt seed f starts i (get_or keys j 0) → get_or keys j 0 / span ≡ bucket → matches_at i ≡ true → over_at i c ≡ false
 
   -- each rule that matches and is better than b has its clue among those
   pub record Searching (seed : Seed) (keys : List ℕ) (clues : List Str) (b : Best) : Type 0 where

@@ -1,0 +1,94 @@
+// The C boundary of the probes, which judge a request on what is in force: a record's five numbers, the store, and a request.
+ghost use Rattle.std.specs.Prelude.{◌≡◌};
+ghost use Rattle.burgee.specs.Calls.{ProbePath, ProbeTree, ProbeRpc, record_of, word};
+
+// The action for one path, and the deciding rule.
+#[unsafe(no_mangle)]
+pub extern "C" fn burgee_probe_path(
+    kind: u32,
+    live_slot: u32,
+    live_len: u32,
+    rotating: u32,
+    candidate_len: u32,
+    store: &[u8],
+    user: &[u8],
+    mode: u32,
+    origin: &[u8],
+    path: &[u8],
+) -> u64
+    ensures { result ≡ word (ProbePath (record_of kind live_slot live_len rotating candidate_len)
+        store.now user.now mode origin.now path.now) }
+{
+    burgee::probes::burgee_probe_path(
+        kind,
+        live_slot,
+        live_len,
+        rotating,
+        candidate_len,
+        store,
+        user,
+        mode,
+        origin,
+        path,
+    )
+}
+
+// ALL, NONE or MIXED for the paths at or beneath, and the rule that MIXED names.
+#[unsafe(no_mangle)]
+pub extern "C" fn burgee_probe_tree(
+    kind: u32,
+    live_slot: u32,
+    live_len: u32,
+    rotating: u32,
+    candidate_len: u32,
+    store: &[u8],
+    user: &[u8],
+    mode: u32,
+    origin: &[u8],
+    path: &[u8],
+) -> u64
+    ensures { result ≡ word (ProbeTree (record_of kind live_slot live_len rotating candidate_len)
+        store.now user.now mode origin.now path.now) }
+{
+    burgee::probes::burgee_probe_tree(
+        kind,
+        live_slot,
+        live_len,
+        rotating,
+        candidate_len,
+        store,
+        user,
+        mode,
+        origin,
+        path,
+    )
+}
+
+// The action for one RPC, and the rule that decides.
+#[unsafe(no_mangle)]
+pub extern "C" fn burgee_probe_rpc(
+    kind: u32,
+    live_slot: u32,
+    live_len: u32,
+    rotating: u32,
+    candidate_len: u32,
+    store: &[u8],
+    identity: &[u8],
+    path: &[u8],
+    headers: &[u8],
+) -> u64
+    ensures { result ≡ word (ProbeRpc (record_of kind live_slot live_len rotating candidate_len)
+        store.now identity.now path.now headers.now) }
+{
+    burgee::probes::burgee_probe_rpc(
+        kind,
+        live_slot,
+        live_len,
+        rotating,
+        candidate_len,
+        store,
+        identity,
+        path,
+        headers,
+    )
+}
