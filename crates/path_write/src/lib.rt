@@ -53,7 +53,7 @@ pub fn write_value(v: &[u8], out: &mut [u8], at: usize) -> usize
 // [name=value]
 fn write_key(name: &[u8], value: &[u8], out: &mut [u8], at: usize) -> usize
     requires { at + length (key_text (record { name = name.now; value = value.now })) ≤ length out.old }
-    ensures { Wrote out.old at (key_text (record { name = name.entry.now; value = value.now })) out.new result }
+    ensures { Wrote out.old at (key_text (record { name = name.now; value = value.now })) out.new result }
 {
     out[at] = b'[';
     text::fill::copy(name, out, at + 1);
