@@ -108,6 +108,7 @@ stops "refused 51 at line 1000000: $bad"$'\n''line: x' 999999 log show "$work/te
 
 # ---- the memory that is taken does not grow with the log
 room() {
+    ! grep -q AddressSanitizer target/burgee/program || return 0 # one that tools/unproved.py made takes more
     (ulimit -v 40000 && burgee log "$@" >"$work/written" 2>"$work/complaint") || fail "log $*: more memory than it should need"
 }
 room show "$work/log"

@@ -1,20 +1,18 @@
 #!/usr/bin/env bash
 # wrong_command_lines.sh [PATTERN]: wrong command lines, each of which a test of tests/ has to see; those alone whose line in the list matches, if one is given.
-# The program is compiled of a wrong source without a proof (as `rt try` does: from the sources of the crates cli*, and the proved libraries below them), so that
-# what the prover refuses is tried on the tests too. Needs these libraries (`rt check cli`). Each fault has a copy of the repository, in which `rt` is a
-# stand-in; where root runs this, wrong programs run as nobody, since they may remove what they are given. Prints what the test said of each. Nine minutes of processor time.
+# The program is compiled of a wrong source without a proof (tools/unproved.py), so that what the prover refuses is tried on the tests too. Each fault has a copy of the repository, in which `rt` is a
+# stand-in; where root runs this, wrong programs run as nobody, since they may remove what they are given. Prints what the test said of each. Half a minute of processor time for each, and that of its test.
 set -uo pipefail
 cd "$(dirname "$0")/.." || exit
 export STOP_AT_FIRST=1 # tests/calls.bash
 only=${1-}
-home=$(cd "$(dirname "$(rt doc)")/.." && pwd) own=$home/on/$(uname -m)
 work=$(mktemp -d)
 trap 'rm -rf "$work"' EXIT
 chmod 755 "$work"
 mkdir "$work/sound"
 git ls-files -z --cached --others --exclude-standard -- . ':!target' | tar -c --null --files-from=- | tar -x -C "$work/sound"
 
-# Lines `TEST FILE WHAT: SED SCRIPT`; files stand in crates/, but for bin/burgee. `in NAME SCRIPT` is a script for the body of that function.
+# Lines `TEST FILE WHAT: SED SCRIPT`; files stand in crates/, but for bin/burgee and tools/build.sh. `in NAME SCRIPT` is a script for the body of that function.
 faults() {
     sed 's/: in \([a-z_]*\) \(.*\)/: \/^\\(pub \\)*fn \1(\/,\/^}\/\2/' <<'END'
 command_line cli_console/src/input.rt a word over 4,096 bytes taken as empty: in word s/TooLong) => buf.len()/TooLong) => 0/
@@ -158,7 +156,7 @@ program bin/burgee a program that is killed: s/^0 | 1 | 2) exit \$ended/0 | 1 | 
 program bin/burgee all exit statuses ignored: s/^    ended=.*/    ended=0/
 program bin/burgee what was built before runs though a build failed: s/\[ "\$status" != 0 \]/false/
 program bin/burgee a program that others built is run: s/"\$own\/program" "\$@"/"$root\/target\/bin\/cli" "$@"/
-program bin/burgee a build takes standard input: s/ <\/dev\/null//
+program tools/build.sh a build takes standard input: s/ <\/dev\/null//
 program bin/burgee two build at once: s/^\( *\)flock 7/\1:/
 program bin/burgee an old sum stays while another program is built: s/^    rm -f "\$own\/sum"//
 program bin/burgee a source that changes during a build is not noticed: s/^    \[ ! -e "\$own\/sources/    list\n&/
@@ -172,26 +170,9 @@ END
     sed -n 's/^ *b*"*\(5[0-9]\) .*\\n.*/log cli_refusal\/s*\/* another text for \1: s|^\\( *b*"*\\)\1 |\\1\1 not |/p' crates/cli_refusal/src/lib.rt
 }
 
-# What the command line is compiled of, but for its own crates.
-words=(--extern "std=$own/rlib/std.rlib" -L "dependency=$PWD/target/rlib" -L "dependency=$own/rlib")
-for crate in $(sed 's/#.*//; s/://' crates.txt | tr ' ' '\n' | grep -v '^cli' | sort -u); do
-    for folder in "$PWD/target/rlib" "$own/rlib"; do
-        [ ! -d "$folder/$crate.rlib" ] || words+=(--extern "$crate=$folder/$crate.rlib")
-    done
-done
-
-# FOLDER: compiles the copy there, as `program` beside it. The linker here keeps the first program that it makes and then fails, so that no more are made.
+# FOLDER: compiles the copy there, as `program` beside it.
 compile() {
-    local tools=$1/toolchain/bin libraries=() folder
-    mkdir -p "$tools"
-    ln -s "$own/toolchain/lib" "$1/toolchain/lib"
-    ln -s "$own/toolchain/bin/clang" "$own/toolchain/bin/llvm-ar" "$tools"
-    printf '#!/bin/sh\n%s "$@" && /bin/cp program %s\nexit 1\n' "$own/toolchain/bin/ld.lld" "$1/program" >"$tools/ld.lld"
-    chmod +x "$tools/ld.lld"
-    for folder in "$1"/here/crates/cli_*; do libraries+=(--lib "${folder##*/}=$folder/src/lib.rt"); done
-    TMPDIR=$1/tmp "$own/bin/rattle-cases" --toolchain "$1/toolchain" --link "$home/lib/libos_c.a" --arg version \
-        "$1/here/crates/cli/src/main.rt" --crate-name cli "${libraries[@]}" "${words[@]}" >"$1/compiled" 2>&1
-    [ -x "$1/program" ]
+    (cd "$1/here" && TMPDIR=$1/tmp python3 tools/unproved.py cli "$1/program") >"$1/compiled" 2>&1 && [ -x "$1/program" ]
 }
 
 # FOLDER TEST: runs the test in the copy there, whose bin/burgee takes `program` for what rt builds.
@@ -218,7 +199,7 @@ copy() {
 try() {
     local folder=$work/$1 test=$2 file=$3 script=$4 name changed=
     copy "$folder"
-    [ "$file" = bin/burgee ] || file=crates/$file
+    case $file in bin/* | tools/*) ;; *) file=crates/$file ;; esac
     # shellcheck disable=SC2086
     for name in $file; do
         sed -i "$script" "$folder/here/$name"
