@@ -184,18 +184,18 @@ static int is_rename(unsigned long long call)
     return call == SYS_rename || call == SYS_renameat || call == SYS_renameat2;
 }
 
-/* Whether saving depends on a call that fails by this error: all that opens, reads, looks at a name, writes the new file, flushes, renames. A write or a
- * flush that a signal interrupts is made again. What a close says of a file that was flushed is lost, since the standard library does not tell it. */
+/* Whether saving depends on a call that fails by this error: all that opens, reads, looks at a name, writes the new file, flushes, renames. What opens,
+ * writes or flushes is made again where a signal interrupts it. What a close says of a file that was flushed is lost, since the standard library does not tell it. */
 static int does_matter(const struct user_regs_struct *r, int new_fd, int error)
 {
     switch (r->orig_rax) {
-    case SYS_open:
-    case SYS_openat:
     case SYS_read:
     case SYS_statx:
     case SYS_fchmod:
     case SYS_fchown:
         return 1;
+    case SYS_open:
+    case SYS_openat:
     case SYS_fsync:
     case SYS_fdatasync:
         return error != EINTR;

@@ -35,11 +35,13 @@ pub fn burgee_saying(said: &str, words: &[&[u8]], input: &[u8]) -> String {
     let _ = child.stdin.take().expect("piped").write_all(input);
     let output = child.wait_with_output().expect("an end");
     let shown = || words.iter().map(|word| word.escape_ascii().to_string()).collect::<Vec<_>>().join(" ");
-    assert!(output.status.success(), "{}: {}", shown(), output.status);
     let is_text = matches!(words.first(), Some(&b"show" | &b"pack"));
     let is_aside = is_text && output.stderr.starts_with(b"refused");
     let (told, other) = if is_aside { (output.stderr, output.stdout) } else { (output.stdout, output.stderr) };
     assert!(other == said.as_bytes(), "{}: {}, not {said}", shown(), other.escape_ascii());
+    // Its status is 1 for a refusal and 0 for an answer.
+    let status = i32::from(told.starts_with(b"refused"));
+    assert!(output.status.code() == Some(status), "{}: {}", shown(), output.status);
     String::from_utf8(told).expect("bytes that print")
 }
 
