@@ -216,7 +216,7 @@ for value in "${limit[@]}"; do
 done
 while IFS=: read -r file line number; do
     [[ $known == *" $number "* ]] || fail "$file:$line: $number is not the number of a limit, nor one that this test knows"
-done < <(grep -noE '[0-9]+(,[0-9][0-9][0-9])+' README.md CONTRIBUTING.md SECURITY.md docs/!(BENCHMARKS|READING).md include/burgee.h rust/README.md rust/src/limits.rs \
+done < <(grep -noE '[0-9]+(,[0-9][0-9][0-9])+' README.md CONTRIBUTING.md SECURITY.md docs/!(BENCHMARKS|READING|PORT*).md include/burgee.h rust/README.md rust/src/limits.rs \
     tests/readable.sh $(find crates/*/src crates/*/specs -type f))
 
 # ---- no literal of a limit in programs and definitions
