@@ -77,6 +77,7 @@ usage cli_help/src/lib.rt exit statuses 2 and 3 exchanged in help: in all {s/, 2
 usage cli_show/src/marks.rt a refusal is marked as a complaint: in end s/from(1)/from(2)/
 usage cli_show/src/marks.rt a complaint is marked as a refusal: in end s/from(2)/from(1)/
 usage cli_show/src/marks.rt an answer is marked as a complaint: in end s/ExitCode::SUCCESS/ExitCode::from(2)/
+usage cli_show/src/marks.rt a refusal after a complaint ends with 1: in mark s/console.outcome.max(outcome)/outcome/
 usage cli_console/src/refusal.rt a refusal is not marked: in to s/cli_show::marks::refusal(console);//
 usage cli_show/src/failure.rt a file that cannot be read is not marked: in tell s/marks::complaint(console);//
 usage cli_readable/src/lib.rt show and pack tell refusals on standard output: in tell s/Stream::Error/Stream::Output/
