@@ -132,7 +132,13 @@ def point_3():
             at += len(line) + 1
 
 
-HAND = r"^ *(?:pub )?fn (is_same|is_before|is_alike|smaller|shorter|larger|higher|unlike|between|copy|repeat|keep|wide|small|to_bytes|of_bytes|word|word_at|byte_of|byte_at|write_hex|hex_digit|hex_value|is_digit|is_white|has_byte|first|find|add_byte|mode|kind|named|with_met|was_met|after|at_rest|with_candidate|record_of|empty|unite|starts_with|ends_with|has_star_first|has_star_last|is_byte|is_dots|checked|of_policy)\b"
+BY_HAND = """
+    is_same is_before is_alike smaller shorter larger higher unlike between copy repeat keep wide small to_bytes
+    of_bytes word word_at byte_of byte_at write_hex hex_digit hex_value is_digit is_white has_byte first find
+    add_byte mode kind named with_met was_met after at_rest with_candidate record_of empty unite starts_with
+    ends_with has_star_first has_star_last is_byte is_dots checked of_policy
+"""
+HAND = r"^ *(?:pub )?fn (" + "|".join(BY_HAND.split()) + r")\b"
 
 
 def point_4():
