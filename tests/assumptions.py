@@ -3,7 +3,7 @@
 
 - No axiom, no hole, no classical axiom of the library, and no attribute that could leave code out. (The prover refuses these too; here they are seen at once.)
 - Definitions and contracts rest on definitions: neither specs/ nor src/ names a file of proofs/, where a reader does not look. (The library keeps some
-  plain types, as that of options, in `Rattle.std.proofs.Math`.)
+  plain types, as that of options, in `Rattle.std.proofs.Math`, and in `Rattle.std.proofs.Props` by what a ghost field is seen to be a fact.)
 - An operator of the library is the library's in every file: none is declared anew, and definitions and contracts have each from one module. (The prover
   would accept a contract that is written with an `≡` of its own.)
 - The exported functions and the promises reach no library that has contracts of C functions, which nothing proves.
@@ -18,7 +18,7 @@ from sources import definitions, imports, program
 OF_C = {"libc", "io", "os"}
 
 # where the library has plain types that definitions may name
-PLAIN = "Rattle.std.proofs.Math."
+PLAIN = ("Rattle.std.proofs.Math.", "Rattle.std.proofs.Props.")
 
 # what proofs have operators from: any of its modules
 LIBRARY = "the library"

@@ -27,7 +27,7 @@ has_answers() {
     module=${file#src/}
     module=${module%.rt}
     case $module in lib | main) module=. ;; esac
-    [ -n "$name" ] && { [ -d "crates/$crate/proofs/$module/$name" ] || ls -d "crates/$crate"/proofs/+*/"$module/$name" "crates/$crate"/proofs/+*/"$name" >"$work/found" 2>&1; }
+    [ -n "$name" ] && { [ -d "crates/$crate/proofs/$module/$name" ] || ls -d "crates/$crate"/proofs/*/"$name" >"$work/found" 2>&1 || ls -d "crates/$crate"/proofs/+*/"$module/$name" "crates/$crate"/proofs/+*/"$name" >"$work/found" 2>&1; }
 }
 
 status=0

@@ -252,7 +252,8 @@ rotating, 256)
 byte_of n 256           the same
 HASHES: usize = 8192    how many hints the groups' names have: a size of its own
 hashes = 8192           the same
-Small s × (n < 256)     a count of elements, in a byte
+path.count < 256        a count of elements, in a byte
+result.count < 256      the same
 words < 4               arguments of the command line
 4 <= t.len() - i        four bytes a turn of a hash
 (path_text p) ≤ 13520   a promise says the rules' own number

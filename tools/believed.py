@@ -43,6 +43,20 @@ DETERMINED = {
 }
 # of these not even those who compare definitions read the bodies: they are parsers
 PARSERS = {("path_read/TextReader", "read_text"), ("json_grammar/Parser", "parse")}
+# which answer of the definitions a program's value is: contracts of programs speak by these, and nothing that is promised does
+SPOKEN = {
+    ("path_read/Calls", "filled_of"),
+    ("rotation/Calls", "step_of"),
+    ("rotation/State", "length_of"),
+    ("rotation/State", "kind_number"),
+    ("rotation/State", "kind_of"),
+    ("rotation/State", "force_of"),
+    ("rotation_upload/Offered", "as_step"),
+    ("rotation_probe/Answer", "answer_of"),
+    ("rpc/Answer", "decision_of"),
+    ("rpc/Answer", "answer_of"),
+    ("table/Counted", "counted_as"),
+}
 DECLARED = re.compile(r"^ *(unfoldable |abbrev |pub (record|data) |(record|data) \S.* where$)")
 PLAIN = re.compile(r"^ *pub \S+ :")
 NAME = re.compile(r"^ *(?:unfoldable |abbrev )?(?:pub )?(?:(record|data) )?([^\s:(){}]+)")
@@ -189,8 +203,8 @@ def reached(files, unread):
             if mentions(name, tokens):
                 want(module, old)
         for alias, module in file.aliases.items():
-            if any(t == alias or t.startswith(alias + ".") for t in tokens):
-                want(module, "")
+            for name in {t[len(alias) + 1:].split(".")[0] for t in tokens if t.startswith(alias + ".")}:
+                want(module, name)
         for other in file.blocks:  # the parameters that it has from a `module _ .. where`
             if other["kind"] == "module" and block["indent"] > 0:
                 push(other)
@@ -221,7 +235,7 @@ def main():
         rest = [b for b in file.blocks if id(b) not in seen and b["name"]]
         if read:
             rows.append((path, read, sum(len(b["lines"]) for b in rest), [b["name"] for b in rest]))
-            strangers += [f"{short(path)} has {b['name']}, which nothing reaches" for b in rest if id(b) not in everything and (short(path), b["name"]) not in PARSERS]
+            strangers += [f"{short(path)} has {b['name']}, which nothing reaches" for b in rest if id(b) not in everything and (short(path), b["name"]) not in PARSERS | SPOKEN]
         if any(id(b) in everything for b in file.blocks):
             sums.append(f"{short(path)} {sum_of(b for b in file.blocks if id(b) in everything)}\n")
     total = sum(r[1] for r in rows)

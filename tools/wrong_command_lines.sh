@@ -14,7 +14,7 @@ git ls-files -z --cached --others --exclude-standard -- . ':!target' | tar -c --
 
 # Lines `TEST FILE WHAT: SED SCRIPT`; files stand in crates/, but for bin/burgee and tools/build.sh. `in NAME SCRIPT` is a script for the body of that function.
 faults() {
-    sed 's/: in \([a-z_]*\) \(.*\)/: \/^\\(pub \\)*fn \1(\/,\/^}\/\2/' <<'END'
+    sed 's/: in \([a-z_]*\) \(.*\)/: \/^\\(pub \\)*fn \1[(<]\/,\/^}\/\2/' <<'END'
 command_line cli_console/src/input.rt a word over 4,096 bytes taken as empty: in word s/TooLong) => buf.len()/TooLong) => 0/
 command_line cli_console/src/input.rt a read that fails midway taken as the whole file: in fill s/is_good: false/is_good: 0 < count/
 command_line cli_console/src/input.rt a first read that fails taken as an empty file: in fill s/is_good: false/is_good: count == 0/
@@ -40,16 +40,16 @@ command_line cli/src/main.rt rpc judges though its policy cannot be read: in rpc
 command_line cli_rotation/src/steps.rt rotate upload takes a text that cannot be read: in upload s/if got.is_good/if true/
 rotation cli_record/src/lib.rt rotate show of a short store: in tell s/refusal(r, n,/refusal(r, limits::STORE_LENGTH,/
 rotation cli_rotation/src/steps.rt a file that is shorter than a record: in open s/got.count != cli_record::LENGTH/false/
-command_line cli_record/src/lines.rt rotating 2 shown as off: in is_rotating s/n == 0/n != 1/
-command_line cli_record/src/lines.rt rotating 256 shown as off: in is_rotating s/n == 0/n % 256 == 0/
+command_line cli_record/src/lines.rt rotating 2 shown as off: in add_rotation s/n == 0/n != 1/
+command_line cli_record/src/lines.rt rotating 256 shown as off: in add_rotation s/n == 0/n % 256 == 0/
 command_line cli_record/src/lib.rt a number of the record read by its low bytes alone: in word s/ + d as u32 \* 16777216//
 command_line cli_console/src/input.rt write judged as read: in mode s/2 => 2/2 => 1/
 command_line cli/src/main.rt the origin left out: in verdict s/input::word(console, 5/input::word(console, 9/
 command_line cli_probe/src/lib.rt the origin of a probe left out: in table s/input::word(console, 6/input::word(console, 9/
 command_line cli_probe/src/lib.rt a probe of the tree is one of the path: in table s/            is_tree,/            false,/
-lines cli_policy/src/refusal.rt no line with refusal 38: in line s/38 < number/37 < number/
-lines cli_console/src/lines.rt the line before the fault: in number_at s/while i < p/while i + 1 < p/
-command_line cli_console/src/refusal.rt a line without LF is not told: in quote_line s/crate::lines::is_open(text, line)/false/
+lines cli_policy/src/fault.rt no line with refusal 38: in line s/38 < number/37 < number/
+lines cli_console/src/lines.rt the line before the fault: in number_at s/p.min(last)/p.min(last).saturating_sub(1)/
+command_line cli_console/src/refused.rt a line without LF is not told: in quote_line s/crate::lines::is_open(text, line)/false/
 lines cli_console/src/quote.rt bytes that do not print are printed: in add_byte s/text::byte::is_print(b)/true/
 readable cli/src/main.rt a long readable text is cut: s/TEXT_ROOM: usize = 131073/TEXT_ROOM: usize = 40000/
 command_line cli/src/main.rt a long table is cut: s/TEXT_ROOM: usize = 131073/TEXT_ROOM: usize = 32768/
@@ -65,10 +65,10 @@ log cli_readable/src/logs.rt a refused line of a log is told as one of readable 
 log cli_readable/src/logs.rt one line too many is told as a bad one: in refuse s/limits::MAX_LOG_LINES < number/false/
 log cli_parts/src/lib.rt an unfinished line is lost: in more s/keep(buf, from, to)/keep(buf, to, to)/
 log cli_parts/src/lib.rt an unfinished line is used before it ends: in whole_length s/let mut n = text.len();/let mut n = text.len();\n    return n;/
-command_line cli_answers/src/rows.rt group 63 not listed: in group_lines s/g < n/g + 1 < n/
-command_line cli_explained/src/lib.rt two rules explained at most: in ranking s/while i < m/while (i < m) \& (i < 2)/
-command_line cli_explained/src/lib.rt 255 rules explained at most: in ranking s/while i < m/while (i < m) \& (i < 255)/
-command_line cli_explained/src/lib.rt each rule compared with itself: in ranking s/order\[0\]/order[i]/
+command_line cli_answers/src/rows.rt group 63 not listed: in add_groups s/0\.\.n/0..n.min(63)/
+command_line cli_explained/src/lib.rt two rules explained at most: in add_ranking s/0\.\.m/0..m.min(2)/
+command_line cli_explained/src/lib.rt 255 rules explained at most: in add_ranking s/0\.\.m/0..m.min(255)/
+command_line cli_explained/src/lib.rt each rule compared with itself: in add_ranking s/order\[0\]/order[i]/
 command_line cli_explained/src/lib.rt reasons exchanged, elements and keys: in step_name {s/Step::Elements/Step::Swap/; s/Step::Keys/Step::Elements/; s/Step::Swap/Step::Keys/}
 command_line cli_explained/src/lib.rt reasons exchanged, subject and action: in step_name {s/Step::Subject/Step::Swap/; s/Step::Action/Step::Subject/; s/Step::Swap/Step::Action/}
 command_line cli_explained/src/lib.rt reasons exchanged, action and id: in step_name {s/Step::Action/Step::Swap/; s/Step::Id/Step::Action/; s/Step::Swap/Step::Id/}
@@ -78,7 +78,7 @@ usage cli_show/src/marks.rt a refusal is marked as a complaint: in end s/from(1)
 usage cli_show/src/marks.rt a complaint is marked as a refusal: in end s/from(2)/from(1)/
 usage cli_show/src/marks.rt an answer is marked as a complaint: in end s/ExitCode::SUCCESS/ExitCode::from(2)/
 usage cli_show/src/marks.rt a refusal after a complaint ends with 1: in mark s/console.outcome.max(outcome)/outcome/
-usage cli_console/src/refusal.rt a refusal is not marked: in to s/cli_show::marks::refusal(console);//
+usage cli_console/src/refused.rt a refusal is not marked: in to s/cli_show::marks::refusal(console);//
 usage cli_show/src/failure.rt a file that cannot be read is not marked: in tell s/marks::complaint(console);//
 usage cli_readable/src/lib.rt show and pack tell refusals on standard output: in tell s/Stream::Error/Stream::Output/
 rotation cli_rotation/src/steps.rt a rotation in standard input: in run s/cli_console::input::is_standard(console, 3)/false/
@@ -104,7 +104,7 @@ slips cli_table/src/tables.rt verdict says nothing of a user who is not named: i
 slips cli_table/src/tables.rt tree says nothing of a user who is not named: in tree s/cli_names::tell(console, text, user);//
 slips cli_table/src/explanation.rt explain says nothing of a user who is not named: in all s/cli_names::tell(console, text, user);//
 slips cli_probe/src/lib.rt the probes say nothing of a user who is not named: in answer_table s/cli_names::tell(console, text, user);//
-reports cli_season/src/sums.rt the last report is left out: in run s/while i < words/while i + 1 < words/
+reports cli_season/src/sums.rt the last report is left out: in run s/2\.\.words/2..words - 1/
 reports cli_season/src/sums.rt a report that cannot be read is passed over: in add s/        return false;/        return true;/
 reports cli_season/src/sums.rt a report that is refused is passed over: in add s/    false$/    true/
 reports cli_season/src/sums.rt a longer text is cut to the longest report: s/TEXT_ROOM: usize = MAX_REPORT + 1/TEXT_ROOM: usize = MAX_REPORT/

@@ -11,9 +11,8 @@ use Rattle.season.specs.Calls.{season_answer, season_lent}
 use Rattle.policy.specs.Policy.{policy_refusal}
 use Rattle.policy_check.specs.Answer.{check_of}
 use Rattle.rpc.specs.Call.{rpc_verdict}
-use Rattle.rotation.specs.Calls.{start, upload, upload_store, finalize, close}
+use Rattle.rotation.specs.Calls.{Stepped, start, upload, upload_store, finalize, close}
 use Rattle.rotation.specs.declared.Record.{Record}
-use Rattle.rotation.specs.declared.Stepped.{Stepped}
 use Rattle.rotation_upload.specs.Offered.{offered_check}
 use Rattle.rotation_probe.specs.Probe.{probe_path, probe_tree}
 use Rattle.rotation_probe.specs.Rpc.{probe_rpc}

@@ -1,23 +1,23 @@
 -- The answer word: one 64-bit number for each answer of a call.
 use Rattle.std.specs.Prelude.{ℕ, ◌+◌, ◌*◌, ◌%◌, ◌^◌}
-use Rattle.path_read.specs.declared.Filled.{Filled}
-use Rattle.path_read.specs.declared.Filled.TheVariants as filled
+use Rattle.path_read.specs.Filled.{Filled}
+use Rattle.path_read.specs.Filled as filled
 use Rattle.table.specs.declared.Checked.{Checked}
 use Rattle.table.specs.declared.Checked.TheVariants as checked
-use Rattle.table.specs.declared.Counted.{Counted}
-use Rattle.table.specs.declared.Counted.TheVariants as counted
-use Rattle.verdict_request.specs.declared.PathAnswer.{PathAnswer}
-use Rattle.verdict_request.specs.declared.PathAnswer.TheVariants as path
-use Rattle.verdict_request.specs.declared.TreeAnswer.{TreeAnswer}
-use Rattle.verdict_request.specs.declared.TreeAnswer.TheVariants as trees
+use Rattle.table.specs.Counted.{Counted}
+use Rattle.table.specs.Counted as counted
+use Rattle.verdict_request.specs.PathAnswer.{PathAnswer}
+use Rattle.verdict_request.specs.PathAnswer as path
+use Rattle.verdict_request.specs.TreeAnswer.{TreeAnswer}
+use Rattle.verdict_request.specs.TreeAnswer as trees
 use Rattle.season.specs.declared.Reported.{Reported}
 use Rattle.season.specs.declared.Reported.TheVariants as reported
-use Rattle.policy_check.specs.declared.check.Check.{Check}
-use Rattle.policy_check.specs.declared.check.Check.TheVariants as policy
-use Rattle.rpc.specs.declared.verdict.Verdict.{Verdict}
-use Rattle.rpc.specs.declared.verdict.Verdict.TheVariants as rpc
-use Rattle.rotation_probe.specs.declared.rpcs.RpcAnswer.{RpcAnswer}
-use Rattle.rotation_probe.specs.declared.rpcs.RpcAnswer.TheVariants as probe
+use Rattle.policy_check.specs.Answer.{Check}
+use Rattle.policy_check.specs.Answer as policy
+use Rattle.rpc.specs.Answer.{Verdict}
+use Rattle.rpc.specs.Answer as rpc
+use Rattle.rotation_probe.specs.Answer.{RpcAnswer}
+use Rattle.rotation_probe.specs.Answer as probe
 
 -- bits 8 to 39
 abbrev pub upper : ℕ → ℕ

@@ -2,6 +2,8 @@
 ghost use Rattle.std.specs.Prelude.{◌≡◌};
 ghost use Rattle.burgee.specs.Calls.{PolicyCheck, RpcVerdict, word};
 
+use rpc::Request;
+
 // A policy: accepted or refused.
 pub fn burgee_policy_check(policy: &[u8]) -> u64
     ensures { result ≡ word (PolicyCheck policy.now) }
@@ -13,5 +15,12 @@ pub fn burgee_policy_check(policy: &[u8]) -> u64
 pub fn burgee_rpc_verdict(policy: &[u8], identity: &[u8], path: &[u8], headers: &[u8]) -> u64
     ensures { result ≡ word (RpcVerdict policy.now identity.now path.now headers.now) }
 {
-    crate::word::of_rpc(rpc_call::verdict::rpc_verdict(policy, identity, path, headers))
+    crate::word::of_rpc(rpc_call::rpc_verdict(
+        policy,
+        Request {
+            identity,
+            path,
+            headers,
+        },
+    ))
 }

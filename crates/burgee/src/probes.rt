@@ -3,6 +3,7 @@ ghost use Rattle.std.specs.Prelude.{◌≡◌};
 ghost use Rattle.burgee.specs.Calls.{ProbePath, ProbeTree, ProbeRpc, record_of, word};
 
 use rotation::Record;
+use rpc::Request;
 
 fn record_of(kind: u32, live_slot: u32, live_len: u32, rotating: u32, candidate_len: u32) -> Record
     ensures { result ≡ record_of kind live_slot live_len rotating candidate_len }
@@ -72,5 +73,13 @@ pub fn burgee_probe_rpc(
         store.now identity.now path.now headers.now) }
 {
     let r = record_of(kind, live_slot, live_len, rotating, candidate_len);
-    crate::word::of_rpc_probe(rotation_probe::rpcs::probe_rpc(r, store, identity, path, headers))
+    crate::word::of_rpc_probe(rotation_probe::rpcs::probe_rpc(
+        r,
+        store,
+        Request {
+            identity,
+            path,
+            headers,
+        },
+    ))
 }

@@ -1,55 +1,24 @@
 // The C boundary of the rotation record: thin functions on a record lent by `&mut`, each above a step by value.
-ghost use Rattle.std.specs.Prelude.{◌≡◌, length};
-ghost use Rattle.rotation.specs.Calls.{start, upload, upload_store, finalize, close};
-ghost use Rattle.rotation_upload.specs.Offered.{offered_check};
-ghost use Rattle.burgee.specs.Record.{answered};
+ghost use Rattle.std.specs.Prelude.{◌≡◌};
+ghost use Rattle.rotation.specs.Calls.{step_of};
+ghost use Rattle.burgee.specs.Word.{checked_word};
 ghost use Rattle.burgee.specs.Calls.{Start, Upload, Finalize, Close, held, word, after};
 
-use rotation::{Record, Stepped};
+use refusal::Fault;
+use rotation::Record;
 
-// A step with its answer as a word.
-#[derive(Clone, Copy)]
-pub struct Answered {
-    pub next: Record,
-    pub word: u64,
-}
-
-fn of_stepped(s: Stepped) -> Answered
-    ensures { result ≡ answered s }
+// The word of a step's answer; the record becomes the next one, and a refusal leaves it as it is.
+fn settle(rec: &mut Record, step: Result<Record, Fault>) -> u64
+    ensures word { result ≡ checked_word (step_of rec.old step).answer }
+    ensures next { rec.new ≡ (step_of rec.old step).next }
 {
-    let next = s.next;
-    let answer = s.answer;
-    let word = crate::word::of_checked(answer);
-    Answered {
-        next: next,
-        word: word,
+    match step {
+        Ok(next) => {
+            *rec = next;
+            0
+        }
+        Err(fault) => crate::word::of_refusal(fault.refusal.number(), fault.line),
     }
-}
-
-// The steps, on a record r and a store of n bytes.
-pub fn start_step(r: Record, n: usize) -> Answered
-    ensures { result ≡ answered (start r n) }
-{
-    of_stepped(rotation_step::start(r, n))
-}
-
-pub fn finalize_step(r: Record, n: usize) -> Answered
-    ensures { result ≡ answered (finalize r n) }
-{
-    of_stepped(rotation_step::finalize(r, n))
-}
-
-pub fn close_step(r: Record, n: usize) -> Answered
-    ensures { result ≡ answered (close r n) }
-{
-    of_stepped(rotation_step::close(r, n))
-}
-
-pub fn upload_step(r: Record, store: &mut [u8], text: &[u8]) -> Answered
-    ensures { (result ≡ answered (upload offered_check r (length store.old) text.now))
-        × (store.new ≡ upload_store offered_check r store.old text.now) }
-{
-    of_stepped(rotation_upload::upload(r, store, text))
 }
 
 // A rotation begins.
@@ -57,13 +26,8 @@ pub fn burgee_start(rec: &mut Record, store: &[u8]) -> u64
     ensures { (result ≡ word (Start rec.old store.now))
         × (held rec.new store.now ≡ after (Start rec.old store.now)) }
 {
-    let a = start_step(*rec, store.len());
-    let word = a.word;
-    if word != 0 {
-        return word;
-    }
-    *rec = a.next;
-    0
+    let step = rotation_step::start(*rec, store.len());
+    settle(rec, step)
 }
 
 // A text is tried: the one call that stores to the slots.
@@ -71,13 +35,9 @@ pub fn burgee_upload(rec: &mut Record, store: &mut [u8], text: &[u8]) -> u64
     ensures { (result ≡ word (Upload rec.old store.old text.now))
         × (held rec.new store.new ≡ after (Upload rec.old store.old text.now)) }
 {
-    let a = upload_step(*rec, store, text);
-    let word = a.word;
-    if word != 0 {
-        return word;
-    }
-    *rec = a.next;
-    0
+    let step = rotation_upload::upload(*rec, store, text);
+    *rec = step.next;
+    crate::word::of_checked(step.answer)
 }
 
 // The candidate becomes the live text.
@@ -85,13 +45,8 @@ pub fn burgee_finalize(rec: &mut Record, store: &[u8]) -> u64
     ensures { (result ≡ word (Finalize rec.old store.now))
         × (held rec.new store.now ≡ after (Finalize rec.old store.now)) }
 {
-    let a = finalize_step(*rec, store.len());
-    let word = a.word;
-    if word != 0 {
-        return word;
-    }
-    *rec = a.next;
-    0
+    let step = rotation_step::finalize(*rec, store.len());
+    settle(rec, step)
 }
 
 // The candidate is dropped.
@@ -99,11 +54,6 @@ pub fn burgee_close(rec: &mut Record, store: &[u8]) -> u64
     ensures { (result ≡ word (Close rec.old store.now))
         × (held rec.new store.now ≡ after (Close rec.old store.now)) }
 {
-    let a = close_step(*rec, store.len());
-    let word = a.word;
-    if word != 0 {
-        return word;
-    }
-    *rec = a.next;
-    0
+    let step = rotation_step::close(*rec, store.len());
+    settle(rec, step)
 }

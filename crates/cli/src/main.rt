@@ -5,6 +5,7 @@ use cli_console::input;
 use cli_show::console::Console;
 use cli_show::{TEXT_ROOM, WORD_ROOM};
 use cli_table::{explanation, paths, tables};
+use rpc::Request;
 use std::process::ExitCode;
 
 #[derive(Clone, Copy)]
@@ -106,13 +107,12 @@ fn rpc(console: &mut Console, words: usize) {
     let mut path = [0u8; WORD_ROOM];
     let p = input::word(console, 4, &mut path);
     if got.is_good & also.is_good {
-        cli_policy::rpcs::verdict(
-            console,
-            &text[..n],
-            &identity[..i],
-            &path[..p],
-            &headers[..h],
-        );
+        let request = Request {
+            identity: &identity[..i],
+            path: &path[..p],
+            headers: &headers[..h],
+        };
+        cli_policy::rpcs::verdict(console, &text[..n], request);
     }
 }
 

@@ -17,7 +17,6 @@ use Rattle.readable_parts.proofs.Stored.{front}
 use Rattle.table_facts.specs.Facts.{name_of, stored_of}
 use Rattle.table_facts.specs.declared.Row.{Row}
 use Rattle.table.specs.Text.{check, table_of}
-use Rattle.text_make.specs.Added.{Added, AddedUpTo}
 use Rattle.text_make.specs.Text.{up_to}
 use Rattle.cli_answers.specs.Lines.{name_in}
 
@@ -31,7 +30,7 @@ short_length s = by (ltb max_string (length s)) (λ u. rw u (omega arith)) (λ u
 
 -- z is the buffer as it was, and b as it is with the name
 module _ (text : Str) (row : Row) (z b : List ℕ) (n : ℕ) (l : length z ≡ max_string) (w : Wrote z 0 (stored_of z (name_of (check text) (table_of text) row)) b n) where
-  name_there : take n b ≡ name_in text row
+  pub name_there : take n b ≡ name_in text row
   unfolding name_in
   name_there = front z _ b n w ∙ short_fits z _ l
 
@@ -46,6 +45,3 @@ module _ (text : Str) (row : Row) (z b : List ℕ) (n : ℕ) (l : length z ≡ m
 
   pub name_taken : n ≡ length (take n b)
   name_taken = sym (length-take-le n b name_room)
-
-  pub name_added : (d d' : List ℕ) (at e : ℕ) → Added d at (take n b) d' e → AddedUpTo max_string d at (name_in text row) d' e
-  name_added d d' at e a = record { added = rw name_there at a; short = omega (arith, a.wrote.ends, name_taken, name_length) }

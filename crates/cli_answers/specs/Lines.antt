@@ -7,10 +7,10 @@ use Rattle.table.specs.declared.RuleNumber.{RuleNumber}
 use Rattle.table_facts.specs.Facts.{name_of}
 use Rattle.table_facts.specs.declared.Row.{Row}
 use Rattle.table_facts.specs.declared.Row.TheVariants.{Rule}
-use Rattle.verdict_request.specs.declared.PathAnswer.{PathAnswer}
-use Rattle.verdict_request.specs.declared.PathAnswer.TheVariants as path
-use Rattle.verdict_request.specs.declared.TreeAnswer.{TreeAnswer}
-use Rattle.verdict_request.specs.declared.TreeAnswer.TheVariants as trees
+use Rattle.verdict_request.specs.PathAnswer.{PathAnswer}
+use Rattle.verdict_request.specs.PathAnswer as path
+use Rattle.verdict_request.specs.TreeAnswer.{TreeAnswer}
+use Rattle.verdict_request.specs.TreeAnswer as trees
 use Rattle.text_make.specs.Text.{up_to, fact}
 use Rattle.cli_answers.specs.declared.lines.Fallback.{Fallback}
 use Rattle.cli_answers.specs.declared.lines.Fallback.TheVariants as fallback

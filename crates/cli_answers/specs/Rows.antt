@@ -4,8 +4,8 @@ use Rattle.limits.specs.Limits.{max_string}
 use Rattle.text.specs.String.{Str, bytes}
 use Rattle.table.specs.Text.{table_of}
 use Rattle.table.specs.Group.{groups_of, group_count}
-use Rattle.table.specs.declared.Counted.{Counted}
-use Rattle.table.specs.declared.Counted.TheVariants as counted
+use Rattle.table.specs.Counted.{Counted}
+use Rattle.table.specs.Counted as counted
 use Rattle.table.specs.declared.GroupNumber.{GroupNumber}
 use Rattle.table_facts.specs.declared.Row.TheVariants.{Group}
 use Rattle.text_make.specs.Decimal.{decimal}

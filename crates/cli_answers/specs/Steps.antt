@@ -1,12 +1,11 @@
 -- What a program answers that lists a user's groups.
-use Rattle.std.specs.Prelude.{ℕ, ◌≡◌, List}
+use Rattle.std.specs.Prelude.{◌≡◌, ◌++◌}
 use Rattle.text.specs.String.{Str}
 use Rattle.table.specs.Text.{check, table_of}
 use Rattle.table.specs.Group.{groups_of}
 use Rattle.table.specs.declared.Checked.TheVariants.{Accepted}
-use Rattle.text_make.specs.Added.{Added}
 use Rattle.cli_answers.specs.Rows.{group_lines}
 
 -- a line for each of them was added to d, if the table is accepted
-abbrev pub ListsGroups : Str → Str → List ℕ → ℕ → List ℕ → ℕ → Type 0
-ListsGroups text user d at d' end = check text ≡ Accepted → Added d at (group_lines text (groups_of (table_of text) user)) d' end
+abbrev pub ListsGroups : Str → Str → Str → Str → Type 0
+ListsGroups text user d d' = check text ≡ Accepted → d' ≡ d ++ group_lines text (groups_of (table_of text) user)

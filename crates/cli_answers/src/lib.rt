@@ -7,24 +7,21 @@ pub mod rows;
 
 use cli_show::console::Console;
 use lines::Fallback;
+use refusal::Fault;
 use verdict_request::{PathAnswer, TreeAnswer};
 
 // The action and the deciding rule, or the refusal.
-pub fn path(console: &mut Console, text: &[u8], a: PathAnswer, f: Fallback) {
-    let mut out = [0u8; cli_show::MAX_LINES];
-    let n = lines::path(text, f, a, &mut out);
-    cli_show::first(console, &out, n);
-    if let PathAnswer::Refused { number, line } = a {
-        cli_console::refusal::of_text(console, text, number, line);
+pub fn path(console: &mut Console, text: &[u8], a: Result<PathAnswer, Fault>, f: Fallback) {
+    cli_show::word(console, lines::path(text, f, a).as_bytes());
+    if let Err(fault) = a {
+        cli_console::refused::of_text(console, text, fault.refusal.number(), fault.line);
     }
 }
 
 // The tree answer, and the rule that MIXED names; or the refusal.
-pub fn tree(console: &mut Console, text: &[u8], a: TreeAnswer, f: Fallback) {
-    let mut out = [0u8; cli_show::MAX_LINES];
-    let n = lines::tree(text, f, a, &mut out);
-    cli_show::first(console, &out, n);
-    if let TreeAnswer::Refused { number, line } = a {
-        cli_console::refusal::of_text(console, text, number, line);
+pub fn tree(console: &mut Console, text: &[u8], a: Result<TreeAnswer, Fault>, f: Fallback) {
+    cli_show::word(console, lines::tree(text, f, a).as_bytes());
+    if let Err(fault) = a {
+        cli_console::refused::of_text(console, text, fault.refusal.number(), fault.line);
     }
 }

@@ -1,11 +1,13 @@
-// The lines of verdicts, made in a buffer.
-ghost use Rattle.std.specs.Prelude.{◌+◌, ◌≤◌, length};
+// The lines of verdicts.
+ghost use Rattle.std.specs.Prelude.{◌≡◌, ◌+◌, ◌++◌, ◌≤◌, length};
 ghost use Rattle.limits.specs.Limits.{max_string};
-ghost use Rattle.text_make.specs.Added.{Added, AddedUpTo};
+ghost use Rattle.verdict_request.specs.Answers.{path_answer_of, tree_answer_of};
 ghost use Rattle.cli_answers.specs.Lines.{name_in, by_rule, reason, path_lines, none_lines, tree_lines};
 
+use refusal::Fault;
 use table::RuleNumber;
 use table_facts::Row;
+use text_make::Text;
 use verdict_request::{PathAnswer, TreeAnswer};
 
 // Why no rule decides: none of the table matches, which an explanation says too, or there is no table.
@@ -16,76 +18,81 @@ pub enum Fallback {
     Factory,
 }
 
-// The name of a row, from `at` on.
-pub fn name(text: &[u8], row: Row, out: &mut [u8], at: usize) -> usize
-    requires { at + max_string ≤ length out.old }
-    ensures { AddedUpTo max_string out.old at (name_in text.now row) out.new result }
+// Room for the lines.
+pub const ROOM: usize = 37 + limits::MAX_STRING;
+
+// The name of a row.
+pub fn add_name<const N: usize>(table: &[u8], row: Row, text: &mut Text<N>)
+    requires { length text.old + max_string ≤ N }
+    ensures added { text.new ≡ text.old ++ name_in table.now row }
+    ensures short { length text.new ≤ length text.old + max_string }
 {
     let mut name = [0u8; limits::MAX_STRING];
-    let n = table_facts::name_of(text, row, &mut name);
-    text_make::string(&name[..n], out, at)
+    let n = table_facts::name_of(table, row, &mut name);
+    text.push_str(&name[..n]);
 }
 
 // An answer, and the number and id of the rule that it is by.
-fn by_rule(text: &[u8], answer: &[u8], rule: RuleNumber, out: &mut [u8]) -> usize
-    requires { length answer.now + 25 + max_string ≤ length out.old }
-    ensures { Added out.old 0 (by_rule text.now answer.now rule) out.new result }
+fn by_rule(table: &[u8], answer: &[u8], rule: RuleNumber) -> Text<ROOM>
+    requires { length answer.now ≤ 12 }
+    ensures { result ≡ by_rule table.now answer.now rule }
 {
-    let a = text_make::fact(answer, rule.0 as u64, out, 0);
-    let b = text_make::string(b"id ", out, a);
-    let c = name(text, Row::Rule(rule), out, b);
-    text_make::string(b"\n", out, c)
+    let mut text = Text::new();
+    text.push_fact(answer, rule.0 as u64);
+    text.push_str(b"id ");
+    add_name(table, Row::Rule(rule), &mut text);
+    text.push_str(b"\n");
+    text
 }
 
 // Why a path is denied though no rule says so.
-fn add_reason(f: Fallback, out: &mut [u8], at: usize) -> usize
-    requires { at + 24 ≤ length out.old }
-    ensures { Added out.old at (reason f) out.new result }
+fn reason(f: Fallback) -> &'static [u8]
+    ensures value { result.now ≡ reason f }
+    ensures short { length result.now ≤ 24 }
 {
     match f {
-        Fallback::Default => text_make::string(b"default\n", out, at),
-        Fallback::Explained => text_make::string(b"default\nno rule matches\n", out, at),
-        Fallback::Factory => text_make::string(b"factory\n", out, at),
+        Fallback::Default => b"default\n",
+        Fallback::Explained => b"default\nno rule matches\n",
+        Fallback::Factory => b"factory\n",
     }
 }
 
 // The action and the deciding rule; nothing for a refusal.
-pub fn path(text: &[u8], f: Fallback, a: PathAnswer, out: &mut [u8]) -> usize
-    requires { 37 + max_string ≤ length out.old }
-    ensures { Added out.old 0 (path_lines text.now f a) out.new result }
+pub fn path(table: &[u8], f: Fallback, a: Result<PathAnswer, Fault>) -> Text<ROOM>
+    ensures { result ≡ path_lines table.now f (path_answer_of a) }
 {
     match a {
-        PathAnswer::Permit(rule) => by_rule(text, b"permit\nrule ", rule, out),
-        PathAnswer::Deny(rule) => by_rule(text, b"deny\nrule ", rule, out),
-        PathAnswer::Default => {
-            let at = text_make::string(b"deny\n", out, 0);
-            add_reason(f, out, at)
+        Ok(PathAnswer::Permit(rule)) => by_rule(table, b"permit\nrule ", rule),
+        Ok(PathAnswer::Deny(rule)) => by_rule(table, b"deny\nrule ", rule),
+        Ok(PathAnswer::Default) => {
+            let mut text = Text::new();
+            text.push_str(b"deny\n");
+            text.push_str(reason(f));
+            text
         }
-        PathAnswer::Refused { number, line } => 0,
+        Err(_) => Text::new(),
     }
 }
 
 // No path is permitted.
-fn none(f: Fallback, out: &mut [u8]) -> usize
-    requires { 13 ≤ length out.old }
-    ensures { Added out.old 0 (none_lines f) out.new result }
+fn none(f: Fallback) -> &'static [u8]
+    ensures value { result.now ≡ none_lines f }
+    ensures short { length result.now ≤ 13 }
 {
     match f {
-        Fallback::Default => text_make::string(b"NONE\n", out, 0),
-        Fallback::Explained => text_make::string(b"NONE\n", out, 0),
-        Fallback::Factory => text_make::string(b"NONE\nfactory\n", out, 0),
+        Fallback::Default | Fallback::Explained => b"NONE\n",
+        Fallback::Factory => b"NONE\nfactory\n",
     }
 }
 
 // The tree answer, and the rule that MIXED names; nothing for a refusal.
-pub fn tree(text: &[u8], f: Fallback, a: TreeAnswer, out: &mut [u8]) -> usize
-    requires { 37 + max_string ≤ length out.old }
-    ensures { Added out.old 0 (tree_lines text.now f a) out.new result }
+pub fn tree(table: &[u8], f: Fallback, a: Result<TreeAnswer, Fault>) -> Text<ROOM>
+    ensures { result ≡ tree_lines table.now f (tree_answer_of a) }
 {
     match a {
-        TreeAnswer::All => text_make::string(b"ALL\n", out, 0),
-        TreeAnswer::None => none(f, out),
-        TreeAnswer::Mixed(rule) => by_rule(text, b"MIXED\nrule ", rule, out),
-        TreeAnswer::Refused { number, line } => 0,
+        Ok(TreeAnswer::All) => Text::of(b"ALL\n"),
+        Ok(TreeAnswer::None) => Text::of(none(f)),
+        Ok(TreeAnswer::Mixed(rule)) => by_rule(table, b"MIXED\nrule ", rule),
+        Err(_) => Text::new(),
     }
 }

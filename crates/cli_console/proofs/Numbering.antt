@@ -1,13 +1,13 @@
 -- The lines of a text, by number.
-use Prim.Native.Nat.{ℕ, zero, suc, ◌+◌, ◌-◌, ◌≤◌, ◌<◌}
+use Prim.Native.Nat.{ℕ, zero, suc, ◌+◌, ◌-◌, ◌≤◌, ◌<◌, min}
+use Rattle.std.specs.Prelude.{count_by, ◌==◌, cond, Bool}
 use native.Mathlib.Omega.{arith}
-use native.Mathlib.Numerals.{add-one}
 use borrow.Author.Tests.{eq-eqb, ne_eqb, eqb-true, eqb-false}
 use mathlib.Core.Path.{◌≡◌, refl, sym, ap, ◌∙◌}
 use mathlib.Core.List.{[], ◌∷◌}
 use lib.Dec.{eqb}
-use lib.ListN.{length, drop, get_or, length-drop, drop_of_length-le}
-use lib.Seq.{drop-cons}
+use Rattle.std.proofs.lemmas.List.Sums.{sum_by-cons}
+use lib.ListN.{length, drop, take, length-drop, drop_of_length-le}
 use Rattle.text.specs.Test.{whether◌then◌else◌}
 use Rattle.text.specs.String.{Str}
 use Rattle.text.proofs.Tests.{by}
@@ -38,20 +38,25 @@ first_line_lem s zero l = refl
 first_line_lem s (suc zero) l = refl
 first_line_lem s (suc (suc k)) l = absurd (omega arith)
 
--- what is left to pass from `at` on
-pub record Passing (text : Str) (n at left : ℕ) : Type 0 where
+-- line `line` begins at `at`, and so line n is as far from there on
+pub record Passing (text : Str) (n at line : ℕ) : Type 0 where
   pub within : at ≤ length text
-  pub rest : from_line n text ≡ from_line left (drop at text)
+  pub rest : from_line n text ≡ from_line (n + 1 - line) (drop at text)
 
-module _ {text : Str} {n at left : ℕ} (g : Passing text n at left) where
-  pub line_turn : {next : ℕ} → 1 < left → Next text at next → Passing text n next (left - 1)
-  line_turn {next} l h = record { within = h.within; rest = g.rest ∙ turn_once (drop at text) (drop next text) left l h.rest }
+pub none_passed : (text : Str) (n : ℕ) → Passing text n 0 1
+none_passed text n = let e : n + 1 - 1 ≡ n = omega arith in record { within = omega arith; rest = rw e }
 
-  pub line_here : left ≤ 1 → LineAt text n at
-  line_here l = record { within = g.within; there = sym (g.rest ∙ first_line_lem (drop at text) left l) }
+module _ {text : Str} {n at line : ℕ} (g : Passing text n at line) where
+  pub line_turn : {next : ℕ} → line < n → Next text at next → Passing text n next (line + 1)
+  line_turn {next} l h =
+      let e : n + 1 - line - 1 ≡ n + 1 - (line + 1) = omega arith in
+      record { within = h.within; rest = g.rest ∙ turn_once (drop at text) (drop next text) (n + 1 - line) (omega arith) h.rest ∙ ap (λ (k : ℕ). from_line k (drop next text)) e }
+
+  pub line_here : n ≤ line → LineAt text n at
+  line_here l = record { within = g.within; there = sym (g.rest ∙ first_line_lem (drop at text) (n + 1 - line) (omega arith)) }
 
   pub line_none : length text ≤ at → LineAt text n at
-  line_none l = let e = drop_of_length-le text l in record { within = g.within; there = sym (g.rest ∙ rw e (from_none left) ∙ sym e) }
+  line_none l = let e = drop_of_length-le text l in record { within = g.within; there = sym (g.rest ∙ rw e (from_none (n + 1 - line)) ∙ sym e) }
 
 -- ---- its end
 
@@ -68,10 +73,6 @@ unended_is {text} {n} {at} h end e =
 
 -- ---- the number of a line
 
-number_step : (q : ℕ) (s : Str) (r x y : ℕ) (t u : Str) → q ≡ suc r → s ≡ x ∷ y ∷ t → u ≡ y ∷ t → line_number q s ≡ line_feed x + line_number r u
-unfolding line_number
-number_step q s r x y t u a b c = rw (a, b, c)
-
 number_last : (q : ℕ) (s : Str) → (0 < q → 1 < length s → ⊥) → line_number q s ≡ 1
 unfolding line_number
 number_last zero s h = refl
@@ -79,28 +80,23 @@ number_last (suc q) [] h = refl
 number_last (suc q) (b ∷ []) h = refl
 number_last (suc q) (b ∷ c ∷ s) h = absurd (h (omega arith) (omega arith))
 
-pub feed_one : (b : ℕ) → line_feed b ≤ 1
+number_more : (q : ℕ) (b : ℕ) (s : Str) → 0 < length s → line_number (suc q) (b ∷ s) ≡ line_feed b + line_number q s
+unfolding line_number
+number_more q b [] h = absurd (omega arith)
+number_more q b (c ∷ s) h = refl
+
+feed_is : (b : ℕ) → line_feed b ≡ cond (b == 10) 1 0
 unfolding line_feed whether◌then◌else◌
-feed_one b = by (eqb b 10) (λ t. rw t (omega arith)) (λ t. rw t (omega arith))
+feed_is b = refl
 
--- n is the number of the line that position i is in, if p is not before it
-pub record Counting (text : Str) (p i n : ℕ) : Type 0 where
-  pub few : n ≤ i + 1
-  pub sum : n + line_number (p - i) (drop i text) ≡ line_number p text + 1
+counted : (p e : ℕ) (s : Str) → e ≡ min p (length s - 1) → count_by (λ (b : ℕ). b == 10) (take e s) + 1 ≡ line_number p s
+counted p zero s h = sym (number_last p s (λ a b. let z : ⊥ = omega arith in z))
+counted zero (suc e) s h = absurd (omega arith)
+counted (suc p) (suc e) [] h = absurd (omega arith)
+counted (suc p) (suc e) (b ∷ s) h =
+    let f : ℕ → Bool = λ b. b == 10 in
+    let more : count_by f (take (suc e) (b ∷ s)) ≡ cond (b == 10) 1 0 + count_by f (take e s) = sum_by-cons (λ (x : ℕ). cond (x == 10) 1 0) b (take e s) in
+    rw (number_more p b s (omega arith), feed_is b) (omega (arith, more, counted p e s (omega arith)))
 
-pub number_start : (text : Str) (p : ℕ) → Counting text p 0 1
-number_start text p = let e : p - 0 ≡ p = omega arith in record { few = omega arith; sum = rw e (omega arith) }
-
-module _ {text : Str} {p i n : ℕ} (g : Counting text p i n) where
-  pub number_turn : {m : ℕ} → i < p → i + 1 < length text → m ≡ line_feed (get_or text i 0) → Counting text p (i + 1) (n + m)
-  number_turn {m} l h q =
-      let k : p - i ≡ suc (p - (i + 1)) = omega arith in
-      let a : drop i text ≡ get_or text i 0 ∷ drop (i + 1) text = rw add-one (drop-cons text i 0 (omega arith)) in
-      let b : drop (i + 1) text ≡ get_or text (i + 1) 0 ∷ drop (suc (i + 1)) text = drop-cons text (i + 1) 0 h in
-      let e = number_step (p - i) (drop i text) (p - (i + 1)) (get_or text i 0) (get_or text (i + 1) 0) (drop (suc (i + 1)) text) (drop (i + 1) text) k (a ∙ ap (λ (s : Str). get_or text i 0 ∷ s) b) b in
-      record { few = omega (arith, g.few, q, feed_one (get_or text i 0)); sum = omega (arith, g.sum, e, q) }
-
-  pub number_end_lem : (i < p → length text ≤ i + 1) → n ≡ line_number p text
-  number_end_lem h =
-      let e = number_last (p - i) (drop i text) (λ l m. let z = h (omega arith) in let y : ⊥ = omega (arith, length-drop i text) in y) in
-      omega (arith, g.sum, e)
+pub number_is : (p : ℕ) (s : Str) → count_by (λ (b : ℕ). b == 10) (take (min p (length s - 1)) s) + 1 ≡ line_number p s
+number_is p s = counted p (min p (length s - 1)) s refl

@@ -4,7 +4,6 @@
 pub mod input;
 pub mod lines;
 mod quote;
-pub mod refusal;
-pub mod rows;
+pub mod refused;
 pub mod say;
 pub mod source;

@@ -1,6 +1,6 @@
 // The lines of a text.
-ghost use Rattle.std.specs.Prelude.{◌≡◌, ◌≤◌, length};
-ghost use Rattle.cli_console.specs.Quoted.{from_line, unended, line_feed, line_number};
+ghost use Rattle.std.specs.Prelude.{◌≡◌, ◌≤◌, ◌==◌, count_by, length};
+ghost use Rattle.cli_console.specs.Quoted.{from_line, unended, line_number};
 ghost use Rattle.cli_console.specs.Steps.{LineAt};
 
 use cli_refusal::entry::next;
@@ -12,38 +12,28 @@ fn start(text: &[u8], n: usize) -> usize
     ensures { LineAt text.now n result }
 {
     let mut at = 0;
-    let mut left = n;
-    while 1 < left {
+    for passed in 1..n {
         if text.len() <= at {
             return at;
         }
         at = next(text, at);
-        left -= 1;
     }
     at
 }
 
-// 1 for an LF.
-fn line_feed(b: u8) -> usize
-    ensures { result ≡ line_feed b }
+fn count_feeds(text: &[u8]) -> usize
+    ensures value { result ≡ count_by (λ b. b == 10) text.now }
+    ensures short { result ≤ length text.now }
 {
-    if b == b'\n' { 1 } else { 0 }
+    text.iter().filter(|b| **b == b'\n').count()
 }
 
 // The number of the line that position p is in, counted from 1; the last line's where p is past them all.
 pub fn number_at(text: &[u8], p: usize) -> usize
     ensures { result ≡ line_number p text.now }
 {
-    let mut n = 1;
-    let mut i = 0;
-    while i < p {
-        if text.len() <= i + 1 {
-            return n;
-        }
-        n += line_feed(text[i]);
-        i += 1;
-    }
-    n
+    let last = text.len().saturating_sub(1);
+    count_feeds(&text[..p.min(last)]) + 1
 }
 
 // Prints the line at `at` without its LF; bytes that do not print in hex, after \x.

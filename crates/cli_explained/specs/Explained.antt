@@ -7,8 +7,8 @@ use Rattle.table.specs.Table.{Rule, Table}
 use Rattle.table.specs.Text.{table_of}
 use Rattle.verdict.specs.Verdict.{Request}
 use Rattle.verdict_request.specs.Calls.{request, path_verdict}
-use Rattle.verdict_request.specs.declared.PathAnswer.{PathAnswer}
-use Rattle.verdict_request.specs.declared.PathAnswer.TheVariants as path
+use Rattle.verdict_request.specs.PathAnswer.{PathAnswer}
+use Rattle.verdict_request.specs.PathAnswer as path
 use Rattle.verdict_explain.specs.Ranking.{ranking}
 use Rattle.verdict_explain.specs.Standing.{standing, step_of}
 use Rattle.verdict_explain.specs.declared.Standing.{Standing}

@@ -1,5 +1,5 @@
 -- What the programs on an explanation need and answer.
-use Rattle.std.specs.Prelude.{ℕ, ◌+◌, ◌*◌, ◌≤◌, ◌≡◌, List, length}
+use Rattle.std.specs.Prelude.{ℕ, ◌+◌, ◌≤◌, ◌≡◌, List, length}
 use Rattle.std.proofs.Math.Option.{some}
 use Rattle.limits.specs.Limits.{max_string}
 use Rattle.text.specs.String.{Str}
@@ -10,21 +10,19 @@ use Rattle.table.specs.declared.Checked.TheVariants.{Accepted}
 use Rattle.verdict_judge.specs.Rules.{Placed}
 use Rattle.verdict_request.specs.Calls.{asked}
 use Rattle.verdict_explain.specs.Ranking.{RuleNumbers}
-use Rattle.text_make.specs.Added.{Added}
 use Rattle.cli_explained.specs.Explained.{match_lines}
 
 -- the longest line
 abbrev pub max_ranked_line : ℕ
 max_ranked_line = 161 + max_string
 
--- the first m of `order` are numbers of n rules, which can be read, and `out` has room for their lines
-pub record Rankable (f starts : List ℕ) (n : ℕ) (order : List ℕ) (m : ℕ) (out : List ℕ) : Type 0 where
+-- the first m of `order` are numbers of n rules, which can be read
+pub record Rankable (f starts : List ℕ) (n : ℕ) (order : List ℕ) (m : ℕ) : Type 0 where
   pub placed : Placed f starts n
   pub listed : RuleNumbers order n m
   pub held : n ≤ length order
-  pub room : m * max_ranked_line ≤ length out
 
--- the lines of the rules that match were made in d, if the table is accepted and the path reads
-abbrev pub ListsMatches : Str → Str → ℕ → Str → Str → List ℕ → List ℕ → ℕ → Type 0
-ListsMatches text user mode origin s d d' n =
-    check text ≡ Accepted → (p : Path) → read_text s ≡ some p → Added d 0 (match_lines (table_of text) (asked user mode origin p)) d' n
+-- the lines of the rules that match were made, if the table is accepted and the path reads
+abbrev pub ListsMatches : Str → Str → ℕ → Str → Str → Str → Type 0
+ListsMatches text user mode origin s lines =
+    check text ≡ Accepted → (p : Path) → read_text s ≡ some p → lines ≡ match_lines (table_of text) (asked user mode origin p)

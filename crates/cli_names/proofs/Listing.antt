@@ -1,7 +1,7 @@
 -- The names, added one after another; and how long the line is.
-use mathlib.Core.Path.{◌≡◌, refl, ap}
+use mathlib.Core.Path.{◌≡◌, refl, ap, sym, ◌∙◌}
 use mathlib.Core.Bool.{Bool, true, false}
-use mathlib.Core.List.{List, [], ◌∷◌, ◌++◌}
+use mathlib.Core.List.{List, [], ◌∷◌, ◌++◌, append-nil, append_assoc}
 use Prim.Native.Nat.{ℕ, ◌+◌, ◌-◌, ◌*◌, ◌≤◌, ◌<◌}
 use native.Mathlib.Omega.{arith}
 use borrow.Author.Tests.{ne_eqb}
@@ -10,9 +10,7 @@ use lib.ListN.{length, get_or, length-append}
 use Rattle.limits.specs.Limits.{max_string}
 use Rattle.text.specs.Test.{whether◌then◌else◌, any, only}
 use Rattle.text.specs.String.{Str, same}
-use Rattle.text_make.specs.Added.{Added}
 use Rattle.text.proofs.Tests.{by}
-use Rattle.text.proofs.Filling.{Pending, fill_start, fill_put, fill_room, wrote}
 use Rattle.table_place.specs.Place.{str_in}
 use Rattle.table_rows.specs.Strings.{rows_of, strings_in}
 use Rattle.cli_names.specs.Names.{alike, gather, lead_of, led, listed, grouping, sentence, max_users, max_line}
@@ -21,43 +19,56 @@ use Rattle.cli_names.proofs.Gathering.{strings_next, gather_other, gather_seen, 
 
 -- ---- the names
 
--- those before number i are added
-pub record Listing (f places : List ℕ) (n : ℕ) (out₀ : List ℕ) (at : ℕ) (out : List ℕ) (to i : ℕ) : Type 0 where
+-- those before number i were added to d
+pub record Listing (f places : List ℕ) (n : ℕ) (d d' : List ℕ) (i : ℕ) : Type 0 where
   pub within : i ≤ n
-  pub left : Pending out₀ at (listed true (strings_in f places n 0)) out to (listed (eqb i 0) (strings_in f places (n - i) i))
+  pub made : Str
+  pub added : d' ≡ d ++ made
+  pub same : listed true (strings_in f places n 0) ≡ made ++ listed (eqb i 0) (strings_in f places (n - i) i)
 
-module _ (f places : List ℕ) (n : ℕ) (out₀ : List ℕ) (at : ℕ) where
-  pub listing_start : at + length (listed true (strings_in f places n 0)) ≤ length out₀ → Listing f places n out₀ at out₀ at 0
-  listing_start h = record {
+module _ (f places : List ℕ) (n : ℕ) (d : List ℕ) where
+  pub listing_start : Listing f places n d d 0
+  listing_start = record {
     within = omega arith;
-    left = let e : n - 0 ≡ n = omega arith in rw e (fill_start out₀ at (listed true (strings_in f places n 0)) h);
+    made = [];
+    added = sym (append-nil d);
+    same = let e : n - 0 ≡ n = omega arith in rw e;
   }
 
-  module _ (out : List ℕ) (to i : ℕ) (L : Listing f places n out₀ at out to i) where
+  module _ (d' : List ℕ) (i : ℕ) (L : Listing f places n d d' i) where
     abbrev name : Str
     name = str_in f (get_or places i 0)
 
-    next : i < n → Pending out₀ at (listed true (strings_in f places n 0)) out to (led (eqb i 0) name ++ listed false (strings_in f places (n - (i + 1)) (i + 1)))
+    next : i < n → listed true (strings_in f places n 0) ≡ L.made ++ (led (eqb i 0) name ++ listed false (strings_in f places (n - (i + 1)) (i + 1)))
     unfolding listed
-    next h = rw (strings_next f places n i h) at L.left
+    next h = rw (strings_next f places n i h) at L.same
 
-    pub listing_room : i < n → to + length (led (eqb i 0) name) ≤ length out
-    listing_room h = fill_room _ _ _ _ _ (led (eqb i 0) name) (listed false (strings_in f places (n - (i + 1)) (i + 1))) (next h)
+    pub listing_room : i < n → (m : ℕ) → length d + length (listed true (strings_in f places n 0)) ≤ m → length d' + length (led (eqb i 0) name) ≤ m
+    listing_room h m r =
+        let rest = listed false (strings_in f places (n - (i + 1)) (i + 1)) in
+        omega (
+          arith,
+          r,
+          ap length L.added,
+          length-append d L.made,
+          ap length (next h),
+          length-append L.made (led (eqb i 0) name ++ rest),
+          length-append (led (eqb i 0) name) rest,
+        )
 
-    pub listing_turn : i < n → (out' : List ℕ) (to' : ℕ) → Added out to (led (eqb i 0) name) out' to' → Listing f places n out₀ at out' to' (i + 1)
-    listing_turn h out' to' w = record {
+    pub listing_turn : i < n → (d'' : List ℕ) → d'' ≡ d' ++ led (eqb i 0) name → Listing f places n d d'' (i + 1)
+    listing_turn h d'' e = record {
       within = omega arith;
-      left =
+      made = L.made ++ led (eqb i 0) name;
+      added = e ∙ rw L.added (append_assoc d L.made (led (eqb i 0) name));
+      same =
           let z : eqb (i + 1) 0 ≡ false = ne_eqb (i + 1) 0 (λ e. let x : ⊥ = omega arith in x) in
-          rw z (fill_put _ _ _ _ _ (led (eqb i 0) name) (listed false (strings_in f places (n - (i + 1)) (i + 1))) out' to' (next h) w.wrote.ends w.wrote.same);
+          rw z (next h ∙ sym (append_assoc L.made (led (eqb i 0) name) _));
     }
 
-    pub listing_done : n ≤ i → Added out₀ at (listed true (strings_in f places n 0)) out to
+    pub listing_done : n ≤ i → d' ≡ d ++ listed true (strings_in f places n 0)
     unfolding listed strings_in rows_of
-    listing_done h = record {
-      wrote = let e : n - i ≡ 0 = omega arith in wrote out₀ at (listed true (strings_in f places n 0)) out to (rw e at L.left);
-      fits = L.left.fits;
-    }
+    listing_done h = let e : n - i ≡ 0 = omega arith in rw ((rw e at L.same) ∙ append-nil L.made) L.added
 
 -- ---- the length
 

@@ -11,8 +11,6 @@ use Rattle.limits.specs.Limits.{max_string, max_members, max_rules}
 use Rattle.text.specs.Test.{◌or◌, whether◌then◌else◌, any, only}
 use Rattle.text.specs.String.{Str, same}
 use Rattle.text.proofs.Tests.{by, or_assoc, or_l, or_r, or_false_l, or_false_r, neither}
-use Rattle.text_make.specs.Added.{Added}
-use Rattle.text_make.proofs.Adding.{nothing_added}
 use Rattle.path.specs.Refusal.{unsized}
 use Rattle.table.specs.Table.{Member, Rule}
 use Rattle.table.specs.Text.{check, table_of}
@@ -23,9 +21,9 @@ use Rattle.table_rows.specs.Rules.{rule_in}
 use Rattle.table_rows.proofs.Grow.{strings_length, place_any}
 use Rattle.table_rows.proofs.RuleBytes.{rule_read}
 use Rattle.table_keep.specs.Held.{member_in, members_in}
-use Rattle.table_load.specs.declared.row.Counts.{Counts}
+use Rattle.table_load.specs.declared.loaded.Table.{Table}
 use Rattle.table_load.specs.Held.{RulesAt}
-use Rattle.table_load.specs.Loaded.{Kept}
+use Rattle.table_load.specs.Loaded.{Kept, bytes}
 use Rattle.table_facts.proofs.Names.{identified}
 use Rattle.cli_names.specs.Names.{subjects, users_of, alike, gather, sentence, told, slip, max_line}
 use Rattle.cli_names.specs.Positions.{subjects_in, users_in, Stand, TableReady}
@@ -64,20 +62,20 @@ module _ (f users : List ℕ) (members : ℕ) (starts : List ℕ) (rules : ℕ) 
   pub found_place : (places : List ℕ) (n r : ℕ) → r ≡ place user (strings_in f places n 0) → any (same user) (strings_in f places n 0) ≡ ltb r n
   found_place places n r e = place_any user (strings_in f places n 0) ∙ rw (strings_length f places n, e)
 
-  told_none : (d : List ℕ) → any (same user) all ≡ true → Added d 0 (told grouped user all) d 0
+  told_none : any (same user) all ≡ true → [] ≡ told grouped user all
   unfolding told whether◌then◌else◌
-  told_none d e = rw e (nothing_added d 0 (omega arith))
+  told_none e = rw e
 
-  pub told_member : (d : List ℕ) (r : ℕ) → r ≡ place user (strings_in f users members 0) → r < members → Added d 0 (told grouped user all) d 0
-  told_member d r e h =
-      told_none d
+  pub told_member : (r : ℕ) → r ≡ place user (strings_in f users members 0) → r < members → [] ≡ told grouped user all
+  told_member r e h =
+      told_none
       (any_append (same user) (strings_in f users members 0) (subjects_in f starts rules 0)
       ∙ or_l _ _ (found_place users members r e ∙ lt-ltb r members h))
 
   module _ (places : List ℕ) (s : ℕ) (S : Stand f places s (subjects_in f starts rules 0)) where
-    pub told_subject : (d : List ℕ) (r : ℕ) → r ≡ place user (strings_in f places s 0) → r < s → Added d 0 (told grouped user all) d 0
-    told_subject d r e h =
-        told_none d
+    pub told_subject : (r : ℕ) → r ≡ place user (strings_in f places s 0) → r < s → [] ≡ told grouped user all
+    told_subject r e h =
+        told_none
         (any_append (same user) (strings_in f users members 0) (subjects_in f starts rules 0)
         ∙ or_r _ _ (ap (any (same user)) (sym S.are) ∙ found_place places s r e ∙ lt-ltb r s h))
 
@@ -119,18 +117,18 @@ unfolding RulesAt subjects subjects_in rule_in
 subjects_read f starts [] i h = refl
 subjects_read f starts (r ∷ rs) i h = rw ((rule_read f (get_or starts i 0) r h.0.0 h.0.1).is, subjects_read f starts rs (suc i) h.1)
 
-module _ {text buf : List ℕ} {u : ℕ} {c : Counts} {groups users owners starts holders : List ℕ} (K : Kept text buf u c groups users owners starts holders) where
-  users_are : users_of (table_of text) ≡ users_in (take u buf) users c.members starts c.rules
+module _ {text : List ℕ} {t : Table} (K : Kept text t) where
+  users_are : users_of (table_of text) ≡ users_in (bytes t) t.users t.counts.members t.starts t.counts.rules
   unfolding users_of members_in strings_in
   users_are =
       ap₂ ◌++◌
-      (ap (map (λ (m : Member). m.user)) K.holds.members_are ∙ users_read (table_of text).groups owners (take u buf) users c.members 0)
-      (subjects_read (take u buf) starts (table_of text).rules 0 K.holds.rules_are ∙ ap (λ (n : ℕ). subjects_in (take u buf) starts n 0) K.holds.rules_count)
+      (ap (map (λ (m : Member). m.user)) K.holds.members_are ∙ users_read (table_of text).groups t.owners (bytes t) t.users t.counts.members 0)
+      (subjects_read (bytes t) t.starts (table_of text).rules 0 K.holds.rules_are ∙ ap (λ (n : ℕ). subjects_in (bytes t) t.starts n 0) K.holds.rules_count)
 
-  pub groups_listed : Listed (take u buf) groups c.groups
+  pub groups_listed : Listed (bytes t) t.groups t.counts.groups
   groups_listed = record { laid = K.holds.groups_laid; room = omega (arith, K.holds.long.of_groups, K.holds.few.0) }
 
-  pub table_ready : u ≡ length (take u buf) → TableReady (take u buf) users c.members starts c.rules
+  pub table_ready : t.used ≡ length (bytes t) → TableReady (bytes t) t.users t.counts.members t.starts t.counts.rules
   table_ready e = record {
     users_listed = record { laid = K.holds.users_laid; room = omega (arith, K.holds.long.of_users, K.holds.few.1) };
     rules_placed = identified K;
@@ -143,13 +141,13 @@ module _ {text buf : List ℕ} {u : ℕ} {c : Counts} {groups users owners start
     unfolding slip whether◌then◌else◌
     slip_refused e = rw (K.accepts, e)
 
-    pub slip_is : bad_user user ≡ false → (r : ℕ) → r ≡ place user (strings_in (take u buf) groups c.groups 0)
-        → told (ltb r c.groups) user (users_in (take u buf) users c.members starts c.rules) ≡ slip (check text) (table_of text) user
+    pub slip_is : bad_user user ≡ false → (r : ℕ) → r ≡ place user (strings_in (bytes t) t.groups t.counts.groups 0)
+        → told (ltb r t.counts.groups) user (users_in (bytes t) t.users t.counts.members t.starts t.counts.rules) ≡ slip (check text) (table_of text) user
     unfolding slip whether◌then◌else◌
     slip_is e r p =
         rw (K.accepts, e, users_are, K.holds.groups_are)
-        (ap (λ (t : Bool). told t user (users_in (take u buf) users c.members starts c.rules))
-        (sym (place_any user (strings_in (take u buf) groups c.groups 0) ∙ rw (strings_length (take u buf) groups c.groups, p))))
+        (ap (λ (b : Bool). told b user (users_in (bytes t) t.users t.counts.members t.starts t.counts.rules))
+        (sym (place_any user (strings_in (bytes t) t.groups t.counts.groups 0) ∙ rw (strings_length (bytes t) t.groups t.counts.groups, p))))
 
 pub user_short : (user : Str) → bad_user user ≡ false → length user ≤ max_string
 unfolding bad_user unsized

@@ -1,11 +1,10 @@
 #![tactic(auto)]
 
 // A user whom a table does not name is told on standard error, with the names that differ only in case.
-ghost use Rattle.std.specs.Prelude.{◌≡◌, true, not, ◌+◌, ◌≤◌, ◌<◌, length};
+ghost use Rattle.std.specs.Prelude.{◌≡◌, true, not, ◌+◌, ◌++◌, ◌≤◌, ◌<◌, length};
 ghost use Rattle.limits.specs.Limits.{max_string};
 ghost use Rattle.text.specs.Test.{◌and◌, any};
 ghost use Rattle.text.specs.String.{same};
-ghost use Rattle.text_make.specs.Added.{Added};
 ghost use Rattle.table.specs.Text.{check, table_of};
 ghost use Rattle.table_place.specs.Place.{str_end, str_in};
 ghost use Rattle.table_rows.specs.Strings.{strings_in, Listed};
@@ -14,7 +13,8 @@ ghost use Rattle.cli_names.specs.Positions.{subjects_in, users_in, Pushed, Stand
 
 use cli_show::Stream;
 use cli_show::console::Console;
-use table_load::Loaded;
+use table_load::Table;
+use text_make::Text;
 
 // As many users as a table can name, and the longest line.
 const MAX_USERS: usize = limits::MAX_MEMBERS + limits::MAX_RULES;
@@ -109,76 +109,60 @@ fn gather(f: &[u8], starts: &[u16], n: usize, user: &[u8], kept: &mut [u16], m: 
     count
 }
 
-// Adds the words before a name, of which the first has others; answers, as the functions below, where the text ends.
-fn add_lead(first: bool, out: &mut [u8], at: usize) -> usize
-    requires { at + length (lead_of first) ≤ length out.old }
-    ensures { Added out.old at (lead_of first) out.new result }
+// The words before a name, of which the first has others.
+fn lead(first: bool) -> &'static [u8]
+    ensures { result.now ≡ lead_of first }
 {
-    if first {
-        return text_make::string(b"; it names ", out, at);
-    }
-    text_make::string(b", ", out, at)
+    if first { b"; it names " } else { b", " }
 }
 
 // Adds the name at p of f, after these words.
-fn add_name(f: &[u8], p: usize, first: bool, out: &mut [u8], at: usize) -> usize
-    requires { (str_end f.now p ≤ length f.now) × (at + length (led first (str_in f.now p)) ≤ length out.old) }
-    ensures { Added out.old at (led first (str_in f.now p)) out.new result }
+fn add_name(f: &[u8], p: usize, first: bool, text: &mut Text<MAX_LINE>)
+    requires { (str_end f.now p ≤ length f.now) × (length text.old + length (led first (str_in f.now p)) ≤ max_line) }
+    ensures { text.new ≡ text.old ++ led first (str_in f.now p) }
 {
-    let to = add_lead(first, out, at);
+    text.push_str(lead(first));
     let start = p + 1;
     let end = table_place::str_end(f, p);
-    text_make::string(&f[start..end], out, to)
+    text.push_str(&f[start..end]);
 }
 
 // Adds the names at n places.
-fn add_names(f: &[u8], places: &[u16], n: usize, out: &mut [u8], at: usize) -> usize
-    requires { Listed f.now places.now n × (at + length (listed true (strings_in f.now places.now n 0)) ≤ length out.old) }
-    ensures { Added out.old at (listed true (strings_in f.now places.now n 0)) out.new result }
+fn add_names(f: &[u8], places: &[u16], n: usize, text: &mut Text<MAX_LINE>)
+    requires { Listed f.now places.now n × (length text.old + length (listed true (strings_in f.now places.now n 0)) ≤ max_line) }
+    ensures { text.new ≡ text.old ++ listed true (strings_in f.now places.now n 0) }
 {
-    let mut to = at;
-    let mut i = 0;
-    while i < n {
-        let p = places[i] as usize;
-        to = add_name(f, p, i == 0, out, to);
-        i += 1;
+    for i in 0..n {
+        add_name(f, places[i] as usize, i == 0, text);
     }
-    to
 }
 
-// Adds what is said of a group that has the name.
-fn add_grouping(grouped: bool, out: &mut [u8], at: usize) -> usize
-    requires { at + length (grouping grouped) ≤ length out.old }
-    ensures { Added out.old at (grouping grouped) out.new result }
+// What is said of a group that has the name.
+fn grouping(grouped: bool) -> &'static [u8]
+    ensures { result.now ≡ grouping grouped }
 {
     if grouped {
-        return text_make::string(b"; a group has that name", out, at);
+        b"; a group has that name"
+    } else {
+        b""
     }
-    at
 }
 
-// Makes the sentence at the start of out; answers its length.
-fn make_sentence(
-    f: &[u8],
-    grouped: bool,
-    user: &[u8],
-    places: &[u16],
-    n: usize,
-    out: &mut [u8],
-) -> usize
-    requires { Listed f.now places.now n × (length (sentence grouped user.now (strings_in f.now places.now n 0)) ≤ length out.old) }
-    ensures { Added out.old 0 (sentence grouped user.now (strings_in f.now places.now n 0))
-        out.new result }
+// The sentence.
+fn sentence(f: &[u8], grouped: bool, user: &[u8], places: &[u16], n: usize) -> Text<MAX_LINE>
+    requires { Listed f.now places.now n × (length (sentence grouped user.now (strings_in f.now places.now n 0)) ≤ max_line) }
+    ensures { result ≡ sentence grouped user.now (strings_in f.now places.now n 0) }
 {
-    let a = text_make::string(b"burgee: the table names no user ", out, 0);
-    let b = text_make::string(user, out, a);
-    let c = add_grouping(grouped, out, b);
-    let d = add_names(f, places, n, out, c);
-    text_make::string(b"\n", out, d)
+    let mut text = Text::of(b"burgee: the table names no user ");
+    text.push_str(user);
+    text.push_str(grouping(grouped));
+    add_names(f, places, n, &mut text);
+    text.push_str(b"\n");
+    text
 }
 
-// What is told of a user, at the start of out.
-fn tell_users(
+// What is told of a user.
+fn told(
     f: &[u8],
     users: &[u16],
     members: usize,
@@ -186,70 +170,50 @@ fn tell_users(
     rules: usize,
     grouped: bool,
     user: &[u8],
-    out: &mut [u8],
-) -> usize
-    requires { TableReady f.now users.now members starts.now rules × (length user.now ≤ max_string) × (max_line ≤ length out.old) }
-    ensures { Added out.old 0
-        (told grouped user.now (users_in f.now users.now members starts.now rules))
-        out.new result }
+) -> Text<MAX_LINE>
+    requires { TableReady f.now users.now members starts.now rules × (length user.now ≤ max_string) }
+    ensures { result ≡ told grouped user.now (users_in f.now users.now members starts.now rules) }
 {
     if table_rows::find(f, users, members, user) < members {
-        return 0;
+        return Text::new();
     }
     let mut subjects = [0u16; limits::MAX_RULES];
     let s = find_subjects(f, starts, rules, &mut subjects);
     if table_rows::find(f, &subjects, s, user) < s {
-        return 0;
+        return Text::new();
     }
     let mut kept = [0u16; MAX_USERS];
     let m = gather(f, users, members, user, &mut kept, 0);
     let n = gather(f, &subjects, s, user, &mut kept, m);
-    make_sentence(f, grouped, user, &kept, n, out)
+    sentence(f, grouped, user, &kept, n)
 }
 
-// The line, at the start of out; answers its length, 0 where there is nothing to tell.
-pub fn write_line(text: &[u8], user: &[u8], out: &mut [u8]) -> usize
-    requires { max_line ≤ length out.old }
-    ensures { Added out.old 0 (slip (check text.now) (table_of text.now) user.now) out.new result }
+// The line; nothing where there is nothing to tell.
+pub fn line(text: &[u8], user: &[u8]) -> Text<MAX_LINE>
+    ensures { result ≡ slip (check text.now) (table_of text.now) user.now }
 {
-    let mut buf = [0u8; limits::MAX_TABLE_BYTES];
-    let mut groups = [0u16; limits::MAX_GROUPS];
-    let mut users = [0u16; limits::MAX_MEMBERS];
-    let mut owners = [0u8; limits::MAX_MEMBERS];
-    let mut starts = [0u16; limits::MAX_RULES];
-    let mut holders = [0u8; limits::MAX_RULES];
-    let l = table_load::load(
-        text,
-        &mut buf,
-        &mut groups,
-        &mut users,
-        &mut owners,
-        &mut starts,
-        &mut holders,
-    );
-    let Loaded::Table { used, counts } = l else {
-        return 0;
+    let mut table = Table::new();
+    let Ok(()) = table_load::load(text, &mut table) else {
+        return Text::new();
     };
     if table::is_bad_user(user) {
-        return 0;
+        return Text::new();
     }
-    let f = &buf[..used];
-    let grouped = table_rows::find(f, &groups, counts.groups, user) < counts.groups;
-    tell_users(
+    let f = table.bytes();
+    let counts = table.counts;
+    let grouped = table_rows::find(f, &table.groups, counts.groups, user) < counts.groups;
+    told(
         f,
-        &users,
+        &table.users,
         counts.members,
-        &starts,
+        &table.starts,
         counts.rules,
         grouped,
         user,
-        out,
     )
 }
 
 // Says on standard error that the table names no such user, where that is so.
 pub fn tell(console: &mut Console, text: &[u8], user: &[u8]) {
-    let mut out = [0u8; MAX_LINE];
-    let n = write_line(text, user, &mut out);
-    cli_show::first_to(console, Stream::Error, &out, n);
+    cli_show::word_to(console, Stream::Error, line(text, user).as_bytes());
 }

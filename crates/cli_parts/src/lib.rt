@@ -19,12 +19,10 @@ pub const ROOM: usize = 65536;
 pub fn whole_length(text: &[u8]) -> usize
     ensures { result ≡ whole_length text.now }
 {
-    let mut n = text.len();
-    while 0 < n {
-        if text[n - 1] == b'\n' {
-            return n;
+    for n in (0..text.len()).rev() {
+        if text[n] == b'\n' {
+            return n + 1;
         }
-        n -= 1;
     }
     0
 }
@@ -34,12 +32,8 @@ pub fn keep(buf: &mut [u8], from: usize, to: usize) -> usize
     requires { (from ≤ to) × (to ≤ length buf.old) }
     ensures { Wrote buf.old 0 (part buf.old from to) buf.new result }
 {
-    let mut i = 0;
-    while i < to - from {
-        buf[i] = buf[from + i];
-        i += 1;
-    }
-    i
+    buf.copy_within(from..to, 0);
+    to - from
 }
 
 // The same, and then reads more of the source behind them, as `cli_console::input::fill` does. The count is that of all bytes there: fewer than buf has

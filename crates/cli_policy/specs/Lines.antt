@@ -4,12 +4,12 @@ use Rattle.limits.specs.Limits.{max_policy_string}
 use Rattle.text.specs.String.{Str, bytes}
 use Rattle.policy.specs.Policy.{policy_of}
 use Rattle.policy_facts.specs.Facts.{listed_name}
-use Rattle.policy_facts.specs.declared.Rules.{Rules}
-use Rattle.policy_facts.specs.declared.Rules.TheVariants as rules
+use Rattle.policy_facts.specs.Facts.{Rules}
+use Rattle.policy_facts.specs.Facts as rules
 use Rattle.policy_facts.specs.declared.name.Listed.{Listed}
 use Rattle.policy_facts.specs.declared.name.Listed.TheVariants.{Deny, Allow}
-use Rattle.rpc.specs.declared.verdict.Verdict.{Verdict}
-use Rattle.rpc.specs.declared.verdict.Verdict.TheVariants as verdict
+use Rattle.rpc.specs.Answer.{Verdict}
+use Rattle.rpc.specs.Answer as verdict
 use Rattle.text_make.specs.Text.{up_to, fact}
 
 -- how many rules each list has; a refusal has words of its own

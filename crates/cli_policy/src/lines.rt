@@ -1,45 +1,51 @@
-// The lines of a policy's check and of RPC verdicts, made in a buffer.
-ghost use Rattle.std.specs.Prelude.{◌+◌, ◌≤◌, length};
-ghost use Rattle.limits.specs.Limits.{max_policy_string};
-ghost use Rattle.text_make.specs.Added.{Added};
+// The lines of a policy's check and of RPC verdicts.
+ghost use Rattle.std.specs.Prelude.{◌≡◌, ◌≤◌, length};
+ghost use Rattle.policy_facts.specs.Facts.{answer_of as rules_answer};
+ghost use Rattle.rpc.specs.Answer.{decision_of, answer_of as rpc_answer};
 ghost use Rattle.cli_policy.specs.Lines.{count_lines, by_rule, rpc_lines};
 
-use policy_facts::Rules;
-use policy_facts::name::Listed;
-use rpc::verdict::Verdict;
+use policy_facts::{Listed, RuleCounts};
+use refusal::Refusal;
+use rpc::Verdict;
+use text_make::Text;
+
+// Room for how many rules each list has, and for a verdict.
+pub const COUNTS_ROOM: usize = 74;
+
+pub const ROOM: usize = 56 + limits::MAX_POLICY_STRING;
 
 // How many rules each list has; nothing for a refusal.
-pub fn counts(r: Rules, out: &mut [u8]) -> usize
-    requires { 74 ≤ length out.old }
-    ensures { Added out.old 0 (count_lines r) out.new result }
+pub fn counts(counted: Result<RuleCounts, Refusal>) -> Text<COUNTS_ROOM>
+    ensures { result ≡ count_lines (rules_answer counted) }
 {
-    match r {
-        Rules::Count { deny, allow } => {
-            let at = text_make::fact(b"accepted\ndeny_rules ", deny as u64, out, 0);
-            text_make::fact(b"allow_rules ", allow as u64, out, at)
+    match counted {
+        Ok(counts) => {
+            let mut text = Text::new();
+            text.push_fact(b"accepted\ndeny_rules ", counts.deny as u64);
+            text.push_fact(b"allow_rules ", counts.allow as u64);
+            text
         }
-        Rules::Refused(number) => 0,
+        Err(_) => Text::new(),
     }
 }
 
 // An answer, and the number and the name of the rule that it is by.
-fn by_rule(policy: &[u8], answer: &[u8], number: usize, rule: Listed, out: &mut [u8]) -> usize
-    requires { length answer.now + 27 + max_policy_string ≤ length out.old }
-    ensures { Added out.old 0 (by_rule policy.now answer.now number rule) out.new result }
+fn by_rule(policy: &[u8], answer: &[u8], number: usize, rule: Listed) -> Text<ROOM>
+    requires { length answer.now ≤ 29 }
+    ensures { result ≡ by_rule policy.now answer.now number rule }
 {
-    let n = policy_facts::name::rule_name(policy, rule);
-    let from = n.from;
-    let to = n.to;
-    let a = text_make::fact(answer, number as u64, out, 0);
-    let b = text_make::string(b"name ", out, a);
-    let c = text_make::string_up_to(limits::MAX_POLICY_STRING, &policy[from..to], out, b);
-    text_make::string(b"\n", out, c)
+    let name = policy_facts::rule_name(policy, rule);
+    let mut text = Text::new();
+    text.push_fact(answer, number as u64);
+    text.push_str(b"name ");
+    text.push_up_to(limits::MAX_POLICY_STRING, name);
+    text.push_str(b"\n");
+    text
 }
 
-// The action, and the list, the number and the name of the deciding rule; nothing for a refusal.
-pub fn rpc(policy: &[u8], v: Verdict, out: &mut [u8]) -> usize
-    requires { 56 + max_policy_string ≤ length out.old }
-    ensures { Added out.old 0 (rpc_lines policy.now v) out.new result }
+// The action, and the list, the number and the name of the deciding rule.
+pub fn decision(policy: &[u8], v: Verdict) -> Text<ROOM>
+    ensures { result ≡ rpc_lines policy.now (decision_of v) }
 {
     match v {
         Verdict::Permitted(n) => by_rule(
@@ -47,16 +53,18 @@ pub fn rpc(policy: &[u8], v: Verdict, out: &mut [u8]) -> usize
             b"permit\nlist allow_rules\nrule ",
             n,
             Listed::Allow(n),
-            out,
         ),
-        Verdict::Denied(n) => by_rule(
-            policy,
-            b"deny\nlist deny_rules\nrule ",
-            n,
-            Listed::Deny(n),
-            out,
-        ),
-        Verdict::Default => text_make::string(b"deny\ndefault\n", out, 0),
-        Verdict::Refused(number) => 0,
+        Verdict::Denied(n) => by_rule(policy, b"deny\nlist deny_rules\nrule ", n, Listed::Deny(n)),
+        Verdict::Default => Text::of(b"deny\ndefault\n"),
+    }
+}
+
+// The same; nothing for a refusal.
+pub fn rpc(policy: &[u8], v: Result<Verdict, Refusal>) -> Text<ROOM>
+    ensures { result ≡ rpc_lines policy.now (rpc_answer v) }
+{
+    match v {
+        Ok(v) => decision(policy, v),
+        Err(_) => Text::new(),
     }
 }

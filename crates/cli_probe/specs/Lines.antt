@@ -1,7 +1,7 @@
 -- What is printed for an RPC probe, one fact a line.
 use Rattle.text.specs.String.{Str, bytes}
-use Rattle.rotation_probe.specs.declared.rpcs.RpcAnswer.{RpcAnswer}
-use Rattle.rotation_probe.specs.declared.rpcs.RpcAnswer.TheVariants.{PermitAll, Judged}
+use Rattle.rotation_probe.specs.Answer.{RpcAnswer}
+use Rattle.rotation_probe.specs.Answer.{PermitAll, Judged}
 use Rattle.cli_policy.specs.Lines.{rpc_lines}
 
 -- factory names no rule

@@ -6,10 +6,10 @@ pub mod lines;
 use cli_answers::lines::Fallback;
 use cli_show::console::Console;
 use cli_show::{TEXT_ROOM, WORD_ROOM};
-use rotation::Record;
-use rotation_probe::force::Source;
+use rotation::{Kind, Record};
+use rotation_probe::force::find_source;
 use rotation_probe::rpcs::RpcAnswer;
-use rpc::verdict::Verdict;
+use rpc::Request;
 
 // What is asked of a path; `text` names the rules.
 fn answer_table(
@@ -45,34 +45,17 @@ fn judge(
     origin: &[u8],
     path: &[u8],
 ) {
-    let s = rotation_probe::force::find_source(r, store.len(), 2);
-    match s {
-        Source::Refused(number) => cli_console::refusal::at(console, number, 0),
-        Source::Factory => answer_table(
-            console,
-            r,
-            store,
-            b"",
-            is_tree,
-            user,
-            mode,
-            origin,
-            path,
-            Fallback::Factory,
-        ),
-        Source::Part { start, end } => answer_table(
-            console,
-            r,
-            store,
-            &store[start..end],
-            is_tree,
-            user,
-            mode,
-            origin,
-            path,
-            Fallback::Default,
-        ),
-    }
+    let (text, fallback): (&[u8], Fallback) = match find_source(r, store.len(), Kind::Table) {
+        Err(refusal) => {
+            cli_console::refused::at(console, refusal.number(), 0);
+            return;
+        }
+        Ok(None) => (b"", Fallback::Factory),
+        Ok(Some(part)) => (&store[part.start..part.end], Fallback::Default),
+    };
+    answer_table(
+        console, r, store, text, is_tree, user, mode, origin, path, fallback,
+    );
 }
 
 // burgee rotate verdict|tree FILE USER read|write ORIGIN PATH
@@ -100,21 +83,16 @@ pub fn table(console: &mut Console, r: Record, store: &[u8], is_tree: bool) {
 
 // A probe's answer; `policy` names the rules.
 fn tell_rpc(console: &mut Console, policy: &[u8], a: RpcAnswer) {
-    let mut out = [0u8; cli_show::MAX_LINES];
-    let n = lines::rpc(policy, a, &mut out);
-    cli_show::first(console, &out, n);
-    if let RpcAnswer::Judged(v) = a {
-        if let Verdict::Refused(number) = v {
-            cli_policy::refusal::tell(console, policy, number);
-        }
+    cli_show::word(console, lines::rpc(policy, a).as_bytes());
+    if let RpcAnswer::Refused(number) = a {
+        cli_policy::fault::tell(console, policy, number);
     }
 }
 
 // The same, with the text in force.
 fn answer_rpc(console: &mut Console, r: Record, store: &[u8], a: RpcAnswer) {
-    let s = rotation_probe::force::find_source(r, store.len(), 1);
-    match s {
-        Source::Part { start, end } => tell_rpc(console, &store[start..end], a),
+    match find_source(r, store.len(), Kind::Policy) {
+        Ok(Some(part)) => tell_rpc(console, &store[part.start..part.end], a),
         _ => tell_rpc(console, b"", a),
     }
 }
@@ -129,13 +107,12 @@ pub fn policy(console: &mut Console, r: Record, store: &[u8], words: usize) {
     let got = cli_policy::rpcs::headers(console, 6, words, &mut headers);
     let h = got.count;
     if got.is_good {
-        let a = rotation_probe::rpcs::probe_rpc(
-            r,
-            store,
-            &identity[..i],
-            &path[..p],
-            &headers[..h],
-        );
+        let request = Request {
+            identity: &identity[..i],
+            path: &path[..p],
+            headers: &headers[..h],
+        };
+        let a = rotation_probe::rpcs::probe_rpc(r, store, request);
         answer_rpc(console, r, store, a);
     }
 }

@@ -1,18 +1,19 @@
-// The lines of an RPC probe, made in a buffer.
-ghost use Rattle.std.specs.Prelude.{◌+◌, ◌≤◌, length};
-ghost use Rattle.limits.specs.Limits.{max_policy_string};
-ghost use Rattle.text_make.specs.Added.{Added};
+// The lines of an RPC probe.
+ghost use Rattle.std.specs.Prelude.{◌≡◌};
+ghost use Rattle.rotation_probe.specs.Answer.{answer_of};
 ghost use Rattle.cli_probe.specs.Lines.{probe_lines};
 
+use cli_policy::lines::ROOM;
 use rotation_probe::rpcs::RpcAnswer;
+use text_make::Text;
 
 // The answer, and the rule that it is by; nothing for a refusal.
-pub fn rpc(policy: &[u8], a: RpcAnswer, out: &mut [u8]) -> usize
-    requires { 56 + max_policy_string ≤ length out.old }
-    ensures { Added out.old 0 (probe_lines policy.now a) out.new result }
+pub fn rpc(policy: &[u8], a: RpcAnswer) -> Text<ROOM>
+    ensures { result ≡ probe_lines policy.now (answer_of a) }
 {
     match a {
-        RpcAnswer::PermitAll => text_make::string(b"permit\nfactory\n", out, 0),
-        RpcAnswer::Judged(v) => cli_policy::lines::rpc(policy, v, out),
+        RpcAnswer::PermitAll => Text::of(b"permit\nfactory\n"),
+        RpcAnswer::Judged(v) => cli_policy::lines::decision(policy, v),
+        RpcAnswer::Refused(_) => Text::new(),
     }
 }

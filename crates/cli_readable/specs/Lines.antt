@@ -1,8 +1,8 @@
 -- What is told of a text that `show` or `pack` makes nothing of.
 use Rattle.std.specs.Prelude.{[], ◌++◌}
 use Rattle.text.specs.String.{Str, bytes}
-use Rattle.readable.specs.declared.Converted.{Converted}
-use Rattle.readable.specs.declared.Converted.TheVariants as converted
+use Rattle.readable.specs.Converted.{Converted}
+use Rattle.readable.specs.Converted as converted
 use Rattle.cli_refusal.specs.Refusal.{place, refusal}
 
 -- the refusal; a text that was converted has none

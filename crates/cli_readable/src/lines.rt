@@ -1,23 +1,24 @@
-// The lines of refusals, made in a buffer.
-ghost use Rattle.std.specs.Prelude.{◌≤◌, length};
-ghost use Rattle.text_make.specs.Added.{Added};
+// The lines of refusals.
+ghost use Rattle.std.specs.Prelude.{◌≡◌, ℕ, Result, Err};
+ghost use Rattle.readable.specs.Texts.{converted_of};
 ghost use Rattle.cli_readable.specs.Lines.{refusal_line};
 
-use readable::Converted;
+use cli_refusal::MAX_LINE;
+use readable::Unconverted;
+use text_make::Text;
 
-// Why nothing was made of a text; nothing where it was converted.
-pub fn refusal(c: Converted, out: &mut [u8]) -> usize
-    requires { 1780 ≤ length out.old }
-    ensures { Added out.old 0 (refusal_line c) out.new result }
+// Why nothing was made of a text.
+pub fn refusal(why: Unconverted) -> Text<MAX_LINE>
+    ensures { result ≡ refusal_line (converted_of (Err why)) }
 {
-    match c {
-        Converted::Length(_) => 0,
-        Converted::Refused { number, line } => cli_refusal::line(number, line, out),
-        Converted::Unread { line } => {
-            let place = text_make::string(b"refused", out, 0);
-            let words = cli_refusal::add_place(line, out, place);
-            text_make::string(b": not a line of the readable form\n", out, words)
+    match why {
+        Unconverted::Refused { number, line } => cli_refusal::line(number, line),
+        Unconverted::Unread { line } => {
+            let mut text = Text::of(b"refused");
+            cli_refusal::add_place(line, &mut text);
+            text.push_str(b": not a line of the readable form\n");
+            text
         }
-        Converted::NoRoom => text_make::string(b"refused: too long for a table\n", out, 0),
+        Unconverted::NoRoom => Text::of(b"refused: too long for a table\n"),
     }
 }

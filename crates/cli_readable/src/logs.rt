@@ -1,12 +1,12 @@
 // A log as readable text, and back. Both are converted in parts, since they can be long: what was made before a line that is refused is printed.
-ghost use Rattle.std.specs.Prelude.{◌+◌, ◌≤◌};
+ghost use Rattle.std.specs.Prelude.{◌+◌, ◌≤◌, IfSome};
 ghost use Rattle.limits.specs.Limits.{max_log_lines};
 ghost use Rattle.cli_readable.specs.Steps.{Advances};
 
 use cli_console::input;
 use cli_show::Stream;
 use cli_show::console::Console;
-use readable::Converted;
+use readable::Unconverted;
 use readable_log::Run;
 
 // Room for what is printed at once.
@@ -30,7 +30,7 @@ fn quote(console: &mut Console, packing: bool, rest: &[u8]) {
             b"the line is longer than any good one\n",
         );
     } else {
-        cli_console::refusal::quote_line(console, Stream::Error, rest, 1, true);
+        cli_console::refused::quote_line(console, Stream::Error, rest, 1, true);
     }
 }
 
@@ -39,7 +39,7 @@ fn refuse(console: &mut Console, packing: bool, number: usize, rest: &[u8]) {
     if limits::MAX_LOG_LINES < number {
         crate::tell(
             console,
-            Converted::Refused {
+            Unconverted::Refused {
                 number: 50,
                 line: 0,
             },
@@ -47,11 +47,11 @@ fn refuse(console: &mut Console, packing: bool, number: usize, rest: &[u8]) {
         return;
     }
     if packing {
-        crate::tell(console, Converted::Unread { line: number });
+        crate::tell(console, Unconverted::Unread { line: number });
     } else {
         crate::tell(
             console,
-            Converted::Refused {
+            Unconverted::Refused {
                 number: 51,
                 line: number,
             },
@@ -70,10 +70,10 @@ fn print_run(console: &mut Console, packing: bool, text: &[u8], most: usize) -> 
     run
 }
 
-// Converts and prints whole lines, the first of which has this number. Answers the number of the line after them, or 0 where one of them was refused.
-fn print_lines(console: &mut Console, packing: bool, text: &[u8], first: usize) -> usize
+// Converts and prints whole lines, the first of which has this number. Answers the number of the line after them; none where one of them was refused.
+fn print_lines(console: &mut Console, packing: bool, text: &[u8], first: usize) -> Option<usize>
     requires { first ≤ max_log_lines + 1 }
-    ensures { result ≤ max_log_lines + 1 }
+    ensures { IfSome result (λ number. number ≤ max_log_lines + 1) }
 {
     let mut number = first;
     let mut from = 0;
@@ -88,10 +88,10 @@ fn print_lines(console: &mut Console, packing: bool, text: &[u8], first: usize) 
         number += run.count;
         if run.stopped | ((from < text.len()) & (limits::MAX_LOG_LINES < number)) {
             refuse(console, packing, number, &text[from..]);
-            return 0;
+            return None;
         }
     }
-    number
+    Some(number)
 }
 
 // burgee log show FILE
@@ -113,10 +113,10 @@ pub fn convert(console: &mut Console, packing: bool, argument: usize) {
         }
         to = got.count;
         from = cli_parts::whole_length(&buf[..to]);
-        number = print_lines(console, packing, &buf[..from], number);
-        if number == 0 {
+        let Some(after) = print_lines(console, packing, &buf[..from], number) else {
             return;
-        }
+        };
+        number = after;
         if (to < cli_parts::ROOM) | (longest(packing) <= to - from) {
             if from < to {
                 refuse(console, packing, number, &buf[from..to]);

@@ -1,8 +1,7 @@
 -- The first record of a rotation.
 use Rattle.std.specs.Prelude.{ℕ, ◌≡◌}
-use Rattle.rotation.specs.State.{no_length, bad_kind, bad_record, in_force}
+use Rattle.rotation.specs.State.{no_length, bad_kind, bad_record, in_force, Factory}
 use Rattle.rotation.specs.declared.Record.{Record}
-use Rattle.rotation.specs.declared.InForce.TheVariants.{Factory}
 
 -- no live text, no rotation, no candidate
 unfoldable pub factory_record : ℕ → Record

@@ -5,10 +5,11 @@ pub mod lines;
 
 ghost use Rattle.std.specs.Prelude.{◌≡◌, ◌<◌};
 ghost use Rattle.cli_record.specs.Bytes.{byte_of, record_bytes, of_four_bytes, number_at, record_in};
+ghost use Rattle.rotation.specs.State.{kind_number};
 ghost use Rattle.cli_record.specs.Factory.{factory_record};
 
 use cli_show::console::Console;
-use rotation::Record;
+use rotation::{Kind, Record};
 
 // How many bytes of a file are its record.
 pub const LENGTH: usize = 20;
@@ -73,11 +74,11 @@ pub fn to_bytes(r: Record) -> [u8; LENGTH]
 }
 
 // No live text, no rotation, no candidate.
-pub fn factory(kind: u32) -> Record
-    ensures { result ≡ factory_record kind }
+pub fn factory(kind: Kind) -> Record
+    ensures { result ≡ factory_record (kind_number kind) }
 {
     Record {
-        kind: kind,
+        kind: kind.number(),
         live_slot: 0,
         live_len: rotation::NO_LENGTH,
         rotating: 0,
@@ -87,17 +88,13 @@ pub fn factory(kind: u32) -> Record
 
 // Prints what a record says, unless it or its store of n bytes is refused.
 pub fn tell(console: &mut Console, r: Record, n: usize) {
-    let number = rotation::state::refusal(r, n, limits::CLEAR);
-    if number == limits::CLEAR {
-        print(console, r);
-    } else {
-        cli_console::refusal::at(console, number, 0);
+    match r.check(n) {
+        Ok(()) => print(console, r),
+        Err(refusal) => cli_console::refused::at(console, refusal.number(), 0),
     }
 }
 
 // Prints what a record says.
 pub fn print(console: &mut Console, r: Record) {
-    let mut out = [0u8; cli_show::MAX_LINES];
-    let n = crate::lines::record(r, &mut out);
-    cli_show::first(console, &out, n);
+    cli_show::word(console, lines::record(r).as_bytes());
 }

@@ -14,7 +14,6 @@ use Rattle.text.proofs.Tests.{by}
 use Rattle.text_search.specs.Search.{until, is}
 use Rattle.text_search.proofs.Searching.{until_fits}
 use Rattle.text_affix.specs.Affix.{begins}
-use Rattle.text_make.specs.Added.{Added, AddedUpTo}
 use Rattle.cli_refusal.specs.Entry.{up_to_line, entry}
 use Rattle.cli_refusal.specs.Steps.{Next, EntryAt}
 
@@ -86,20 +85,13 @@ pub entry_end : (text key : Str) (from end : ℕ) → EntryAt text key from → 
 entry_end text key from end h i =
     let u = until_fits (is 10) (drop from text) in let k = length-drop from text in let w = h.within in (omega arith, omega arith)
 
--- there is room for it
-pub entry_fits : (text key : Str) (from end : ℕ) → EntryAt text key from → end ≡ from + until (is 10) (drop from text) → (at m : ℕ) → at + length text ≤ m
-    → at + length (take (end - from) (drop from text)) ≤ m
-entry_fits text key from end h i at m r =
-    let j = entry_end text key from end h i in
-    omega (arith, length-take-le (end - from) (drop from text) (omega (arith, length-drop from text, j)), j)
+-- what stands at `from`, up to the LF at `end`
+module _ (text key : Str) (from end : ℕ) (h : EntryAt text key from) (i : end ≡ from + until (is 10) (drop from text)) where
+  pub entry_is : take (end - from) (drop from text) ≡ entry true key text
+  unfolding up_to_line
+  entry_is = let j : end - from ≡ until (is 10) (drop from text) = omega (arith, i) in rw j h.there
 
--- what stands at `from`, up to the LF at `end`, was added
-pub entry_added : (text key : Str) (from end : ℕ) (d d' : List ℕ) (at e : ℕ) → EntryAt text key from → end ≡ from + until (is 10) (drop from text)
-    → Added d at (take (end - from) (drop from text)) d' e → AddedUpTo (length text) d at (entry true key text) d' e
-unfolding up_to_line
-entry_added text key from end d d' at e h i a =
-    let j : end - from ≡ until (is 10) (drop from text) = omega (arith, i) in
-    let u = until_fits (is 10) (drop from text) in
-    let k = length-drop from text in
-    let q : take (end - from) (drop from text) ≡ entry true key text = rw j h.there in
-    record { added = rw q at a; short = omega (arith, a.wrote.ends, length-take-le (end - from) (drop from text) (omega arith), k, u) }
+  pub entry_short : length (take (end - from) (drop from text)) ≤ length text
+  entry_short =
+      let j = entry_end text key from end h i in
+      omega (arith, length-take-le (end - from) (drop from text) (omega (arith, length-drop from text, j)), j)

@@ -1,6 +1,5 @@
 // Looking up a line of a text by how it begins.
-ghost use Rattle.std.specs.Prelude.{true, ◌+◌, ◌≤◌, ◌<◌, length};
-ghost use Rattle.text_make.specs.Added.{AddedUpTo};
+ghost use Rattle.std.specs.Prelude.{◌≡◌, true, ◌≤◌, ◌<◌, length};
 ghost use Rattle.cli_refusal.specs.Entry.{entry};
 ghost use Rattle.cli_refusal.specs.Steps.{Next, EntryAt};
 
@@ -27,13 +26,12 @@ fn find_entry(text: &[u8], key: &[u8]) -> usize
     at
 }
 
-// Adds what follows `key` in the first line that begins with it.
-pub fn add_entry(text: &[u8], key: &[u8], out: &mut [u8], at: usize) -> usize
-    requires { at + length text.now ≤ length out.old }
-    ensures { AddedUpTo (length text.now) out.old at
-        (entry true key.now text.now) out.new result }
+// What follows `key` in the first line that begins with it; nothing where none does.
+pub fn find<'a>(text: &'a [u8], key: &[u8]) -> &'a [u8]
+    ensures value { result.now ≡ entry true key.now text.now }
+    ensures short { length result.now ≤ length text.now }
 {
     let from = find_entry(text, key);
     let end = text_search::find(text, from, b'\n');
-    text_make::string(&text[from..end], out, at)
+    &text[from..end]
 }

@@ -1,22 +1,23 @@
 #![tactic(auto)]
 
-// The line of a refusal, in words, made in a buffer.
+// The line of a refusal, in words.
 pub mod entry;
 
-ghost use Rattle.std.specs.Prelude.{◌+◌, ◌≤◌, length};
-ghost use Rattle.text_make.specs.Added.{Added, AddedUpTo};
+ghost use Rattle.std.specs.Prelude.{◌≡◌, ◌+◌, ◌++◌, ◌≤◌, length};
 ghost use Rattle.cli_refusal.specs.Refusal.{meaning, place, refusal as Refusal·refusal};
+
+use text_make::Text;
 
 // Room for the line: words are looked up in their table, and no longer than it.
 pub const MAX_LINE: usize = 1780;
 
-// Adds what a number means.
-fn add_meaning(number: u8, out: &mut [u8], at: usize) -> usize
-    requires { at + 1720 ≤ length out.old }
-    ensures { AddedUpTo 1720 out.old at (meaning number) out.new result }
+// What a number means.
+fn meaning(number: u8) -> &'static [u8]
+    ensures value { result.now ≡ meaning number }
+    ensures short { length result.now ≤ 1720 }
 {
     let key = [48 + number / 10 % 10, 48 + number % 10, b' '];
-    entry::add_entry(
+    entry::find(
         b"01 the table text is over 32,768 bytes\n\
         02 not a hex line: an even, nonzero count of digits 0-9a-f, then LF\n\
         03 unknown kind or code byte, or the frame is too short or too long\n\
@@ -50,32 +51,31 @@ fn add_meaning(number: u8, out: &mut [u8], at: usize) -> usize
         50 the log has more than 1,000,000 lines\n\
         51 not a line of a log: mode, user, origin and path of a good request, in hex digits, then LF\n",
         &key,
-        out,
-        at,
     )
 }
 
 // Adds where the refused text has its fault; there is no line 0.
-pub fn add_place(line: usize, out: &mut [u8], at: usize) -> usize
-    requires { at + 29 ≤ length out.old }
-    ensures { AddedUpTo 29 out.old at (place line) out.new result }
+pub fn add_place<const N: usize>(line: usize, text: &mut Text<N>)
+    requires { length text.old + 29 ≤ N }
+    ensures added { text.new ≡ text.old ++ place line }
+    ensures short { length text.new ≤ length text.old + 29 }
 {
-    if line == 0 {
-        return at;
+    if line != 0 {
+        text.push_str(b" at line ");
+        text.push_decimal(line as u64);
     }
-    let number = text_make::string(b" at line ", out, at);
-    text_make::decimal(line as u64, out, number)
 }
 
-// Makes the line of a refusal.
-pub fn line(number: u8, line: usize, out: &mut [u8]) -> usize
-    requires { 1780 ≤ length out.old }
-    ensures { Added out.old 0 (Refusal·refusal number line) out.new result }
+// The line of a refusal.
+pub fn line(number: u8, line: usize) -> Text<MAX_LINE>
+    ensures { result ≡ Refusal·refusal number line }
 {
-    let digits = text_make::string(b"refused ", out, 0);
-    let place = text_make::decimal(number as u64, out, digits);
-    let colon = add_place(line, out, place);
-    let words = text_make::string(b": ", out, colon);
-    let end = add_meaning(number, out, words);
-    text_make::string(b"\n", out, end)
+    let mut text = Text::new();
+    text.push_str(b"refused ");
+    text.push_decimal(number as u64);
+    add_place(line, &mut text);
+    text.push_str(b": ");
+    text.push_str(meaning(number));
+    text.push_str(b"\n");
+    text
 }

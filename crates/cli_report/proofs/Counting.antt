@@ -2,6 +2,7 @@
 use Prim.Native.Nat.{ℕ, ◌+◌}
 use native.Mathlib.Omega.{arith}
 use mathlib.Core.Path.{◌≡◌, refl, sym, ap, ◌∙◌, subst}
+use mathlib.Core.Bool.{Bool}
 use mathlib.Core.List.{List, [], ◌++◌}
 use lib.ListN.{length, take, length-append}
 use Rattle.limits.specs.Limits.{max_rules, max_log_lines}
@@ -9,8 +10,8 @@ use Rattle.text.specs.String.{Str}
 use Rattle.table_line.specs.Lines.{lines}
 use Rattle.table.specs.Text.{table_of}
 use Rattle.table.specs.declared.Checked.TheVariants.{Accepted}
-use Rattle.table_load.specs.declared.row.Counts.{Counts}
-use Rattle.table_load.specs.Loaded.{Kept}
+use Rattle.table_load.specs.declared.loaded.Table.{Table}
+use Rattle.table_load.specs.Loaded.{Kept, bytes}
 use Rattle.verdict.specs.Verdict.{Request}
 use Rattle.request_log.specs.Log.{judge_log, check_log, requests_of, log_of}
 use Rattle.season.proofs.Asked.{log_few}
@@ -25,7 +26,7 @@ use Rattle.season_call.proofs.Reporting.{is_table}
 use Rattle.cli_report.specs.Counted.{NothingCounted, CountedRead, CountedOn}
 
 module _ (f users owners : List ℕ) (m : ℕ) (starts holders : List ℕ) (n : ℕ) (text : Str) (before : ℕ) (counts : List ℕ) (cells : List (List ℕ))
-    (key on counts' : List ℕ) (cells' : List (List ℕ)) (e : Ended)
+    (key : List ℕ) (on : List Bool) (counts' : List ℕ) (cells' : List (List ℕ)) (e : Ended)
     (C : Counts-lines f users owners m starts holders n text before counts cells key on counts' cells' e) where
   pub counted : (all len : ℕ) → e ≡ Lines all len → CountedLines f users owners m starts holders n text before counts cells all key len on counts' cells'
   unfolding Counts-lines
@@ -43,7 +44,7 @@ module _ (f users owners : List ℕ) (m : ℕ) (starts holders : List ℕ) (n : 
   unfolding check_log log_of lines judge_log requests_of
   nothing_so_far = record { read = record { log = []; counted = record { accepted = refl; counts_are = λ t is c. c } }; number = refl }
 
-  module _ (text : Str) (all : ℕ) (counts : List ℕ) (cells : List (List ℕ)) (all' : ℕ) (key : List ℕ) (len : ℕ) (on counts' : List ℕ) (cells' : List (List ℕ))
+  module _ (text : Str) (all : ℕ) (counts : List ℕ) (cells : List (List ℕ)) (all' : ℕ) (key : List ℕ) (len : ℕ) (on : List Bool) (counts' : List ℕ) (cells' : List (List ℕ))
       (S : SoFar all counts cells) (L : CountedLines f users owners m starts holders n text all counts cells all' key len on counts' cells') where
     abbrev before : Str
     before = S.read.log
@@ -70,9 +71,9 @@ module _ (f users owners : List ℕ) (m : ℕ) (starts holders : List ℕ) (n : 
 
 -- ---- on a table text
 
-module _ {text buf : List ℕ} {u : ℕ} {c : Counts} {groups users owners starts holders : List ℕ} (K : Kept text buf u c groups users owners starts holders) where
+module _ {text : List ℕ} {t : Table} (K : Kept text t) where
   pub counted_on : {counts : List ℕ} {cells : List (List ℕ)} {counts' : List ℕ} {cells' : List (List ℕ)} → NothingCounted counts cells
-      → CountedRead (take u buf) users owners c.members starts holders c.rules counts cells counts' cells' → CountedOn text counts' cells'
+      → CountedRead (bytes t) t.users t.owners t.counts.members t.starts t.holders t.counts.rules counts cells counts' cells' → CountedOn text counts' cells'
   counted_on none R = record {
     accepted = K.accepts;
     log = R.log;

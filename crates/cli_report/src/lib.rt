@@ -14,8 +14,11 @@ use cli_console::input;
 use cli_console::source::Source;
 use cli_show::Stream;
 use cli_show::console::Console;
+use refusal::{Fault, Refusal};
 use season_count::lines::Ended;
-use table_load::Loaded;
+use season_sum::writing::MAX_REPORT;
+use table_load::Table;
+use text_make::Text;
 
 // How many of the first `to` bytes of a part are counted at once: its whole lines; or all, where it is the last part or no line ends in it.
 fn lines_end(part: &[u8], to: usize) -> usize
@@ -37,9 +40,9 @@ fn refuse(console: &mut Console, text: &[u8], before: usize, e: Ended) {
     let Ended::Refused { number, line } = e else {
         return;
     };
-    cli_console::refusal::to(console, Stream::Error, number, line);
+    cli_console::refused::to(console, Stream::Error, number, line);
     if before < line {
-        cli_console::refusal::quote_line(console, Stream::Error, text, line - before, true);
+        cli_console::refused::quote_line(console, Stream::Error, text, line - before, true);
     }
 }
 
@@ -58,7 +61,7 @@ fn count_parts(
     part: &mut [u8],
     line: &mut [u8],
     key: &mut [u8],
-    on: &mut [u8],
+    on: &mut [bool],
     counts: &mut [u64; limits::MAX_RULES],
     grid: &mut [[u64; 3]; 2],
 ) -> bool
@@ -142,7 +145,7 @@ fn count_file(
     let mut part = [0u8; cli_parts::ROOM];
     let mut line = [0u8; limits::MAX_LOG_FRAME];
     let mut key = [0u8; limits::MAX_HEADING];
-    let mut on = [0u8; limits::MAX_RULES];
+    let mut on = [false; limits::MAX_RULES];
     count_parts(
         console,
         argument,
@@ -164,12 +167,16 @@ fn count_file(
 }
 
 // Tells why a table is refused.
-fn refuse_table(console: &mut Console, table: &[u8], l: Loaded) {
-    let Loaded::Refused { number, line } = l else {
-        return;
-    };
-    cli_console::refusal::to(console, Stream::Error, number, line);
-    cli_console::refusal::quote_line(console, Stream::Error, table, line, number == 2);
+fn refuse_table(console: &mut Console, table: &[u8], fault: Fault) {
+    let number = fault.refusal.number();
+    cli_console::refused::to(console, Stream::Error, number, fault.line);
+    cli_console::refused::quote_line(
+        console,
+        Stream::Error,
+        table,
+        fault.line,
+        fault.refusal == Refusal::NotHexLine,
+    );
 }
 
 // Counts on a table the log that an argument names; whether that went well. What is not well is told.
@@ -183,34 +190,21 @@ pub fn count(
     requires { NothingCounted counts.old grid.old }
     ensures { result ≡ true → CountedOn table.now counts.new grid.new }
 {
-    let mut buf = [0u8; limits::MAX_TABLE_BYTES];
-    let mut groups = [0u16; limits::MAX_GROUPS];
-    let mut users = [0u16; limits::MAX_MEMBERS];
-    let mut owners = [0u8; limits::MAX_MEMBERS];
-    let mut starts = [0u16; limits::MAX_RULES];
-    let mut holders = [0u8; limits::MAX_RULES];
-    let l = table_load::load(
-        table,
-        &mut buf,
-        &mut groups,
-        &mut users,
-        &mut owners,
-        &mut starts,
-        &mut holders,
-    );
-    let Loaded::Table { used, counts: rows } = l else {
-        refuse_table(console, table, l);
+    let mut loaded = Table::new();
+    if let Err(fault) = table_load::load(table, &mut loaded) {
+        refuse_table(console, table, fault);
         return false;
-    };
+    }
+    let rows = loaded.counts;
     count_file(
         console,
         argument,
-        &buf[..used],
-        &users,
-        &owners,
+        loaded.bytes(),
+        &loaded.users,
+        &loaded.owners,
         rows.members,
-        &starts,
-        &holders,
+        &loaded.starts,
+        &loaded.holders,
         rows.rules,
         counts,
         grid,
@@ -218,10 +212,10 @@ pub fn count(
 }
 
 // Prints the report.
-fn print(console: &mut Console, counts: &[u64; limits::MAX_RULES], grid: [[u64; 3]; 2]) {
-    let mut out = [0u8; limits::REPORT_LINES * season_call::written::LINE_ROOM];
-    let n = season_call::written::write(counts, grid, &mut out);
-    cli_show::first(console, &out, n);
+fn print(console: &mut Console, counts: &[u64; limits::MAX_RULES], grid: &[[u64; 3]; 2]) {
+    let mut text: Text<MAX_REPORT> = Text::new();
+    season_call::written::add_report(counts, grid, &mut text);
+    cli_show::word(console, text.as_bytes());
 }
 
 // The report on a table, and on the log that an argument names.
@@ -229,6 +223,6 @@ pub fn report(console: &mut Console, table: &[u8], argument: usize) {
     let mut counts = [0u64; limits::MAX_RULES];
     let mut grid = [[0u64; 3]; 2];
     if count(console, table, argument, &mut counts, &mut grid) {
-        print(console, &counts, grid);
+        print(console, &counts, &grid);
     }
 }

@@ -5,6 +5,7 @@ use cli_show::Stream;
 use cli_show::console::Console;
 use std::io::IsTerminal;
 use std::rt::Clock;
+use text_make::Text;
 
 // Room for the line.
 const ROOM: usize = 64;
@@ -39,8 +40,8 @@ pub fn tell(console: &mut Console, next: u64, lines: usize) -> u64 {
     if now < next {
         return next;
     }
-    let mut out = [0u8; ROOM];
-    let n = text_make::fact(b"burgee: lines counted so far: ", lines as u64, &mut out, 0);
-    cli_show::first_to(console, Stream::Error, &out, n);
+    let mut text: Text<ROOM> = Text::new();
+    text.push_fact(b"burgee: lines counted so far: ", lines as u64);
+    cli_show::word_to(console, Stream::Error, text.as_bytes());
     now + 1
 }

@@ -2,7 +2,9 @@
 use cli_console::source::Source;
 use cli_show::console::Console;
 use cli_show::{TEXT_ROOM, WORD_ROOM};
-use rotation::{Record, Stepped};
+use refusal::Fault;
+use rotation::{Kind, Record};
+use rotation_upload::Uploaded;
 use table::Checked;
 
 // Writes the record and the store to the file, and behind them what is left to read of `from`; prints the record where all went well.
@@ -18,41 +20,34 @@ fn keep(console: &mut Console, r: Record, store: &[u8], from: &mut Source) {
 }
 
 // Keeps what a step makes of the record, or prints why it is refused.
-fn settle(console: &mut Console, s: Stepped, store: &[u8], from: &mut Source) {
-    let a = s.answer;
-    let next = s.next;
-    match a {
-        Checked::Accepted => keep(console, next, store, from),
-        Checked::Refused { number, line } => cli_console::refusal::at(console, number, line),
+fn settle(console: &mut Console, step: Result<Record, Fault>, store: &[u8], from: &mut Source) {
+    match step {
+        Ok(next) => keep(console, next, store, from),
+        Err(fault) => cli_console::refused::at(console, fault.refusal.number(), fault.line),
     }
 }
 
-// 1 for policy, 2 for table, 0 for anything else.
-fn kind(word: &[u8]) -> u32 {
-    if text::string::is_same(word, b"policy") {
-        return 1;
+fn kind(word: &[u8]) -> Option<Kind> {
+    match word {
+        b"policy" => Some(Kind::Policy),
+        b"table" => Some(Kind::Table),
+        _ => None,
     }
-    if text::string::is_same(word, b"table") {
-        return 2;
-    }
-    0
 }
 
 // burgee rotate new FILE policy|table
 fn new(console: &mut Console) {
     let mut word = [0u8; WORD_ROOM];
     let w = cli_console::input::word(console, 4, &mut word);
-    let k = kind(&word[..w]);
-    if k == 0 {
-        cli_console::say::usage(
+    match kind(&word[..w]) {
+        Some(kind) => make(console, cli_record::factory(kind)),
+        None => cli_console::say::usage(
             console,
             b"a record is for a policy or for a table",
             b"",
             b"rotate",
-        );
-        return;
+        ),
     }
-    make(console, cli_record::factory(k));
 }
 
 // Makes the file, which may not be there.
@@ -68,16 +63,14 @@ fn make(console: &mut Console, r: Record) {
 }
 
 // Keeps what an upload makes of record and store, or prints why it is refused.
-fn settle_upload(console: &mut Console, s: Stepped, store: &[u8], text: &[u8], from: &mut Source) {
-    let a = s.answer;
-    let next = s.next;
-    match a {
-        Checked::Accepted => keep(console, next, store, from),
+fn settle_upload(console: &mut Console, s: Uploaded, store: &[u8], text: &[u8], from: &mut Source) {
+    match s.answer {
+        Checked::Accepted => keep(console, s.next, store, from),
         Checked::Refused { number, line } => {
             if number < 30 {
-                cli_console::refusal::of_text(console, text, number, line);
+                cli_console::refused::of_text(console, text, number, line);
             } else {
-                cli_policy::refusal::tell(console, text, number);
+                cli_policy::fault::tell(console, text, number);
             }
         }
     }
@@ -105,26 +98,21 @@ enum Step {
     Tree,
     Rpc,
     Show,
-    Unknown,
 }
 
 // The step of that name.
-fn named(word: &[u8]) -> Step {
-    let place = cli_console::lines::place(
-        b"start\nfinalize\nclose\nupload\nnew\nverdict\ntree\nrpc\nshow\n",
-        word,
-    );
-    match place {
-        1 => Step::Start,
-        2 => Step::Finalize,
-        3 => Step::Close,
-        4 => Step::Upload,
-        5 => Step::New,
-        6 => Step::Verdict,
-        7 => Step::Tree,
-        8 => Step::Rpc,
-        9 => Step::Show,
-        _ => Step::Unknown,
+fn named(word: &[u8]) -> Option<Step> {
+    match word {
+        b"start" => Some(Step::Start),
+        b"finalize" => Some(Step::Finalize),
+        b"close" => Some(Step::Close),
+        b"upload" => Some(Step::Upload),
+        b"new" => Some(Step::New),
+        b"verdict" => Some(Step::Verdict),
+        b"tree" => Some(Step::Tree),
+        b"rpc" => Some(Step::Rpc),
+        b"show" => Some(Step::Show),
+        _ => None,
     }
 }
 
@@ -134,8 +122,7 @@ fn takes(step: Step, words: usize) -> bool {
         Step::Start | Step::Finalize | Step::Close | Step::Show => words == 4,
         Step::Upload | Step::New => words == 5,
         Step::Verdict | Step::Tree => words == 8,
-        Step::Rpc => (words == 6) | (words == 7),
-        Step::Unknown => false,
+        Step::Rpc => words == 6 || words == 7,
     }
 }
 
@@ -200,10 +187,11 @@ fn open(console: &mut Console, step: Step, words: usize) {
 
 // The step, if there is one of that name and it takes that many words.
 pub fn run(console: &mut Console, word: &[u8], words: usize) {
-    let step = named(word);
-    if let Step::Unknown = step {
+    let Some(step) = named(word) else {
         cli_console::say::usage(console, b"no such step of a rotation: ", word, b"rotate");
-    } else if !takes(step, words) {
+        return;
+    };
+    if !takes(step, words) {
         cli_console::say::misuse(console, b"rotate");
     } else if cli_console::input::is_standard(console, 3) {
         cli_console::say::usage(

@@ -1,10 +1,10 @@
 -- The page for a person on a season: the rules that decided, those that never did, and the grid.
-use Rattle.std.specs.Prelude.{ℕ, ◌+◌, List, [], ◌++◌, eqb, length, take, get_or}
+use Rattle.std.specs.Prelude.{ℕ, ◌+◌, List, ◌++◌, eqb, length, take}
 use Rattle.text.specs.Test.{whether◌then◌else◌}
 use Rattle.text.specs.String.{Str, bytes}
 use Rattle.text_make.specs.Text.{fact}
 use Rattle.table.specs.Table.{Rule}
-use Rattle.season_parts.specs.Grid.{grid_lines}
+use Rattle.season_parts.specs.Grid.{cell, grid_lines}
 use Rattle.cli_season_rules.specs.Rules.{decided_lines, never_lines}
 
 abbrev pub none_line : Str
@@ -26,10 +26,6 @@ never_part rules counts =
     bytes "\nA share is of all requests, rounded down; a bar is of the largest count.\n\nrules that never decided\n  rule  action  id\n" ++
     or_none (never_lines 0 rules counts) ++
     bytes "\n"
-
--- row r, column c
-abbrev pub cell : List (List ℕ) → ℕ → ℕ → ℕ
-cell grid r c = get_or (get_or grid r []) c 0
 
 unfoldable pub sum_of : List (List ℕ) → ℕ
 sum_of g = cell g 0 0 + cell g 0 1 + cell g 0 2 + cell g 1 0 + cell g 1 1 + cell g 1 2

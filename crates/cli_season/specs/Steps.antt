@@ -1,17 +1,12 @@
 -- What the programs on the page need and answer.
-use Rattle.std.specs.Prelude.{ℕ, ◌+◌, ◌*◌, ◌≤◌, ◌≡◌, List, [], eqb}
-use Rattle.limits.specs.Limits.{max_log_lines, max_rules}
+use Rattle.std.specs.Prelude.{ℕ, ◌+◌, ◌*◌, ◌≡◌, List, [], eqb}
+use Rattle.limits.specs.Limits.{max_rules}
 use Rattle.text.specs.Test.{whether◌then◌else◌}
 use Rattle.text.specs.String.{Str}
-use Rattle.text_make.specs.Added.{Added}
 use Rattle.table.specs.Text.{check, table_of}
 use Rattle.table.specs.declared.Checked.TheVariants.{Accepted}
 use Rattle.cli_season_rules.specs.Steps.{max_rule_line, max_decided_line}
-use Rattle.cli_season.specs.Page.{none_line, cell, page}
-
--- no cell of the grid is more than a log has lines
-abbrev pub FewCells : List (List ℕ) → Type 0
-FewCells grid = (r c : ℕ) → cell grid r c ≤ max_log_lines
+use Rattle.cli_season.specs.Page.{none_line, page}
 
 -- told where a list of lines, which ends where it starts, has none
 unfoldable pub none_from : ℕ → ℕ → Str
@@ -21,6 +16,6 @@ none_from start end = whether eqb start end then none_line else []
 abbrev pub max_page : ℕ
 max_page = max_rules * (max_decided_line + max_rule_line) + 600
 
--- the page on the table's rules was made in d, if the table is accepted
-abbrev pub MakesPage : Str → List ℕ → List (List ℕ) → List ℕ → List ℕ → ℕ → Type 0
-MakesPage text counts grid d d' n = check text ≡ Accepted → Added d 0 (page (table_of text).rules counts grid) d' n
+-- the page on the table's rules was made, if the table is accepted
+abbrev pub MakesPage : Str → List ℕ → List (List ℕ) → Str → Type 0
+MakesPage text counts grid made = check text ≡ Accepted → made ≡ page (table_of text).rules counts grid

@@ -9,7 +9,7 @@ pub mod sums;
 ghost use Rattle.std.specs.Prelude.{◌≡◌, length};
 ghost use Rattle.limits.specs.Limits.{max_rules};
 ghost use Rattle.cli_season_rules.specs.Steps.{Few};
-ghost use Rattle.cli_season.specs.Steps.{FewCells};
+ghost use Rattle.season_parts.specs.Grid.{FewCells};
 
 use cli_show::console::Console;
 
@@ -22,10 +22,7 @@ pub fn page(
 )
     requires { (length counts.now ≡ max_rules) × Few counts.now × FewCells grid.now }
 {
-    let mut out = [0u8; making::MAX_PAGE];
-    let n = making::make(text, counts, grid, &mut out);
-    let made = cli_console::input::within(n, &out);
-    cli_show::word(console, &out[..made]);
+    cli_show::word(console, making::make(text, counts, grid).as_bytes());
 }
 
 // The page on a table, and on the log that an argument names.

@@ -1,9 +1,9 @@
-// The lines on reports that are refused, made in a buffer.
-ghost use Rattle.std.specs.Prelude.{◌≡◌, ◌+◌, ◌≤◌, length};
-ghost use Rattle.text_make.specs.Added.{Added, AddedUpTo};
-ghost use Rattle.cli_season.specs.Refusals.{line_of, reason as Refusals·reason, refused_report};
+// The lines on reports that are refused.
+ghost use Rattle.std.specs.Prelude.{◌≡◌, ◌+◌, ◌++◌, ◌≤◌, length};
+ghost use Rattle.cli_season.specs.Refusals.{line_of, reason, refused_report};
 
 use season_sum::Outcome;
+use text_make::Text;
 
 // Room for a line, beside the name of the file.
 pub const MAX_WORDS: usize = 120;
@@ -20,32 +20,27 @@ pub fn line_of(o: Outcome) -> usize
     }
 }
 
-fn reason(o: Outcome, out: &mut [u8], at: usize) -> usize
-    requires { at + 80 ≤ length out.old }
-    ensures { AddedUpTo 80 out.old at (Refusals·reason o) out.new result }
+fn reason(o: Outcome) -> &'static [u8]
+    ensures value { result.now ≡ reason o }
+    ensures short { length result.now ≤ 80 }
 {
     match o {
-        Outcome::Good => at,
-        Outcome::NoFigure { line } => text_make::string(
+        Outcome::Good => b"",
+        Outcome::NoFigure { .. } =>
             b": not a decimal number of 64 bits at most, without leading zeros\n",
-            out,
-            at,
-        ),
-        Outcome::LineCount { line } => text_make::string(b": a report has 262 lines\n", out, at),
-        Outcome::TooLarge { line } => {
-            text_make::string(b": the sum has more than 64 bits\n", out, at)
-        }
+        Outcome::LineCount { .. } => b": a report has 262 lines\n",
+        Outcome::TooLarge { .. } => b": the sum has more than 64 bits\n",
     }
 }
 
 // Why the report of a file is refused.
-pub fn line(name: &[u8], o: Outcome, out: &mut [u8]) -> usize
-    requires { length name.now + 120 ≤ length out.old }
-    ensures { Added out.old 0 (refused_report name.now o) out.new result }
+pub fn add_line<const N: usize>(name: &[u8], o: Outcome, text: &mut Text<N>)
+    requires { length text.old + length name.now + 120 ≤ N }
+    ensures { text.new ≡ text.old ++ refused_report name.now o }
 {
-    let place = text_make::string(b"refused", out, 0);
-    let of = cli_refusal::add_place(line_of(o), out, place);
-    let file = text_make::string(b" of ", out, of);
-    let words = text_make::string(name, out, file);
-    reason(o, out, words)
+    text.push_str(b"refused");
+    cli_refusal::add_place(line_of(o), text);
+    text.push_str(b" of ");
+    text.push_str(name);
+    text.push_str(reason(o));
 }

@@ -2,27 +2,30 @@
 ghost use Rattle.std.specs.Prelude.{◌≡◌, length};
 ghost use Rattle.limits.specs.Sizes.{report_lines};
 
+use crate::refusals;
 use cli_console::input;
 use cli_show::console::Console;
 use cli_show::{Stream, WORD_ROOM};
 use season_sum::Outcome;
+use season_sum::writing::{self, MAX_REPORT};
+use text_make::Text;
 
-// Room for the longest report.
-const MAX_REPORT: usize = limits::REPORT_LINES * season_sum::writing::MAX_FIGURE_LINE;
-
-// And for a byte more, so that a longer text is told from it.
+// Room for the longest report, and for a byte more, so that a longer text is told from it.
 const TEXT_ROOM: usize = MAX_REPORT + 1;
 
 // As many bytes as a word has.
 const MAX_NAME: usize = WORD_ROOM;
 
+// Room for the line of a refusal.
+const MAX_LINE: usize = MAX_NAME + refusals::MAX_WORDS;
+
 // Tells why the report in the file that argument i names is refused.
 fn refuse(console: &mut Console, i: usize, o: Outcome) {
     let mut name = [0u8; MAX_NAME];
     let k = input::word(console, i, &mut name);
-    let mut out = [0u8; MAX_NAME + crate::refusals::MAX_WORDS];
-    let n = crate::refusals::line(&name[..k], o, &mut out);
-    cli_show::first_to(console, Stream::Error, &out, n);
+    let mut line: Text<MAX_LINE> = Text::new();
+    refusals::add_line(&name[..k], o, &mut line);
+    cli_show::word_to(console, Stream::Error, line.as_bytes());
     cli_show::marks::refusal(console);
 }
 
@@ -30,7 +33,7 @@ fn refuse(console: &mut Console, i: usize, o: Outcome) {
 fn quote(console: &mut Console, text: &[u8], o: Outcome, is_all: bool) {
     match o {
         Outcome::Good => {}
-        Outcome::NoFigure { line } => cli_console::refusal::quote_line(
+        Outcome::NoFigure { line } => cli_console::refused::quote_line(
             console,
             Stream::Error,
             text,
@@ -39,10 +42,10 @@ fn quote(console: &mut Console, text: &[u8], o: Outcome, is_all: bool) {
         ),
         Outcome::LineCount { line } => {
             if limits::REPORT_LINES < line {
-                cli_console::refusal::quote_line(console, Stream::Error, text, line, false);
+                cli_console::refused::quote_line(console, Stream::Error, text, line, false);
             }
         }
-        Outcome::TooLarge { line } => cli_console::refusal::quote_line(
+        Outcome::TooLarge { line } => cli_console::refused::quote_line(
             console,
             Stream::Error,
             text,
@@ -75,14 +78,12 @@ fn add(console: &mut Console, i: usize, sums: &mut [u64; limits::REPORT_LINES]) 
 // Whether standard input is named once at most, from argument 2 on.
 fn is_read_once(console: &Console, words: usize) -> bool {
     let mut is_named = false;
-    let mut i = 2;
-    while i < words {
+    for i in 2..words {
         let is_standard = input::is_standard(console, i);
-        if is_named & is_standard {
+        if is_named && is_standard {
             return false;
         }
-        is_named = is_named | is_standard;
-        i += 1;
+        is_named |= is_standard;
     }
     true
 }
@@ -99,14 +100,12 @@ pub fn run(console: &mut Console, words: usize) {
         return;
     }
     let mut sums = [0u64; limits::REPORT_LINES];
-    let mut i = 2;
-    while i < words {
+    for i in 2..words {
         if !add(console, i, &mut sums) {
             return;
         }
-        i += 1;
     }
-    let mut out = [0u8; MAX_REPORT];
-    let n = season_sum::writing::write(&sums, &mut out);
-    cli_show::first(console, &out, n);
+    let mut report: Text<MAX_REPORT> = Text::new();
+    writing::add_lines(&sums, &mut report);
+    cli_show::word(console, report.as_bytes());
 }

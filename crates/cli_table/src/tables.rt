@@ -1,62 +1,62 @@
 // A rule table's check, a user's groups, the verdicts.
-ghost use Rattle.std.specs.Prelude.{◌≡◌, ◌+◌, ◌*◌, ◌≤◌, length};
-ghost use Rattle.limits.specs.Limits.{max_groups};
+ghost use Rattle.std.specs.Prelude.{◌≡◌, ◌≤◌, length};
+ghost use Rattle.table.specs.Counted.{counted_as};
 ghost use Rattle.table.specs.Group.{group_count};
-ghost use Rattle.text_make.specs.Added.{Added};
-ghost use Rattle.cli_answers.specs.Rows.{max_count_line, max_group_line, groups_text};
+ghost use Rattle.cli_answers.specs.Rows.{max_count_line, groups_text};
 ghost use Rattle.cli_answers.specs.Steps.{ListsGroups};
 
 use cli_answers::lines::Fallback;
+use cli_answers::rows;
 use cli_show::console::Console;
-use table::Counted;
-use table_check::Seen;
+use refusal::Fault;
+use table::Groups;
+use text_make::Text;
 
 // Room for how many groups there are, and a line for each.
-const MAX_GROUPS_TEXT: usize = cli_answers::rows::MAX_COUNT_LINE
-    + limits::MAX_GROUPS * cli_answers::rows::MAX_GROUP_LINE;
+const MAX_GROUPS_TEXT: usize = rows::MAX_COUNT_LINE + limits::MAX_GROUPS * rows::MAX_GROUP_LINE;
 
 // How many rows of each kind an accepted table has, or why it is refused.
 pub fn check(console: &mut Console, text: &[u8]) {
-    let s = table_check::look(text, b"");
-    match s {
-        Seen::Table { counts, set } => {
-            let mut out = [0u8; cli_show::MAX_LINES];
-            let n = cli_answers::rows::counts(
-                counts.groups,
-                counts.members,
-                counts.rules,
-                &mut out,
-            );
-            cli_show::first(console, &out, n);
+    match table_check::look(text, b"") {
+        Ok(seen) => {
+            let counts = seen.counts;
+            let lines = rows::counts(counts.groups, counts.members, counts.rules);
+            cli_show::word(console, lines.as_bytes());
         }
-        Seen::Refused { number, line } => cli_console::refusal::of_text(
-            console, text, number, line,
+        Err(fault) => cli_console::refused::of_text(
+            console,
+            text,
+            fault.refusal.number(),
+            fault.line,
         ),
     }
 }
 
-// A line for each group that lists the user, from `at` on; nothing where the table is refused.
-fn list(text: &[u8], user: &[u8], out: &mut [u8], at: usize) -> usize
-    requires { at + max_groups * max_group_line ≤ length out.old }
-    ensures { ListsGroups text.now user.now out.old at out.new result }
+// Adds a line for each group that lists the user; nothing where the table is refused.
+fn add_groups(table: &[u8], user: &[u8], text: &mut Text<MAX_GROUPS_TEXT>)
+    requires { length text.old ≤ max_count_line }
+    ensures { ListsGroups table.now user.now text.old text.new }
 {
-    let s = table_check::look(text, user);
-    let Seen::Table { counts, set } = s else {
-        return at;
+    let Ok(seen) = table_check::look(table, user) else {
+        return;
     };
-    cli_answers::rows::group_lines(text, set, counts.groups, out, at)
+    rows::add_groups(table, seen.set, seen.counts.groups, text);
 }
 
 // How many groups list the user, as c says, and each of them; nothing for a refusal.
-fn tell_groups(text: &[u8], user: &[u8], c: Counted, out: &mut [u8]) -> usize
-    requires { (c ≡ group_count text.now user.now) × (max_count_line + max_groups * max_group_line ≤ length out.old) }
-    ensures { Added out.old 0 (groups_text text.now user.now) out.new result }
+fn groups_text(table: &[u8], user: &[u8], c: Result<Option<Groups>, Fault>) -> Text<MAX_GROUPS_TEXT>
+    requires { counted_as c ≡ group_count table.now user.now }
+    ensures { result ≡ groups_text table.now user.now }
 {
-    let at = cli_answers::rows::groups(c, out);
+    let mut text = Text::new();
+    rows::add_count(c, &mut text);
     match c {
-        Counted::Count { count, first } => list(text, user, out, at),
-        Counted::NoGroup => at,
-        Counted::Declined { number, line } => at,
+        Ok(Some(_)) => {
+            add_groups(table, user, &mut text);
+            text
+        }
+        Ok(None) => text,
+        Err(_) => text,
     }
 }
 
@@ -64,11 +64,9 @@ fn tell_groups(text: &[u8], user: &[u8], c: Counted, out: &mut [u8]) -> usize
 pub fn groups(console: &mut Console, text: &[u8], user: &[u8]) {
     cli_names::tell(console, text, user);
     let c = table_check::count_groups(text, user);
-    let mut out = [0u8; MAX_GROUPS_TEXT];
-    let n = tell_groups(text, user, c, &mut out);
-    cli_show::first(console, &out, n);
-    if let Counted::Declined { number, line } = c {
-        cli_console::refusal::of_text(console, text, number, line);
+    cli_show::word(console, groups_text(text, user, c).as_bytes());
+    if let Err(fault) = c {
+        cli_console::refused::of_text(console, text, fault.refusal.number(), fault.line);
     }
 }
 

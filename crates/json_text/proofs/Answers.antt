@@ -9,8 +9,7 @@ use lib.ListN.{length, drop}
 use lib.Dec.{eqb}
 use borrow.Author.Tests.{eq-eqb, ne_eqb}
 use Rattle.limits.specs.Limits.{max_depth}
-use Rattle.json_text.specs.declared.scan.Next.{Next}
-use Rattle.json_text.specs.declared.scan.Next.TheVariants.{At, Bad}
+use Rattle.std.specs.Prelude.{Option as Place, Some, None}
 use Rattle.json_text.specs.Scan.{white_at}
 use Rattle.json_text.specs.Value.{value_at, reaches_end, is_json}
 use Rattle.json_grammar.specs.Json.{Json}
@@ -33,9 +32,9 @@ answered_none : succeeds {A = Json} none ≡ false
 unfolding succeeds
 answered_none = refl
 
-whole : (s : List ℕ) (n : Next) (o : Option (Json × List ℕ)) → Same (skip white) s n o → reaches_end s n ≡ succeeds (o >>= λ r. at_last r.0 r.1)
-whole s (At e) o r = rw (binds (λ r. at_last r.0 r.1) r.2) (ends s e r.1 r.0 _ (ws_drop s e r.1))
-whole s Bad o r = sym (ap succeeds (binds_none (λ r. at_last r.0 r.1) r) ∙ answered_none)
+whole : (s : List ℕ) (n : Place ℕ) (o : Option (Json × List ℕ)) → Same (skip white) s n o → reaches_end s n ≡ succeeds (o >>= λ r. at_last r.0 r.1)
+whole s (Some e) o r = rw (binds (λ r. at_last r.0 r.1) r.2) (ends s e r.1 r.0 _ (ws_drop s e r.1))
+whole s None o r = sym (ap succeeds (binds_none (λ r. at_last r.0 r.1) r) ∙ answered_none)
 
 pub recognises : (s : List ℕ) → is_json s ≡ succeeds (parse s)
 unfolding is_json parse

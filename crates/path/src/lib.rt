@@ -1,4 +1,4 @@
 #![tactic(auto)]
 
 // Paths in their bytes.
-pub mod refusal;
+pub mod check;

@@ -3,188 +3,162 @@
 // A path inside a frame: where it ends, and the smallest refusal number that it gets. Limits are judged, not assumed: any count byte reads.
 ghost use Rattle.std.specs.Prelude.{◌≡◌, false};
 ghost use Rattle.text.specs.Frame.{times};
+ghost use Rattle.refusal.specs.Refusal.{code};
 ghost use Rattle.path.specs.Bytes.{key, element, path};
 ghost use Rattle.path.specs.Walk.{keys_refusal, elem_refusal, elems_refusal, has_name, twice_in, is_path_in, is_path, path_refusal};
-ghost use Rattle.path_frame.specs.Walked.{walked};
+ghost use Rattle.path_frame.specs.Walked.{walked, walk_said, key_said};
 
-use text::frame::End;
+use refusal::Refusal;
 
+// A key of an element, and where reading goes on.
 #[derive(Clone, Copy)]
-pub enum Walk {
-    // The smallest of 5 to 8, or `limits::CLEAR`, and where reading goes on.
-    To { refusal: u8, next: usize },
-    // The frame is too short.
-    Unread,
+pub struct Key<'a> {
+    pub name: &'a [u8],
+    pub value: &'a [u8],
+    pub next: usize,
+}
+
+// What was read is refused with the smallest of 5 to 8, or not at all, and where reading goes on.
+#[derive(Clone, Copy)]
+pub struct Walked {
+    pub refusal: Result<(), Refusal>,
+    pub next: usize,
+}
+
+// The key at `at`. None: the frame is too short.
+#[tactic(auto, using(crate::proofs::Keys::reading), unfolding(crate::specs::Walked::key_said))]
+pub fn read_key(f: &[u8], at: usize) -> Option<Key>
+    ensures { key_said result ≡ key f.now at }
+{
+    let middle = text::frame::string_end(f, at)?;
+    let next = text::frame::string_end(f, middle)?;
+    Some(Key {
+        name: &f[at + 1..middle],
+        value: &f[middle + 1..next],
+        next,
+    })
 }
 
 // One of the `count` keys from `at` on has the name. (False where they do not read.)
+#[tactic(auto, using(crate::proofs::Walks::having), unfolding(crate::specs::Walked::key_said))]
 fn has_key(f: &[u8], at: usize, count: usize, name: &[u8]) -> bool
     ensures { result ≡ has_name false name.now (times count key f.now at) }
 {
     let mut found = false;
     let mut p = at;
-    let mut left = count;
-    while 0 < left {
-        let n = text::frame::string_end(f, p);
-        let End::At(middle) = n else {
+    for _ in 0..count {
+        let Some(k) = read_key(f, p) else {
             return false;
         };
-        let v = text::frame::string_end(f, middle);
-        let End::At(end) = v else {
-            return false;
-        };
-        let start = p + 1;
-        found = found | text::string::is_same(name, &f[start..middle]);
-        p = end;
-        left -= 1;
+        found |= text::string::is_same(name, k.name);
+        p = k.next;
     }
     found
 }
 
 // Two of the `count` keys from `at` on have the same name. (False where they do not read.)
+#[tactic(auto, using(crate::proofs::Walks::twices, text::proofs::Choices::choices), unfolding(crate::specs::Walked::key_said))]
 pub fn has_twice(f: &[u8], at: usize, count: usize) -> bool
     ensures { result ≡ twice_in (times count key f.now at) }
 {
     let mut p = at;
-    let mut left = count;
-    while 1 < left {
-        let n = text::frame::string_end(f, p);
-        let End::At(middle) = n else {
+    for later in (1..count).rev() {
+        let Some(k) = read_key(f, p) else {
             return false;
         };
-        let v = text::frame::string_end(f, middle);
-        let End::At(end) = v else {
-            return false;
-        };
-        let start = p + 1;
-        left -= 1;
-        if has_key(f, end, left, &f[start..middle]) {
+        if has_key(f, k.next, later, k.name) {
             return true;
         }
-        p = end;
+        p = k.next;
     }
     false
 }
 
-// The number of a key; `again`: a later key of its element has the same name.
-fn key_refusal(name: &[u8], value: &[u8], again: bool) -> u8
-    ensures { result ≡ Rattle.path.specs.Walk.key_refusal name.now value.now again }
+// `again`: a later key of the element has the same name.
+#[tactic(auto, using(path::proofs::Refusals::key_refusal_lem))]
+fn check_key(name: &[u8], value: &[u8], again: bool) -> Result<(), Refusal>
+    ensures { code result ≡ Rattle.path.specs.Walk.key_refusal name.now value.now again }
 {
-    let n = path::refusal::name_refusal(name);
-    let v = path::refusal::value_refusal(value);
-    let t = path::refusal::least_refusal(false, false, false, again);
-    path::refusal::smaller(path::refusal::smaller(n, v), t)
+    let parts = refusal::smaller(path::check::name(name), path::check::value(value));
+    refusal::smaller(parts, path::check::least(false, false, false, again))
 }
 
 // The `count` keys from `at` on.
-fn read_keys(f: &[u8], at: usize, count: usize) -> Walk
-    ensures { result ≡ walked keys_refusal (times count key f.now at) }
+#[tactic(auto, using(crate::proofs::Walks::keys), unfolding(crate::specs::Walked::key_said, crate::specs::Walked::walk_said))]
+fn read_keys(f: &[u8], at: usize, count: usize) -> Option<Walked>
+    ensures { walk_said result ≡ walked keys_refusal (times count key f.now at) }
 {
-    let mut refusal = limits::CLEAR;
-    let mut p = at;
-    let mut left = count;
-    while 0 < left {
-        let n = text::frame::string_end(f, p);
-        let End::At(middle) = n else {
-            return Walk::Unread;
-        };
-        let v = text::frame::string_end(f, middle);
-        let End::At(end) = v else {
-            return Walk::Unread;
-        };
-        let start = p + 1;
-        let from = middle + 1;
-        let name = &f[start..middle];
-        let value = &f[from..end];
-        left -= 1;
-        let again = has_key(f, end, left, name);
-        refusal = path::refusal::smaller(refusal, key_refusal(name, value, again));
-        p = end;
+    let mut refusal = Ok(());
+    let mut next = at;
+    for later in (0..count).rev() {
+        let k = read_key(f, next)?;
+        let again = has_key(f, k.next, later, k.name);
+        refusal = refusal::smaller(refusal, check_key(k.name, k.value, again));
+        next = k.next;
     }
-    Walk::To {
-        refusal: refusal,
-        next: p,
-    }
+    Some(Walked { refusal, next })
 }
 
 // The element at `at`.
-fn read_element(f: &[u8], at: usize) -> Walk
-    ensures { result ≡ walked elem_refusal (element f.now at) }
+#[tactic(auto, using(crate::proofs::Walks::of_element), unfolding(crate::specs::Walked::walk_said))]
+fn read_element(f: &[u8], at: usize) -> Option<Walked>
+    ensures { walk_said result ≡ walked elem_refusal (element f.now at) }
 {
-    let n = text::frame::string_end(f, at);
-    let End::At(middle) = n else {
-        return Walk::Unread;
-    };
-    if f.len() <= middle {
-        return Walk::Unread;
-    }
-    let count = f[middle] as usize;
-    let keys = read_keys(f, middle + 1, count);
-    let Walk::To { refusal, next } = keys else {
-        return Walk::Unread;
-    };
-    let start = at + 1;
-    let name = path::refusal::elem_name_refusal(&f[start..middle]);
-    let many = path::refusal::least_refusal(limits::MAX_KEYS < count, false, false, false);
-    Walk::To {
-        refusal: path::refusal::smaller(path::refusal::smaller(name, many), refusal),
-        next: next,
-    }
+    let middle = text::frame::string_end(f, at)?;
+    let count = *f.get(middle)? as usize;
+    let keys = read_keys(f, middle + 1, count)?;
+    let own = refusal::smaller(
+        path::check::elem_name(&f[at + 1..middle]),
+        path::check::least(limits::MAX_KEYS < count, false, false, false),
+    );
+    Some(Walked {
+        refusal: refusal::smaller(own, keys.refusal),
+        ..keys
+    })
 }
 
 // The `count` elements from `at` on.
-fn read_elements(f: &[u8], at: usize, count: usize) -> Walk
-    ensures { result ≡ walked elems_refusal (times count element f.now at) }
+#[tactic(auto, using(crate::proofs::Walks::elements), unfolding(crate::specs::Walked::walk_said))]
+fn read_elements(f: &[u8], at: usize, count: usize) -> Option<Walked>
+    ensures { walk_said result ≡ walked elems_refusal (times count element f.now at) }
 {
-    let mut refusal = limits::CLEAR;
-    let mut p = at;
-    let mut left = count;
-    while 0 < left {
-        let e = read_element(f, p);
-        let Walk::To { refusal: own, next } = e else {
-            return Walk::Unread;
-        };
-        refusal = path::refusal::smaller(refusal, own);
-        p = next;
-        left -= 1;
+    let mut refusal = Ok(());
+    let mut next = at;
+    for _ in 0..count {
+        let e = read_element(f, next)?;
+        refusal = refusal::smaller(refusal, e.refusal);
+        next = e.next;
     }
-    Walk::To {
-        refusal: refusal,
-        next: p,
-    }
+    Some(Walked { refusal, next })
 }
 
 // The path at `at` of a longer frame.
-pub fn read_path(f: &[u8], at: usize) -> Walk
-    ensures { result ≡ walked path_refusal (path f.now at) }
+#[tactic(auto, using(crate::proofs::Walks::of_path), unfolding(crate::specs::Walked::walk_said))]
+pub fn read_path(f: &[u8], at: usize) -> Option<Walked>
+    ensures { walk_said result ≡ walked path_refusal (path f.now at) }
 {
-    if f.len() <= at {
-        return Walk::Unread;
-    }
-    let count = f[at] as usize;
-    let elements = read_elements(f, at + 1, count);
-    let Walk::To { refusal, next } = elements else {
-        return Walk::Unread;
-    };
-    let many = path::refusal::least_refusal(limits::MAX_ELEMENTS < count, false, false, false);
-    Walk::To {
-        refusal: path::refusal::smaller(many, refusal),
-        next: next,
-    }
+    let count = *f.get(at)? as usize;
+    let elements = read_elements(f, at + 1, count)?;
+    let own = path::check::least(limits::MAX_ELEMENTS < count, false, false, false);
+    Some(Walked {
+        refusal: refusal::smaller(own, elements.refusal),
+        ..elements
+    })
 }
 
 // The bytes from `at` on are those of one good path, and nothing more.
+#[tactic(auto, using(crate::proofs::Walks::no_path), unfolding(crate::specs::Walked::walk_said))]
 pub fn is_path_from(f: &[u8], at: usize) -> bool
     ensures { result ≡ is_path_in f.now (path f.now at) }
 {
-    let w = read_path(f, at);
-    let Walk::To { refusal, next } = w else {
-        return false;
-    };
-    (next == f.len()) & (refusal == limits::CLEAR)
+    match read_path(f, at) {
+        Some(w) => w.next == f.len() && w.refusal.is_ok(),
+        None => false,
+    }
 }
 
 // All the bytes are.
+#[tactic(auto, unfolding(path::specs::Walk::is_path))]
 pub fn is_path(f: &[u8]) -> bool
     ensures { result ≡ is_path f.now }
 {

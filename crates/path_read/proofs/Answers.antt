@@ -21,10 +21,12 @@ use Rattle.path.specs.Bytes.{counted, elem_bytes, path_bytes}
 use Rattle.path.specs.Spells.{whole}
 use Rattle.path_read.specs.TextReader.{elements, read_text}
 use Rattle.path_read.specs.Calls.{bytes_for, answer, lent}
-use Rattle.path_read.specs.Steps.{max_growth, good_elements, Room, Stores, Transcribed, filled_up, not_filled}
-use Rattle.path_read.specs.declared.Filled.TheVariants.{Length, Refused}
+use Rattle.path_read.specs.Steps.{max_growth, good_elements, Room, MaybeStored, Stores, Transcribed, filled_up, not_filled}
+use Rattle.path_read.specs.Filled.{Length, Refused}
 use Rattle.path_read.specs.declared.reader.Stored.{Stored}
-use Rattle.path_read.specs.declared.reader.Stored.TheVariants.{To, Unread}
+use Rattle.std.specs.Prelude.{Some, None}
+use Rattle.std.specs.Prelude as program
+use Rattle.std.proofs.lemmas.Option.{same_Some, none-some}
 use Rattle.path_read.proofs.Storing.{stored_to, stored_not, room_end}
 use Rattle.path_read.proofs.Judging.{elements_bad, elements_good}
 
@@ -100,35 +102,35 @@ module _ (s : Str) (n : same s (bytes "/") ≡ false) where
       good_bytes h = let g = elements_good s p t e in rw (n, ne_eqb (length s) 0 m, g.0, eq-eqb t (length s) h, g.1)
 
   module _ (d d' : List ℕ) where
-    pub empty_transcribed : length s ≡ 0 → Transcribed (bytes_for s) d d' Unread
+    pub empty_transcribed : length s ≡ 0 → Transcribed (bytes_for s) d d' None
     empty_transcribed z = rw (empty_bytes z) not_filled
 
-    module _ (m : length s ≡ 0 → ⊥) (r : Stored) (x : Stores max_path_bytes max_growth (counted elem_bytes) good_elements s 0 d 0 d' r) where
-      pub none_transcribed : r ≡ Unread → Transcribed (bytes_for s) d d' Unread
+    module _ (m : length s ≡ 0 → ⊥) (r : MaybeStored) (x : Stores max_path_bytes max_growth (counted elem_bytes) good_elements s 0 d 0 d' r) where
+      pub none_transcribed : r ≡ None → Transcribed (bytes_for s) d d' None
       none_transcribed e = rw (no_bytes m (stored_not x e)) not_filled
 
-      module _ (t end : ℕ) (e : r ≡ To t end) where
-        pub part_transcribed : (t ≡ length s → ⊥) → Transcribed (bytes_for s) d d' Unread
-        part_transcribed h = let u = stored_to x e in rw (part_bytes m u.0 t u.1 h) not_filled
+      module _ (v : Stored) (e : r ≡ Some v) where
+        pub part_transcribed : (v.next ≡ length s → ⊥) → Transcribed (bytes_for s) d d' None
+        part_transcribed h = let u = stored_to x e in rw (part_bytes m u.0 v.next u.1 h) not_filled
 
-        whole_wrote : (p : Path) → Wrote d 0 (counted elem_bytes p) d' end → (end ≡ length (path_bytes p)) × (d' ≡ put d 0 (path_bytes p))
+        whole_wrote : (p : Path) → Wrote d 0 (counted elem_bytes p) d' v.end → (v.end ≡ length (path_bytes p)) × (d' ≡ put d 0 (path_bytes p))
         unfolding path_bytes
         whole_wrote p w = (omega (arith, w.ends), w.same)
 
-        pub whole_transcribed : t ≡ length s → Room max_path_bytes max_growth s 0 d 0 → Transcribed (bytes_for s) d d' (To t end)
+        pub whole_transcribed : v.next ≡ length s → Room max_path_bytes max_growth s 0 d 0 → Transcribed (bytes_for s) d d' (Some v.end)
         whole_transcribed h k =
             let u = stored_to x e in
             let w = whole_wrote u.0 u.2 in
-            rw (good_bytes m u.0 t u.1 h)
-            (filled_up w.0 (room_end max_path_bytes max_growth s 0 d 0 k max_path_bytes max_growth t end u.3 (omega arith) (omega arith) (omega arith)) w.1)
+            rw (good_bytes m u.0 v.next u.1 h)
+            (filled_up w.0 (room_end max_path_bytes max_growth s 0 d 0 k max_path_bytes max_growth v.next v.end u.3 (omega arith) (omega arith) (omega arith)) w.1)
 
 -- what a transcription tells
-pub transcribed_to : {o : Option Str} {d d' : List ℕ} {r : Stored} {next end : ℕ} → Transcribed o d d' r → r ≡ To next end → (f : Str) × (o ≡ some f) × Wrote d 0 f d' end × (end ≤ length d)
+pub transcribed_to : {o : Option Str} {d d' : List ℕ} {r : program.Option ℕ} {end : ℕ} → Transcribed o d d' r → r ≡ Some end → (f : Str) × (o ≡ some f) × Wrote d 0 f d' end × (end ≤ length d)
 transcribed_to {end = end} (filled_up {f = f} {end = n} l h e) i =
-    let k : n ≡ end = cc in
+    let k : n ≡ end = same_Some _ _ i in
     (f, refl, record { ends = sym k ∙ l ∙ (let z : length f ≡ 0 + length f = omega arith in z); same = e }, rw k at h)
-transcribed_to not_filled i = let z : ◌≡◌ {A = ℕ} 0 1 = cc in absurd (omega arith)
+transcribed_to not_filled i = absurd (none-some _ i)
 
-pub transcribed_not : {o : Option Str} {d d' : List ℕ} {r : Stored} → Transcribed o d d' r → r ≡ Unread → o ≡ none
-transcribed_not (filled_up l h e) i = let z : ◌≡◌ {A = ℕ} 0 1 = cc in absurd (omega arith)
+pub transcribed_not : {o : Option Str} {d d' : List ℕ} {r : program.Option ℕ} → Transcribed o d d' r → r ≡ None → o ≡ none
+transcribed_not (filled_up l h e) i = absurd (none-some _ (sym i))
 transcribed_not not_filled i = refl

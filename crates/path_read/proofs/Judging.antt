@@ -32,9 +32,9 @@ use Rattle.path.proofs.Bytes.{twice_bytes}
 use Rattle.path.proofs.Classes.{size}
 use Rattle.path.proofs.Refusals.{name_good, elem_name_good, key_good, keys_good, elem_good, path_good}
 use Rattle.path_read.specs.TextReader.{literal, up_to, name, value, each, key, element}
-use Rattle.path_read.specs.Steps.{name_run, pass, passing, good_name, good_value, good_key, distinct, good_keys, good_element, good_elements, Within, Room, Stores, stores, nothing}
+use Rattle.path_read.specs.Steps.{name_run, pass, passing, good_name, good_value, good_key, distinct, good_keys, good_element, good_elements, Within, Room, MaybeStored, reached, Stores, stores, nothing}
+use Rattle.std.specs.Prelude.{Some, None}
 use Rattle.path_read.specs.declared.reader.Stored.{Stored}
-use Rattle.path_read.specs.declared.reader.Stored.TheVariants.{To, Unread}
 use Rattle.path_read.proofs.Complete.{each_open, each_end, each_none}
 use Rattle.path_read.proofs.Storing.{stored_to, stores_after, room_end, stored_rest, stored_string, string_longer}
 use Rattle.path_read.proofs.Reading.{name_low, name_high, name_room, part_length, key_unequal, key_open}
@@ -252,24 +252,24 @@ name_known {a} {b} {at} {n} {c} {to} {s} {d} x e i t u =
 -- ---- read_good_value
 
 -- the value was stored, and f is its number
-module _ {s : Str} {at : ℕ} {d : List ℕ} {to : ℕ} {d' : List ℕ} {r : Stored} {t end : ℕ} (k : Room max_string_bytes 1 s at d to) (x : Stores max_string_bytes 1 string_bytes (value max_string) s at d to d' r) (e : r ≡ To t end) where
-  pub value_starts : to + 1 ≤ end
-  value_starts = let u = stored_to x e in string_longer d to u.0 d' end u.2
+module _ {s : Str} {at : ℕ} {d : List ℕ} {to : ℕ} {d' : List ℕ} {r : MaybeStored} {v : Stored} (k : Room max_string_bytes 1 s at d to) (x : Stores max_string_bytes 1 string_bytes (value max_string) s at d to d' r) (e : r ≡ Some v) where
+  pub value_starts : to + 1 ≤ v.end
+  value_starts = let u = stored_to x e in string_longer d to u.0 d' v.end u.2
 
-  value_room : end ≤ length d
-  value_room = let u = stored_to x e in room_end max_string_bytes 1 s at d to k max_string_bytes 1 t end u.3 (omega (arith, value_starts)) (omega arith) (omega arith)
+  value_room : v.end ≤ length d
+  value_room = let u = stored_to x e in room_end max_string_bytes 1 s at d to k max_string_bytes 1 v.next v.end u.3 (omega (arith, value_starts)) (omega arith) (omega arith)
 
-  pub value_ends : end ≤ length d'
-  value_ends = let u = stored_to x e in omega (arith, value_room, wrote_long d to (string_bytes u.0) d' end u.2 (omega (arith, value_room, u.2.ends)))
+  pub value_ends : v.end ≤ length d'
+  value_ends = let u = stored_to x e in omega (arith, value_room, wrote_long d to (string_bytes u.0) d' v.end u.2 (omega (arith, value_room, u.2.ends)))
 
-  module _ (f : ℕ) (i : f ≡ value_refusal (part d' (to + 1) end)) where
+  module _ (f : ℕ) (i : f ≡ value_refusal (part d' (to + 1) v.end)) where
     value_judged : f ≡ value_refusal (stored_to x e).0
-    value_judged = let u = stored_to x e in i ∙ ap value_refusal (stored_string d to u.0 d' end u.2 value_room)
+    value_judged = let u = stored_to x e in i ∙ ap value_refusal (stored_string d to u.0 d' v.end u.2 value_room)
 
-    pub value_bad : (f ≡ clear → ⊥) → Stores max_string_bytes 1 string_bytes good_value s at d to d' Unread
+    pub value_bad : (f ≡ clear → ⊥) → Stores max_string_bytes 1 string_bytes good_value s at d to d' None
     value_bad h = nothing (pass_bad (good value_refusal) (stored_to x e).1 (ne_eqb _ clear (λ z. h (value_judged ∙ z))))
 
-    pub value_stores : f ≡ clear → Stores max_string_bytes 1 string_bytes good_value s at d to d' (To t end)
+    pub value_stores : f ≡ clear → Stores max_string_bytes 1 string_bytes good_value s at d to d' (reached v.next v.end)
     value_stores h = let u = stored_to x e in stores (pass_good (good value_refusal) u.1 (eq-eqb _ clear (sym value_judged ∙ h))) u.2 u.3
 
 -- ---- read_key
@@ -301,7 +301,7 @@ module _ (s : Str) (at : ℕ) where
           rw (key_open s at n m key_named.0 h)
           (pass_then (good value_refusal) (good alone_refusal) (λ v. record { name = n; value = v }) (value max_string s (m + 1)) (λ v t i. key_good _ ∙ rw key_named.1))
 
-      pub key_stores : (d : List ℕ) (to : ℕ) (d' : List ℕ) (end : ℕ) (d'' : List ℕ) (r : Stored) → Wrote d to (string_bytes n) d' end → Within max_string_bytes 1 s at m to end → end ≤ length d
+      pub key_stores : (d : List ℕ) (to : ℕ) (d' : List ℕ) (end : ℕ) (d'' : List ℕ) (r : MaybeStored) → Wrote d to (string_bytes n) d' end → Within max_string_bytes 1 s at m to end → end ≤ length d
           → Stores max_string_bytes 1 string_bytes good_value s (m + 1) d' end d'' r → Stores max_key_bytes 1 key_bytes good_key s at d to d'' r
       unfolding key_bytes
       key_stores d to d' end d'' r w b room x =
@@ -357,7 +357,7 @@ module _ (s : Str) (at : ℕ) where
         rw (e, ← each_pass (good alone_refusal) 91 max_keys key s m, ← pass_both (all (good alone_refusal)) distinct (each 91 max_keys key s m))
         (pass_then (λ ks. all (good alone_refusal) ks and distinct ks) (good elem_refusal) (λ ks. record { name = n; keys = ks }) (each 91 max_keys key s m) (λ ks u g. judged ks (each_few 91 max_keys key s m ks u g)))
 
-    pub element_stores : (d : List ℕ) (to : ℕ) (d' : List ℕ) (end : ℕ) (d'' : List ℕ) (r : Stored) → Wrote d to (string_bytes n) d' end → Within max_string_bytes 1 s at m to end → end ≤ length d
+    pub element_stores : (d : List ℕ) (to : ℕ) (d' : List ℕ) (end : ℕ) (d'' : List ℕ) (r : MaybeStored) → Wrote d to (string_bytes n) d' end → Within max_string_bytes 1 s at m to end → end ≤ length d
         → Stores max_keys_bytes 1 (counted key_bytes) good_keys s m d' end d'' r → Stores max_elem_bytes 2 elem_bytes good_element s at d to d'' r
     unfolding elem_bytes
     element_stores d to d' end d'' r w b room x =

@@ -3,6 +3,7 @@ pub mod Sound
 pub mod Complete
 pub mod RoundTrip
 pub mod Longest
+pub mod Searching
 pub mod Storing
 pub mod Reading
 pub mod Judging

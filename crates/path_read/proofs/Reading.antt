@@ -24,7 +24,8 @@ use Rattle.path_read.specs.TextReader.{literal, is_either, up_to, name, item, va
 use Rattle.path_read.specs.Steps.{item_in, item_of, Within, Room}
 use Rattle.path_read.specs.declared.reader.Item.{Item}
 use Rattle.path_read.specs.declared.reader.Item.TheVariants as items
-use Rattle.path_read.specs.declared.reader.Stored.TheVariants.{Unread}
+use Rattle.std.specs.Prelude.{Some, None}
+use Rattle.std.specs.Prelude as program
 use Rattle.path_read.proofs.Sound.{inside, item_inside}
 use Rattle.path_read.proofs.Complete.{value_closed, value_open, each_open, each_end, each_none}
 use Rattle.path_read.proofs.Storing.{room_end}
@@ -32,40 +33,40 @@ use Rattle.path_read.proofs.Storing.{room_end}
 -- ---- read_item
 
 module _ (s : Str) (at : ℕ) where
-  pub item_past : length s ≤ at → item_of s at ≡ items.Unread
+  pub item_past : length s ≤ at → item_of s at ≡ None
   unfolding item_of item_in item whether◌then◌else◌
   item_past h = rw (get_or-eq_default s 0 h, le-ltb at (length s) h)
 
-  pub item_end : get_or s at 0 ≡ 93 → item_of s at ≡ items.End
+  pub item_end : get_or s at 0 ≡ 93 → item_of s at ≡ Some items.End
   unfolding item_of whether◌then◌else◌
   item_end e = rw e
 
   module _ (h : at < length s) (n : get_or s at 0 ≡ 93 → ⊥) where
-    pub item_plain : (get_or s at 0 ≡ 92 → ⊥) → item_of s at ≡ items.Byte (get_or s at 0) (at + 1)
+    pub item_plain : (get_or s at 0 ≡ 92 → ⊥) → item_of s at ≡ Some (items.Byte (get_or s at 0) (at + 1))
     unfolding item_of item_in item whether◌then◌else◌
     item_plain m = rw (ne_eqb _ 93 n, lt-ltb at (length s) h, ne_eqb _ 92 m)
 
-    pub item_mark : get_or s at 0 ≡ 92 → is_mark (get_or s (at + 1) 0) ≡ true → item_of s at ≡ items.Byte (get_or s (at + 1) 0) (at + 2)
+    pub item_mark : get_or s at 0 ≡ 92 → is_mark (get_or s (at + 1) 0) ≡ true → item_of s at ≡ Some (items.Byte (get_or s (at + 1) 0) (at + 2))
     unfolding item_of item_in item whether◌then◌else◌
     item_mark e m = rw (ne_eqb _ 93 n, lt-ltb at (length s) h, eq-eqb _ 92 e, m)
 
-    pub item_bad : get_or s at 0 ≡ 92 → is_mark (get_or s (at + 1) 0) ≡ false → item_of s at ≡ items.Unread
+    pub item_bad : get_or s at 0 ≡ 92 → is_mark (get_or s (at + 1) 0) ≡ false → item_of s at ≡ None
     unfolding item_of item_in item whether◌then◌else◌
     item_bad e m = rw (ne_eqb _ 93 n, lt-ltb at (length s) h, eq-eqb _ 92 e, m)
 
 -- ---- read_plain
 
-item_in_lem : (x : Parsed ℕ) (b t : ℕ) → item_in x ≡ items.Byte b t → x ≡ got b t
+item_in_lem : (x : Parsed ℕ) (b t : ℕ) → item_in x ≡ Some (items.Byte b t) → x ≡ got b t
 unfolding item_in
 item_in_lem (got c u) b t e = let i : c ≡ b = cc in let j : u ≡ t = cc in rw (i, j)
 item_in_lem unread b t e = let z : ◌≡◌ {A = ℕ} 0 1 = cc in absurd (omega arith)
 
-item_out : (x : Parsed ℕ) → item_in x ≡ items.Unread → x ≡ unread
+item_out : (x : Parsed ℕ) → item_in x ≡ None → x ≡ unread
 unfolding item_in
 item_out (got c u) e = let z : ◌≡◌ {A = ℕ} 0 1 = cc in absurd (omega arith)
 item_out unread e = refl
 
-item_never : (x : Parsed ℕ) → item_in x ≡ items.End → ⊥
+item_never : (x : Parsed ℕ) → item_in x ≡ Some items.End → ⊥
 unfolding item_in
 item_never (got c u) e = let z : ◌≡◌ {A = ℕ} 0 1 = cc in omega arith
 item_never unread e = let z : ◌≡◌ {A = ℕ} 0 1 = cc in omega arith
@@ -76,43 +77,43 @@ value_none zero s at e i = rw e
 value_none (suc n) s at e i = rw (e, i)
 
 -- r is the item at `at`
-module _ (s : Str) (at : ℕ) (r : Item) (i : r ≡ item_of s at) where
-  ended : r ≡ items.End → eqb (get_or s at 0) 93 ≡ true
+module _ (s : Str) (at : ℕ) (r : program.Option Item) (i : r ≡ item_of s at) where
+  ended : r ≡ Some items.End → eqb (get_or s at 0) 93 ≡ true
   unfolding item_of whether◌then◌else◌
-  ended e = by (eqb (get_or s at 0) 93) (λ u. u) (λ u. let j : items.End ≡ item_in (item s at) = sym e ∙ i ∙ rw u in absurd (item_never (item s at) (sym j)))
+  ended e = by (eqb (get_or s at 0) 93) (λ u. u) (λ u. let j : Some items.End ≡ item_in (item s at) = sym e ∙ i ∙ rw u in absurd (item_never (item s at) (sym j)))
 
-  went_on : (b t : ℕ) → r ≡ items.Byte b t → (eqb (get_or s at 0) 93 ≡ false) × (item s at ≡ got b t)
+  went_on : (b t : ℕ) → r ≡ Some (items.Byte b t) → (eqb (get_or s at 0) 93 ≡ false) × (item s at ≡ got b t)
   unfolding item_of whether◌then◌else◌
   went_on b t e =
       by (eqb (get_or s at 0) 93)
-      (λ u. let j : items.Byte b t ≡ items.End = sym e ∙ i ∙ rw u in let z : ◌≡◌ {A = ℕ} 0 1 = cc in absurd (omega arith))
-      (λ u. let j : items.Byte b t ≡ item_in (item s at) = sym e ∙ i ∙ rw u in (u, item_in_lem (item s at) b t (sym j)))
+      (λ u. let j : Some (items.Byte b t) ≡ Some items.End = sym e ∙ i ∙ rw u in let z : ◌≡◌ {A = ℕ} 0 1 = cc in absurd (omega arith))
+      (λ u. let j : Some (items.Byte b t) ≡ item_in (item s at) = sym e ∙ i ∙ rw u in (u, item_in_lem (item s at) b t (sym j)))
 
-  stopped : r ≡ items.Unread → (eqb (get_or s at 0) 93 ≡ false) × (item s at ≡ unread)
+  stopped : r ≡ None → (eqb (get_or s at 0) 93 ≡ false) × (item s at ≡ unread)
   unfolding item_of whether◌then◌else◌
   stopped e =
       by (eqb (get_or s at 0) 93)
-      (λ u. let j : items.Unread ≡ items.End = sym e ∙ i ∙ rw u in let z : ◌≡◌ {A = ℕ} 0 1 = cc in absurd (omega arith))
-      (λ u. let j : items.Unread ≡ item_in (item s at) = sym e ∙ i ∙ rw u in (u, item_out (item s at) (sym j)))
+      (λ u. let j : ◌≡◌ {A = program.Option Item} None (Some items.End) = sym e ∙ i ∙ rw u in let z : ◌≡◌ {A = ℕ} 0 1 = cc in absurd (omega arith))
+      (λ u. let j : None ≡ item_in (item s at) = sym e ∙ i ∙ rw u in (u, item_out (item s at) (sym j)))
 
-  pub end_inside : r ≡ items.End → get_or s at 0 ≡ 93
+  pub end_inside : r ≡ Some items.End → get_or s at 0 ≡ 93
   end_inside e = eqb-true _ _ (ended e)
 
   -- the next byte stands further on in the text
-  pub byte_inside : (b t : ℕ) → r ≡ items.Byte b t → (at < t) × (t ≤ length s)
+  pub byte_inside : (b t : ℕ) → r ≡ Some (items.Byte b t) → (at < t) × (t ≤ length s)
   byte_inside b t e = item_inside s at b t (went_on b t e).1
 
-  pub value_end : (n : ℕ) → r ≡ items.End → value n s at ≡ got [] (at + 1)
+  pub value_end : (n : ℕ) → r ≡ Some items.End → value n s at ≡ got [] (at + 1)
   value_end n e = value_closed n s at (ended e)
 
-  pub value_stop : (n : ℕ) → r ≡ items.Unread → value n s at ≡ unread
+  pub value_stop : (n : ℕ) → r ≡ None → value n s at ≡ unread
   value_stop n e = let h = stopped e in value_none n s at h.0 h.1
 
-  pub value_full : (n b t : ℕ) → n ≡ 0 → r ≡ items.Byte b t → value n s at ≡ unread
+  pub value_full : (n b t : ℕ) → n ≡ 0 → r ≡ Some (items.Byte b t) → value n s at ≡ unread
   unfolding value whether◌then◌else◌
   value_full n b t z e = rw (z, (went_on b t e).0)
 
-  pub value_turn : (n b t : ℕ) → (n ≡ 0 → ⊥) → r ≡ items.Byte b t → value n s at ≡ and_then (value (n - 1) s t) (λ v u. got (b ∷ v) u)
+  pub value_turn : (n b t : ℕ) → (n ≡ 0 → ⊥) → r ≡ Some (items.Byte b t) → value n s at ≡ and_then (value (n - 1) s t) (λ v u. got (b ∷ v) u)
   value_turn zero b t z e = absurd (z refl)
   value_turn (suc n) b t z e =
       let h = went_on b t e in

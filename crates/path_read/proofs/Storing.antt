@@ -5,28 +5,30 @@ use Prim.Native.Nat.{ℕ, ◌+◌, ◌-◌, ◌≤◌, ◌<◌}
 use native.Mathlib.Omega.{arith}
 use lib.ListN.{length, take, drop, length-append}
 use lib.Seq.{length-take-le, take_at, drop_at}
+use Rattle.std.proofs.lemmas.Option.{same_Some, none-some}
 use Rattle.text.specs.String.{Str, joined}
 use Rattle.text.specs.Frame.{Parsed, got, unread, and_then, Reader, part, string_bytes}
 use Rattle.text.specs.Fill.{put}
 use Rattle.text.specs.Steps.{Wrote}
 use Rattle.text.proofs.Codec.{joined_append, joined_one}
 use Rattle.text.proofs.Filling.{wrote_long, wrote_more, wrote_nothing}
-use Rattle.path_read.specs.Steps.{Within, Room, Stores, stores, nothing}
+use Rattle.std.specs.Prelude.{Some, None}
+use Rattle.path_read.specs.Steps.{MaybeStored, Within, Room, Stores, stores, nothing}
 use Rattle.path_read.specs.declared.reader.Stored.{Stored}
-use Rattle.path_read.specs.declared.reader.Stored.TheVariants.{To, Unread}
 
 -- ---- what an answer tells
 
 module _ {A : Type 0} {most more : ℕ} {w : A → Str} {r : Reader A} {s : Str} {at : ℕ} {d : List ℕ} {to : ℕ} {d' : List ℕ} where
-  pub stored_to : {q : Stored} {next end : ℕ} → Stores most more w r s at d to d' q → q ≡ To next end → (a : A) × (r s at ≡ got a next) × Wrote d to (w a) d' end × Within most more s at next to end
-  stored_to {next = next} {end = end} (stores {a = a} {t = t} {end = e} i v b) h =
-      let j : t ≡ next = cc in
-      let k : e ≡ end = cc in
-      (a, i ∙ ap (got a) j, rw k at v, rw (j, k) at b)
-  stored_to (nothing i) h = let z : ◌≡◌ {A = ℕ} 0 1 = cc in absurd (omega arith)
+  pub stored_to : {q : MaybeStored} {v : Stored} → Stores most more w r s at d to d' q → q ≡ Some v → (a : A) × (r s at ≡ got a v.next) × Wrote d to (w a) d' v.end × Within most more s at v.next to v.end
+  stored_to {v = v} (stores {a = a} {t = t} {end = e} i x b) h =
+      let g : record { next = t; end = e } ≡ v = same_Some _ _ h in
+      let j : t ≡ v.next = ap (λ (u : Stored). u.next) g in
+      let k : e ≡ v.end = ap (λ (u : Stored). u.end) g in
+      (a, i ∙ ap (got a) j, rw k at x, rw (j, k) at b)
+  stored_to (nothing i) h = absurd (none-some _ h)
 
-  pub stored_not : {q : Stored} → Stores most more w r s at d to d' q → q ≡ Unread → r s at ≡ unread
-  stored_not (stores i v b) h = let z : ◌≡◌ {A = ℕ} 0 1 = cc in absurd (omega arith)
+  pub stored_not : {q : MaybeStored} → Stores most more w r s at d to d' q → q ≡ None → r s at ≡ unread
+  stored_not (stores i v b) h = absurd (none-some _ (sym h))
   stored_not (nothing i) h = i
 
 -- ---- bounds, and room
@@ -42,18 +44,20 @@ within_less m k m₁ k₁ s at p to q a h i = record { few = omega (arith, a.few
 
 -- v was stored, and then, as w₂ writes it, what makes the rest of the thing
 pub stores_after : {A B : Type 0} {w₂ : A → Str} {r₂ : Reader A} {w : B → Str} {r : Reader B} (make : A → B) (v : Str) (m₁ k₁ m₂ k₂ m k : ℕ) (s : Str) (at p p₁ : ℕ) (d : List ℕ) (to : ℕ)
-    (d' : List ℕ) (end : ℕ) (d'' : List ℕ) (q : Stored) → r s at ≡ and_then (r₂ s p₁) (λ a t. got (make a) t) → ((a : A) → w (make a) ≡ v ++ w₂ a) → Wrote d to v d' end
+    (d' : List ℕ) (end : ℕ) (d'' : List ℕ) (q : MaybeStored) → r s at ≡ and_then (r₂ s p₁) (λ a t. got (make a) t) → ((a : A) → w (make a) ≡ v ++ w₂ a) → Wrote d to v d' end
     → Within m₁ k₁ s at p to end → end ≤ length d → m₁ + m₂ ≤ m → p + k₁ + k₂ ≤ p₁ + k → Stores m₂ k₂ w₂ r₂ s p₁ d' end d'' q → Stores m k w r s at d to d'' q
 stores_after {w₂ = w₂} {r₂} {w} {r} make v m₁ k₁ m₂ k₂ m k s at p p₁ d to d' end d'' q e f x b room h i y = go q y
   where
-    go : (o : Stored) → Stores m₂ k₂ w₂ r₂ s p₁ d' end d'' o → Stores m k w r s at d to d'' o
-    go (To t last) z =
+    go : (o : MaybeStored) → Stores m₂ k₂ w₂ r₂ s p₁ d' end d'' o → Stores m k w r s at d to d'' o
+    go (Some o) z =
         let u = stored_to z refl in
+        let t = o.next in
+        let last = o.end in
         let read : r s at ≡ got (make u.0) t = e ∙ rw u.1 in
         let both : Wrote d to (v ++ w₂ u.0) d'' last = wrote_more d to v d' end x (omega (arith, x.ends)) (w₂ u.0) d'' last u.2 in
         let wrote : Wrote d to (w (make u.0)) d'' last = rw (f u.0) both in
         stores read wrote (within_after m₁ k₁ m₂ k₂ m k s at p p₁ t to end last b u.3 h i)
-    go Unread z = nothing (let g = stored_not z refl in e ∙ rw g)
+    go None z = nothing (let g = stored_not z refl in e ∙ rw g)
 
 module _ (m k : ℕ) (s : Str) (at : ℕ) (d : List ℕ) (to : ℕ) (r : Room m k s at d to) where
   pub room_start : to ≤ length d

@@ -1,4 +1,5 @@
 pub mod Text
 pub mod TextReader
+pub mod Filled
 pub mod Calls
 pub mod Steps

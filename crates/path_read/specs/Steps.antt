@@ -1,5 +1,6 @@
 -- The answers of the programs that read path text step by step, said of what is read there.
-use Rattle.std.specs.Prelude.{ℕ, ◌+◌, ◌-◌, ◌≤◌, ◌≡◌, Bool, not, List, eqb, length, get_or}
+use Rattle.std.specs.Prelude as program
+use Rattle.std.specs.Prelude.{ℕ, ◌+◌, ◌-◌, ◌≤◌, ◌≡◌, Bool, not, List, eqb, length, get_or, Some, None}
 use Rattle.std.proofs.Math.Option.{Option, none, some}
 use Rattle.limits.specs.Limits.{max_elements, max_keys, max_string}
 use Rattle.text.specs.Test.{whether◌then◌else◌, twice}
@@ -13,9 +14,8 @@ use Rattle.path.specs.Refusal.{same_name}
 use Rattle.path.specs.Walk.{no_name, name_refusal, value_refusal, alone_refusal, elem_refusal, good}
 use Rattle.path_read.specs.Calls.{answer, lent}
 use Rattle.path_read.specs.TextReader.{name, item, value, each, key, element}
-use Rattle.path_read.specs.declared.Filled.{Filled}
+use Rattle.path_read.specs.Filled.{Filled}
 use Rattle.path_read.specs.declared.reader.Stored.{Stored}
-use Rattle.path_read.specs.declared.reader.Stored.TheVariants as stored
 use Rattle.path_read.specs.declared.reader.Item.{Item}
 use Rattle.path_read.specs.declared.reader.Item.TheVariants as items
 
@@ -23,21 +23,14 @@ use Rattle.path_read.specs.declared.reader.Item.TheVariants as items
 abbrev pub max_growth : ℕ
 max_growth = 1 + max_elements
 
--- the array that short texts are read into, and the longest text whose bytes surely fit it
-abbrev pub short_bytes : ℕ
-short_bytes = 256
-
-abbrev pub short_text : ℕ
-short_text = short_bytes - max_growth
-
 -- the next byte of a value
-unfoldable pub item_in : Parsed ℕ → Item
-item_in (got b t) = items.Byte b t
-item_in unread = items.Unread
+unfoldable pub item_in : Parsed ℕ → program.Option Item
+item_in (got b t) = Some (items.Byte b t)
+item_in unread = None
 
 -- and the end of the value, where its ] (93) stands
-unfoldable pub item_of : Str → ℕ → Item
-item_of s at = whether eqb (get_or s at 0) 93 then items.End else item_in (item s at)
+unfoldable pub item_of : Str → ℕ → program.Option Item
+item_of s at = whether eqb (get_or s at 0) 93 then Some items.End else item_in (item s at)
 
 -- how many bytes at the start belong to a name
 abbrev pub name_run : Str → ℕ
@@ -88,16 +81,23 @@ pub record Room (most more : ℕ) (s : Str) (at : ℕ) (d : List ℕ) (to : ℕ)
   pub starts : at ≤ length s
   pub fits : (n : ℕ) → n ≤ most → at + n ≤ length s + more → to + n ≤ length d
 
+-- where reading goes on and storing ends, or nothing was read
+abbrev pub MaybeStored : Type 0
+MaybeStored = program.Option Stored
+
+abbrev pub reached : ℕ → ℕ → MaybeStored
+reached next end = Some (record { next = next; end = end })
+
 -- what r reads of s at `at`, as w writes it, was stored into d from `to` on, and nothing else; where it reads nothing, nothing is said of d
-pub data Stores {A : Type 0} (most more : ℕ) (w : A → Str) (r : Reader A) (s : Str) (at : ℕ) : List ℕ → ℕ → List ℕ → Stored → Type 0 where
+pub data Stores {A : Type 0} (most more : ℕ) (w : A → Str) (r : Reader A) (s : Str) (at : ℕ) : List ℕ → ℕ → List ℕ → MaybeStored → Type 0 where
   stores : {a : A} {t : ℕ} {d : List ℕ} {to : ℕ} {d' : List ℕ} {end : ℕ} → r s at ≡ got a t → Wrote d to (w a) d' end → Within most more s at t to end
-      → Stores most more w r s at d to d' (stored.To t end)
-  nothing : {d : List ℕ} {to : ℕ} {d' : List ℕ} → r s at ≡ unread → Stores most more w r s at d to d' stored.Unread
+      → Stores most more w r s at d to d' (reached t end)
+  nothing : {d : List ℕ} {to : ℕ} {d' : List ℕ} → r s at ≡ unread → Stores most more w r s at d to d' None
 
 -- the bytes fill the start of d, and nothing else does; where there are none, nothing is said of d
-pub data Transcribed : Option Str → List ℕ → List ℕ → Stored → Type 0 where
-  filled_up : {f : Str} {d d' : List ℕ} {next end : ℕ} → end ≡ length f → end ≤ length d → d' ≡ put d 0 f → Transcribed (some f) d d' (stored.To next end)
-  not_filled : {d d' : List ℕ} → Transcribed none d d' stored.Unread
+pub data Transcribed : Option Str → List ℕ → List ℕ → program.Option ℕ → Type 0 where
+  filled_up : {f : Str} {d d' : List ℕ} {end : ℕ} → end ≡ length f → end ≤ length d → d' ≡ put d 0 f → Transcribed (some f) d d' (Some end)
+  not_filled : {d d' : List ℕ} → Transcribed none d d' None
 
 -- r is the answer where `out` was lent for this result, and out' what is left of it
 abbrev pub Delivers : List ℕ → Option Str → List ℕ → Filled → Type 0

@@ -11,8 +11,7 @@ use Rattle.text.specs.String.{Str, joined}
 use Rattle.text.specs.Frame.{Parsed, got, unread, and_then, ◌>>=◌, ret, part, string, times}
 use Rattle.text.specs.Fill.{put}
 use Rattle.text.specs.Steps.{Wrote, end_of}
-use Rattle.text.specs.declared.frame.End.{End}
-use Rattle.text.specs.declared.frame.End.TheVariants.{At, Unread}
+use Rattle.std.specs.Prelude.{Option, Some, None}
 use Rattle.text.proofs.Tests.{clash}
 use Rattle.text.proofs.Frames.{byte_got, byte_unread, string_ends, string_misses, times_turn, times_unread, times_done, times_length}
 use Rattle.text.proofs.Filling.{Pending, fill_start, fill_room, fill_put, fill_set, wrote}
@@ -162,17 +161,17 @@ pub record Element (name : Str) (keys : Parsed (List Key)) (y : Parsed Elem) : T
   pub is : y ≡ and_then keys (λ ks t. got (record { name = name; keys = ks }) t)
 
 -- r is the end of the name at `from`
-module _ (f : List ℕ) (from : ℕ) (r : End) (h : r ≡ end_of (string f from)) where
-  pub element_is : (m : ℕ) → r ≡ At m → m < length f → Element (part f (from + 1) m) (times (get_or f m 0) key f (m + 1)) (element f from)
+module _ (f : List ℕ) (from : ℕ) (r : Option ℕ) (h : r ≡ end_of (string f from)) where
+  pub element_is : (m : ℕ) → r ≡ Some m → m < length f → Element (part f (from + 1) m) (times (get_or f m 0) key f (m + 1)) (element f from)
   unfolding element ◌>>=◌ ret
   element_is m g l = record { is = rw ((string_ends f from r h m g).0, byte_got f m l) }
 
   module _ (i : is_read (element f from) ≡ true) where
-    pub element_named {ℓ} : {X : Type ℓ} → r ≡ Unread → X
+    pub element_named {ℓ} : {X : Type ℓ} → r ≡ None → X
     unfolding element ◌>>=◌
     element_named g = clash i (rw (string_misses f from r h g))
 
-    pub element_counted {ℓ} : {X : Type ℓ} (m : ℕ) → r ≡ At m → length f ≤ m → X
+    pub element_counted {ℓ} : {X : Type ℓ} (m : ℕ) → r ≡ Some m → length f ≤ m → X
     unfolding element ◌>>=◌
     element_counted m g l = clash i (rw ((string_ends f from r h m g).0, byte_unread f m l))
 

@@ -8,12 +8,11 @@ ghost use Rattle.text.specs.Steps.{Wrote};
 ghost use Rattle.path.specs.Bytes.{key, element, path};
 ghost use Rattle.path.specs.Walk.{is_path};
 ghost use Rattle.path_read.specs.Text.{escaped, key_text, elem_text, path_text};
-ghost use Rattle.path_read.specs.Calls.{text_for};
+ghost use Rattle.path_read.specs.Calls.{text_for, filled_of};
 ghost use Rattle.path_read.specs.Steps.{Delivers};
 ghost use Rattle.path_write.specs.Steps.{written, Fits, Writes};
 
-use path_read::Filled;
-use text::frame::End;
+use refusal::Refusal;
 
 // Where reading goes on in the bytes, and storing in the text.
 #[derive(Clone, Copy)]
@@ -42,10 +41,8 @@ pub fn write_value(v: &[u8], out: &mut [u8], at: usize) -> usize
     ensures { Wrote out.old at (joined escaped v.now) out.new result }
 {
     let mut p = at;
-    let mut i = 0;
-    while i < v.len() {
-        p = write_byte(v[i], out, p);
-        i += 1;
+    for b in v {
+        p = write_byte(*b, out, p);
     }
     p
 }
@@ -69,25 +66,22 @@ fn write_keys(f: &[u8], from: usize, count: usize, out: &mut [u8], to: usize) ->
     requires { Fits (joined key_text) (times count key f.now from) out.old to }
     ensures { Writes (joined key_text) (times count key f.now from) out.old to out.new result }
 {
-    let mut p = from;
-    let mut q = to;
-    let mut left = count;
-    while 0 < left {
-        let n = text::frame::string_end(f, p);
-        let End::At(middle) = n else {
-            return Place { from: p, to: q };
+    let mut place = Place { from, to };
+    for _ in 0..count {
+        let Some(middle) = text::frame::string_end(f, place.from) else {
+            return place;
         };
-        let v = text::frame::string_end(f, middle);
-        let End::At(end) = v else {
-            return Place { from: p, to: q };
+        let Some(end) = text::frame::string_end(f, middle) else {
+            return place;
         };
-        let start = p + 1;
-        let second = middle + 1;
-        q = write_key(&f[start..middle], &f[second..end], out, q);
-        p = end;
-        left -= 1;
+        let name = &f[place.from + 1..middle];
+        let value = &f[middle + 1..end];
+        place = Place {
+            from: end,
+            to: write_key(name, value, out, place.to),
+        };
     }
-    Place { from: p, to: q }
+    place
 }
 
 // The text of the element at `from`.
@@ -95,12 +89,11 @@ fn write_element(f: &[u8], from: usize, out: &mut [u8], to: usize) -> Place
     requires { Fits elem_text (element f.now from) out.old to }
     ensures { Writes elem_text (element f.now from) out.old to out.new result }
 {
-    let n = text::frame::string_end(f, from);
-    let End::At(middle) = n else {
-        return Place { from: from, to: to };
+    let Some(middle) = text::frame::string_end(f, from) else {
+        return Place { from, to };
     };
     if f.len() <= middle {
-        return Place { from: from, to: to };
+        return Place { from, to };
     }
     let count = f[middle] as usize;
     let start = from + 1;
@@ -115,16 +108,11 @@ fn write_elements(f: &[u8], from: usize, count: usize, out: &mut [u8], to: usize
     requires { Fits (joined elem_text) (times count element f.now from) out.old to }
     ensures { Writes (joined elem_text) (times count element f.now from) out.old to out.new result }
 {
-    let mut p = from;
-    let mut q = to;
-    let mut left = count;
-    while 0 < left {
-        let e = write_element(f, p, out, q);
-        p = e.from;
-        q = e.to;
-        left -= 1;
+    let mut place = Place { from, to };
+    for _ in 0..count {
+        place = write_element(f, place.from, out, place.to);
     }
-    Place { from: p, to: q }
+    place
 }
 
 // The text of the path at the start of f.
@@ -145,30 +133,30 @@ fn write_path(f: &[u8], out: &mut [u8]) -> usize
 }
 
 // The text of a good path, made apart, and copied where it fits.
-fn write_apart(f: &[u8], out: &mut [u8]) -> Filled
+fn write_apart(f: &[u8], out: &mut [u8]) -> Result<usize, Refusal>
     requires { true ≡ is_path f.now }
-    ensures { Delivers out.old (text_for f.now) out.new result }
+    ensures { Delivers out.old (text_for f.now) out.new (filled_of result) }
 {
     let mut text = [0u8; limits::MAX_PATH_TEXT];
     let n = write_path(f, &mut text);
     if out.len() < n {
-        return Filled::Refused(23);
+        return Err(Refusal::NoRoom);
     }
     text::fill::copy(&text[..n], out, 0);
-    Filled::Length(n)
+    Ok(n)
 }
 
 // Path bytes to path text, at the start of out. Nothing is stored there before all is checked.
-pub fn write_text(f: &[u8], out: &mut [u8]) -> Filled
-    ensures { Delivers out.old (text_for f.now) out.new result }
+pub fn write_text(f: &[u8], out: &mut [u8]) -> Result<usize, Refusal>
+    ensures { Delivers out.old (text_for f.now) out.new (filled_of result) }
 {
     if !path_frame::is_path(f) {
-        return Filled::Refused(22);
+        return Err(Refusal::BadPath);
     }
     // no text is more than twice as long as its bytes
     if f.len() <= out.len() / 2 {
         let n = write_path(f, out);
-        return Filled::Length(n);
+        return Ok(n);
     }
     write_apart(f, out)
 }

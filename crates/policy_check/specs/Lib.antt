@@ -1,2 +1,4 @@
-pub mod Place
 pub mod Answer
+pub mod Node
+pub mod Items
+pub mod Read

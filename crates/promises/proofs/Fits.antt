@@ -17,8 +17,8 @@ use Rattle.text.specs.String.{Str, bytes, same}
 use Rattle.text.specs.Refusal.{◌when◌else◌, clear}
 use Rattle.text.proofs.Tests.{by, same→≡}
 use Rattle.path_read.specs.Calls.{bytes_for, text_for, answer}
-use Rattle.path_read.specs.declared.Filled.{Filled}
-use Rattle.path_read.specs.declared.Filled.TheVariants as filled
+use Rattle.path_read.specs.Filled.{Filled}
+use Rattle.path_read.specs.Filled as filled
 use Rattle.path_read.proofs.Longest.{bytes_bound, text_bound}
 use Rattle.table_line.specs.Lines.{onto, lines}
 use Rattle.table.specs.Table.{Member, Table}
@@ -28,17 +28,17 @@ use Rattle.table.specs.Text.{unless, judge, check, table_of}
 use Rattle.table.specs.Group.{lists, numbered, memberships, groups_of, counted, bad_user, count_for, group_count}
 use Rattle.table.specs.declared.Checked.{Checked}
 use Rattle.table.specs.declared.Checked.TheVariants as checked
-use Rattle.table.specs.declared.Counted.{Counted}
-use Rattle.table.specs.declared.Counted.TheVariants as count
+use Rattle.table.specs.Counted.{Counted}
+use Rattle.table.specs.Counted as count
 use Rattle.verdict.specs.Order.{Numbered, better, earlier, choose}
 use Rattle.verdict.specs.Verdict.{Tree, NONE, word, answer as tree_of, decider, matches, opposes, permits, tree}
 use Rattle.verdict.proofs.Choose as chosen
 use Rattle.verdict_order.proofs.Reordered.{accepted_whole}
 use Rattle.verdict_request.specs.Calls.{request_refusal, request, decided_by, path_answer, path_verdict, spread, tree_answer, tree_verdict}
-use Rattle.verdict_request.specs.declared.PathAnswer.{PathAnswer}
-use Rattle.verdict_request.specs.declared.PathAnswer.TheVariants as path
-use Rattle.verdict_request.specs.declared.TreeAnswer.{TreeAnswer}
-use Rattle.verdict_request.specs.declared.TreeAnswer.TheVariants as trees
+use Rattle.verdict_request.specs.PathAnswer.{PathAnswer}
+use Rattle.verdict_request.specs.PathAnswer as path
+use Rattle.verdict_request.specs.TreeAnswer.{TreeAnswer}
+use Rattle.verdict_request.specs.TreeAnswer as trees
 use Rattle.request_log.specs.Request.{request_of}
 use Rattle.request_log.specs.Log.{judge_log, check_log, log_of}
 use Rattle.season.specs.Calls.{first_fault, fault, report_of, answered, season_answer}
@@ -65,25 +65,25 @@ use Rattle.policy.specs.declared.schema.Kind.{Kind}
 use Rattle.policy.specs.declared.schema.Kind.TheVariants.{Text, Listing, Object}
 use Rattle.policy_walk.proofs.Labels.{row_few}
 use Rattle.policy_check.specs.Answer.{check_of}
-use Rattle.policy_check.specs.declared.check.Check.{Check}
-use Rattle.policy_check.specs.declared.check.Check.TheVariants as policy
+use Rattle.policy_check.specs.Answer.{Check}
+use Rattle.policy_check.specs.Answer as policy
 use Rattle.rpc.specs.Request.{Request, rpc_refusal}
 use Rattle.rpc.specs.Verdict.{rule_matches, first_from, allowed, decided}
 use Rattle.rpc.specs.Verdict as rpcs
 use Rattle.rpc.specs.Call.{request as rpc_request, verdict_by, refused_else, rpc_verdict}
-use Rattle.rpc.specs.declared.verdict.Verdict.{Verdict}
-use Rattle.rpc.specs.declared.verdict.Verdict.TheVariants as rpc
+use Rattle.rpc.specs.Answer.{Verdict}
+use Rattle.rpc.specs.Answer as rpc
 use Rattle.rotation.specs.State.{record_refusal, in_force, text_in}
 use Rattle.rotation.specs.Calls.{start_refusal, off_refusal, finalize_refusal, probe_refusal, stepped, start, upload_answer, upload, finalize, close}
 use Rattle.rotation.specs.declared.Record.{Record}
-use Rattle.rotation.specs.declared.InForce.{InForce}
-use Rattle.rotation.specs.declared.InForce.TheVariants as force
+use Rattle.rotation.specs.State.{InForce}
+use Rattle.rotation.specs.State as force
 use Rattle.rotation_upload.specs.Offered.{of_policy, offered_check}
 use Rattle.rotation_probe.specs.Probe.{probed, path_on, path_refused, probe_path, tree_on, tree_refused, probe_tree}
 use Rattle.rotation_probe.specs.Rpc.{factory_rpc, rpc_on, rpc_refused, probe_rpc}
 use Rattle.season.proofs.Totals.{below}
-use Rattle.rotation_probe.specs.declared.rpcs.RpcAnswer.{RpcAnswer}
-use Rattle.rotation_probe.specs.declared.rpcs.RpcAnswer.TheVariants as probe
+use Rattle.rotation_probe.specs.Answer.{RpcAnswer}
+use Rattle.rotation_probe.specs.Answer as probe
 
 -- ---- what fits
 

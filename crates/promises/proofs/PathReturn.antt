@@ -22,7 +22,7 @@ use Rattle.path.proofs.Bytes.{bytes_reader}
 use Rattle.path_read.specs.Text.{escaped, key_text, elem_text, path_text}
 use Rattle.path_read.specs.TextReader.{read_text}
 use Rattle.path_read.specs.Calls.{answer, lent}
-use Rattle.path_read.specs.declared.Filled.TheVariants.{Length, Refused}
+use Rattle.path_read.specs.Filled.{Length, Refused}
 use Rattle.path_read.proofs.RoundTrip.{text_reader, reads_one, read_write, write_read, good_text, good_bytes}
 use Rattle.path_read.proofs.Longest.{text_length, bytes_length}
 use Rattle.promises.specs.PathReturn.{PathReturn, FillPromise}

@@ -13,8 +13,8 @@ use Rattle.verdict_request.specs.Calls.{decided_by, path_answer, spread, tree_an
 use Rattle.rotation.specs.State.{given, short_store, bad_record, record_refusal, candidate_slot, text_in, in_force}
 use Rattle.rotation.specs.Calls.{other_kind, probe_refusal}
 use Rattle.rotation.specs.Machine.{Lent, force_text, Whole}
-use Rattle.rotation.specs.declared.InForce.{InForce}
-use Rattle.rotation.specs.declared.InForce.TheVariants.{Text, Factory}
+use Rattle.rotation.specs.State.{InForce}
+use Rattle.rotation.specs.State.{Text, Factory}
 use Rattle.rotation_probe.specs.Probe.{probed, path_on, probe_path, tree_on, probe_tree}
 use Rattle.rotation_probe.specs.Rpc.{factory_rpc, rpc_on, probe_rpc}
 use Rattle.promises.specs.Probes.{Probe, Taken, Answers, path_probe, tree_probe, rpc_probe, TableProbePromise, PolicyProbePromise}

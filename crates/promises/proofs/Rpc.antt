@@ -19,7 +19,7 @@ use Rattle.policy.specs.Policy.{Policy, parsed_refusal, policy_refusal, policy_i
 use Rattle.rpc.specs.Request.{Request, rpc_refusal}
 use Rattle.rpc.specs.Verdict.{rule_matches, first_from, allowed, decided, verdict, permits}
 use Rattle.rpc.specs.Call.{request, verdict_by, refused_else, rpc_verdict}
-use Rattle.rpc.specs.declared.verdict.Verdict.TheVariants.{Denied, Permitted, Refused}
+use Rattle.rpc.specs.Answer.{Denied, Permitted, Refused}
 use Rattle.rpc.proofs.Promises.{denied, permitted, by_default, permits_exactly, nobody}
 use Rattle.promises.specs.First.{First, here, later}
 use Rattle.promises.specs.Rpc.{RpcPromise, RpcRefusals}

@@ -22,7 +22,7 @@ use Rattle.verdict.specs.Verdict.{Request, decider}
 use Rattle.verdict_order.specs.Reordering.{ReorderedLines}
 use Rattle.verdict_order.proofs.Reordered.{accepted_again, tables_reordered, accepted_orderly, accepted_whole}
 use Rattle.verdict_request.specs.Calls.{decided_by, path_verdict}
-use Rattle.verdict_request.specs.declared.PathAnswer.{PathAnswer}
+use Rattle.verdict_request.specs.PathAnswer.{PathAnswer}
 use Rattle.request_log.specs.Request.{request_of}
 use Rattle.request_log.specs.Log.{judge_log, check_log, log_of}
 use Rattle.season.specs.Report.{answer_to, decides, permitted, denied_by_rule, denied_by_default, count, rule_count, cell, row, grid, figures, report}

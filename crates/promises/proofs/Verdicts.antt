@@ -23,8 +23,8 @@ use Rattle.verdict.proofs.Theorems.{verdict, verdict_unique, tree_verdict_lem, t
 use Rattle.verdict_order.specs.Reordering.{ReorderedLines}
 use Rattle.verdict_order.proofs.Reordered.{accepted_again, tables_reordered, accepted_orderly, accepted_bytes}
 use Rattle.verdict_request.specs.Calls.{bad_mode, bad_origin, request_refusal, request, path_answer, path_verdict, tree_answer, tree_verdict, decided_by, spread}
-use Rattle.verdict_request.specs.declared.PathAnswer.TheVariants as path
-use Rattle.verdict_request.specs.declared.TreeAnswer.TheVariants as trees
+use Rattle.verdict_request.specs.PathAnswer as path
+use Rattle.verdict_request.specs.TreeAnswer as trees
 use Rattle.promises.specs.Verdicts.{PathPromise, TreePromise, OrderPromise, VerdictRefusals}
 
 -- ---- what an accepted request asks

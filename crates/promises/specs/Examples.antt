@@ -9,10 +9,10 @@ use Rattle.table.specs.declared.Checked.{Checked}
 use Rattle.table.specs.declared.Checked.TheVariants.{Accepted}
 use Rattle.verdict.specs.Verdict.{decider}
 use Rattle.verdict_request.specs.Calls.{decided_by, path_verdict, tree_verdict}
-use Rattle.verdict_request.specs.declared.PathAnswer.{PathAnswer}
-use Rattle.verdict_request.specs.declared.PathAnswer.TheVariants.{Permit, Deny, Default}
-use Rattle.verdict_request.specs.declared.TreeAnswer.{TreeAnswer}
-use Rattle.verdict_request.specs.declared.TreeAnswer.TheVariants.{All, None, Mixed}
+use Rattle.verdict_request.specs.PathAnswer.{PathAnswer}
+use Rattle.verdict_request.specs.PathAnswer.{Permit, Deny, Default}
+use Rattle.verdict_request.specs.TreeAnswer.{TreeAnswer}
+use Rattle.verdict_request.specs.TreeAnswer.{All, None, Mixed}
 use Rattle.rpc.specs.Pattern.{matches}
 use Rattle.season.specs.Calls.{fault, report_of}
 

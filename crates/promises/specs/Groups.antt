@@ -6,7 +6,7 @@ use Rattle.table.specs.Table.{Table}
 use Rattle.table.specs.Text.{check, table_of}
 use Rattle.table.specs.Group.{lists, bad_user, group_count}
 use Rattle.table.specs.declared.Checked.TheVariants.{Accepted, Refused}
-use Rattle.table.specs.declared.Counted.TheVariants.{Count, NoGroup, Declined}
+use Rattle.table.specs.Counted.{Count, NoGroup, Declined}
 use Rattle.promises.specs.First.{First}
 
 -- an accepted table text, and a user as a table allows

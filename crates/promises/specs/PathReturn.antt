@@ -12,7 +12,7 @@ use Rattle.path.specs.Spells.{Spells, Reads, read_bytes}
 use Rattle.path_read.specs.Text.{path_text}
 use Rattle.path_read.specs.TextReader.{read_text}
 use Rattle.path_read.specs.Calls.{bytes_for, text_for, answer, lent}
-use Rattle.path_read.specs.declared.Filled.TheVariants.{Length, Refused}
+use Rattle.path_read.specs.Filled.{Length, Refused}
 
 pub record PathReturn : Type 0 where
   -- text is read exactly where it is a good path's text, and bytes exactly where they are a good path's bytes

@@ -7,19 +7,19 @@ use Rattle.std.proofs.Math.Option.{none, some}
 use Rattle.text.specs.String.{Str}
 use Rattle.text.specs.Refusal.{clear}
 use Rattle.verdict_request.specs.Calls.{request_refusal, path_verdict, tree_verdict}
-use Rattle.verdict_request.specs.declared.PathAnswer.{PathAnswer}
-use Rattle.verdict_request.specs.declared.PathAnswer.TheVariants as path
-use Rattle.verdict_request.specs.declared.TreeAnswer.{TreeAnswer}
-use Rattle.verdict_request.specs.declared.TreeAnswer.TheVariants as trees
+use Rattle.verdict_request.specs.PathAnswer.{PathAnswer}
+use Rattle.verdict_request.specs.PathAnswer as path
+use Rattle.verdict_request.specs.TreeAnswer.{TreeAnswer}
+use Rattle.verdict_request.specs.TreeAnswer as trees
 use Rattle.rpc.specs.Request.{rpc_refusal}
 use Rattle.rpc.specs.Call.{rpc_verdict}
-use Rattle.rpc.specs.declared.verdict.Verdict.TheVariants as rpc
+use Rattle.rpc.specs.Answer as rpc
 use Rattle.rotation.specs.State.{given, short_store, bad_record, candidate_slot, text_in}
 use Rattle.rotation.specs.Machine.{Lent, Whole}
 use Rattle.rotation_probe.specs.Probe.{probe_path, probe_tree}
 use Rattle.rotation_probe.specs.Rpc.{probe_rpc}
-use Rattle.rotation_probe.specs.declared.rpcs.RpcAnswer.{RpcAnswer}
-use Rattle.rotation_probe.specs.declared.rpcs.RpcAnswer.TheVariants.{PermitAll, Judged}
+use Rattle.rotation_probe.specs.Answer.{RpcAnswer}
+use Rattle.rotation_probe.specs.Answer.{PermitAll, Judged}
 use Rattle.promises.specs.Rotation.{force}
 
 -- ---- one promise for all three

@@ -10,8 +10,8 @@ use Rattle.policy.specs.Policy.{Rule, Policy, policy_refusal, policy_of}
 use Rattle.rpc.specs.Request.{rpc_refusal}
 use Rattle.rpc.specs.Verdict.{rule_matches, permits}
 use Rattle.rpc.specs.Call.{request, rpc_verdict}
-use Rattle.rpc.specs.declared.verdict.Verdict.{Verdict}
-use Rattle.rpc.specs.declared.verdict.Verdict.TheVariants.{Denied, Permitted, Default, Refused}
+use Rattle.rpc.specs.Answer.{Verdict}
+use Rattle.rpc.specs.Answer.{Denied, Permitted, Default, Refused}
 use Rattle.promises.specs.First.{First}
 
 -- an accepted policy text and an accepted request

@@ -19,7 +19,7 @@ use Rattle.table.specs.declared.Checked.TheVariants.{Accepted, Refused}
 use Rattle.verdict.specs.Verdict.{Request}
 use Rattle.verdict_order.specs.Reordering.{ReorderedLines}
 use Rattle.verdict_request.specs.Calls.{request_refusal, path_verdict}
-use Rattle.verdict_request.specs.declared.PathAnswer.{PathAnswer}
+use Rattle.verdict_request.specs.PathAnswer.{PathAnswer}
 use Rattle.request_log.specs.Request.{request_of}
 use Rattle.request_log.specs.Log.{check_log, log_of}
 use Rattle.season.specs.Report.{decides, permitted, denied_by_rule, denied_by_default, count, rule_counts, grid, figures, figure_line}

@@ -16,8 +16,8 @@ use Rattle.verdict.specs.Verdict.{Request, decider, Tree, tree}
 use Rattle.verdict.specs.Laws.{Decided, TreeDecided, SameAnswers}
 use Rattle.verdict_order.specs.Reordering.{ReorderedLines}
 use Rattle.verdict_request.specs.Calls.{request_refusal, request, path_verdict, tree_verdict, decided_by, spread}
-use Rattle.verdict_request.specs.declared.PathAnswer.TheVariants as path
-use Rattle.verdict_request.specs.declared.TreeAnswer.TheVariants as trees
+use Rattle.verdict_request.specs.PathAnswer as path
+use Rattle.verdict_request.specs.TreeAnswer as trees
 
 -- an accepted table text x, and an accepted request
 module _ (x user : Str) (mode : ℕ) (origin text : Str) (ok : check x ≡ Accepted) (fine : request_refusal user mode origin text ≡ clear) where

@@ -5,36 +5,36 @@ use Rattle.std.proofs.Math.Option.{Option, none, some}
 use Rattle.text.specs.Test.{◌and◌, ◌or◌, whether◌then◌else◌}
 use Rattle.text.specs.String.{Str}
 use Rattle.path_read.specs.Calls.{bytes_for, text_for, answer}
-use Rattle.path_read.specs.declared.Filled.{Filled}
-use Rattle.path_read.specs.declared.Filled.TheVariants as filled
+use Rattle.path_read.specs.Filled.{Filled}
+use Rattle.path_read.specs.Filled as filled
 use Rattle.table.specs.Text.{check}
 use Rattle.table.specs.Group.{group_count}
 use Rattle.table.specs.declared.Checked.{Checked}
 use Rattle.table.specs.declared.Checked.TheVariants as checked
-use Rattle.table.specs.declared.Counted.{Counted}
-use Rattle.table.specs.declared.Counted.TheVariants as counted
+use Rattle.table.specs.Counted.{Counted}
+use Rattle.table.specs.Counted as counted
 use Rattle.verdict_request.specs.Calls.{path_verdict, tree_verdict}
-use Rattle.verdict_request.specs.declared.PathAnswer.{PathAnswer}
-use Rattle.verdict_request.specs.declared.PathAnswer.TheVariants as path
-use Rattle.verdict_request.specs.declared.TreeAnswer.{TreeAnswer}
-use Rattle.verdict_request.specs.declared.TreeAnswer.TheVariants as trees
+use Rattle.verdict_request.specs.PathAnswer.{PathAnswer}
+use Rattle.verdict_request.specs.PathAnswer as path
+use Rattle.verdict_request.specs.TreeAnswer.{TreeAnswer}
+use Rattle.verdict_request.specs.TreeAnswer as trees
 use Rattle.season.specs.Calls.{season_answer}
 use Rattle.season.specs.declared.Reported.{Reported}
 use Rattle.season.specs.declared.Reported.TheVariants as reported
 use Rattle.policy.specs.Policy.{policy_refusal}
 use Rattle.policy_check.specs.Answer.{check_of}
-use Rattle.policy_check.specs.declared.check.Check.{Check}
-use Rattle.policy_check.specs.declared.check.Check.TheVariants as policy
+use Rattle.policy_check.specs.Answer.{Check}
+use Rattle.policy_check.specs.Answer as policy
 use Rattle.rpc.specs.Call.{rpc_verdict}
-use Rattle.rpc.specs.declared.verdict.Verdict.{Verdict}
-use Rattle.rpc.specs.declared.verdict.Verdict.TheVariants as rpc
+use Rattle.rpc.specs.Answer.{Verdict}
+use Rattle.rpc.specs.Answer as rpc
 use Rattle.rotation.specs.Machine.{Call, Lent, answers}
 use Rattle.rotation.specs.declared.Record.{Record}
 use Rattle.rotation_upload.specs.Offered.{offered_check}
 use Rattle.rotation_probe.specs.Probe.{probe_path, probe_tree}
 use Rattle.rotation_probe.specs.Rpc.{probe_rpc}
-use Rattle.rotation_probe.specs.declared.rpcs.RpcAnswer.{RpcAnswer}
-use Rattle.rotation_probe.specs.declared.rpcs.RpcAnswer.TheVariants as probe
+use Rattle.rotation_probe.specs.Answer.{RpcAnswer}
+use Rattle.rotation_probe.specs.Answer as probe
 use Rattle.burgee.specs.Calls.{PathRead, PathWrite, TableCheck, GroupCount, PathVerdict, TreeVerdict, SeasonReport, PolicyCheck, RpcVerdict, word}
 use Rattle.burgee.specs.Calls.{ProbePath, ProbeTree, ProbeRpc}
 use Rattle.promises.specs.Leaves.{publicly}

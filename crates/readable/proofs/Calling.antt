@@ -19,10 +19,10 @@ use Rattle.table.specs.declared.Checked.{Checked}
 use Rattle.table.specs.declared.Checked.TheVariants as checked
 use Rattle.readable_lines.specs.Lines.{shown_line, packed_line, shown_for, packed_for, line_by}
 use Rattle.readable.specs.Texts.{onward, ending, storing, stored, shown_as, show_answer, show_lent, made_answer, made_lent, pack_answer, pack_lent, packed_end, packed_table}
-use Rattle.readable.specs.declared.Converted.{Converted}
-use Rattle.readable.specs.declared.Converted.TheVariants as converted
-use Rattle.readable.specs.declared.Ended.{Ended}
-use Rattle.readable.specs.declared.Ended.TheVariants as ended
+use Rattle.readable.specs.Converted.{Converted}
+use Rattle.readable.specs.Converted as converted
+use Rattle.readable.specs.Ended.{Ended}
+use Rattle.readable.specs.Ended as ended
 use Rattle.readable_parts.proofs.Stored.{front}
 
 -- ---- show

@@ -12,9 +12,8 @@ use Rattle.text.specs.Fill.{put}
 use Rattle.text.specs.Steps.{Wrote}
 use Rattle.text.proofs.Filling.{wrote_long, wrote_more, wrote_nothing}
 use Rattle.table_line.specs.Lines.{lines}
-use Rattle.path_read.specs.declared.reader.Stored.TheVariants.{Unread}
 use Rattle.readable.specs.Texts.{onward, ending, storing, stored}
-use Rattle.readable.specs.declared.Ended.TheVariants as ended
+use Rattle.readable.specs.Ended as ended
 use Rattle.readable_parts.proofs.Stored.{front}
 
 module _ (g : Str → Option Str) (room n at : ℕ) (l : Str) (ls : List Str) where

@@ -1,1 +1,3 @@
+pub mod Converted
+pub mod Ended
 pub mod Texts

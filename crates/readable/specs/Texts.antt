@@ -1,5 +1,5 @@
 -- Whole texts, converted line by line; and what the two calls answer and leave in the lent buffer.
-use Rattle.std.specs.Prelude.{ℕ, ◌+◌, ◌-◌, ◌≡◌, List, [], ◌∷◌, ◌++◌, leb, length}
+use Rattle.std.specs.Prelude.{ℕ, ◌+◌, ◌-◌, ◌≡◌, List, [], ◌∷◌, ◌++◌, Result, Ok, Err, leb, length}
 use Rattle.std.proofs.Math.Option.{Option, none, some}
 use Rattle.limits.specs.Limits.{max_table_text}
 use Rattle.text.specs.Test.{whether◌then◌else◌}
@@ -10,10 +10,26 @@ use Rattle.table.specs.Text.{check}
 use Rattle.table.specs.declared.Checked.{Checked}
 use Rattle.table.specs.declared.Checked.TheVariants as checked
 use Rattle.readable_lines.specs.Lines.{shown_line, packed_line}
-use Rattle.readable.specs.declared.Converted.{Converted}
-use Rattle.readable.specs.declared.Converted.TheVariants.{Length, Refused, Unread, NoRoom}
-use Rattle.readable.specs.declared.Ended.{Ended}
-use Rattle.readable.specs.declared.Ended.TheVariants as ended
+use Rattle.readable.specs.Converted.{Converted, Length, Refused, Unread, NoRoom}
+use Rattle.readable.specs.Ended as ended
+use Rattle.readable.specs.Ended.{Ended}
+use Rattle.readable.specs.declared.Unconverted.{Unconverted}
+use Rattle.readable.specs.declared.Unconverted.TheVariants as why
+use Rattle.readable.specs.declared.Stopped.{Stopped}
+use Rattle.readable.specs.declared.Stopped.TheVariants as stops
+
+-- ---- the answers that the programs' results are
+
+abbrev pub ended_of : Result ℕ Stopped → Ended
+ended_of (Ok n) = ended.All n
+ended_of (Err (stops.Unread l)) = ended.Unread l
+ended_of (Err stops.Full) = ended.Full
+
+abbrev pub converted_of : Result ℕ Unconverted → Converted
+converted_of (Ok n) = Length n
+converted_of (Err (why.Refused n l)) = Refused n l
+converted_of (Err (why.Unread l)) = Unread l
+converted_of (Err why.NoRoom) = NoRoom
 
 -- ---- line after line, converted by g, into a buffer with so much room; n is the number of the next line, and `at` where it is to be stored
 

@@ -4,16 +4,14 @@
 ghost use Rattle.std.specs.Prelude.{◌≡◌, false, ◌≤◌, ◌<◌, length};
 ghost use Rattle.limits.specs.Limits.{max_table_text};
 ghost use Rattle.readable_lines.specs.Lines.{line_by};
-ghost use Rattle.readable.specs.Texts.{Converts, Shows, Makes, Packs};
+ghost use Rattle.readable.specs.Texts.{Converts, Shows, Makes, Packs, ended_of, converted_of};
 
 use path_read::reader::Stored;
 use table::Checked;
 
-// The answer of `show` and of `pack`.
-#[derive(Clone, Copy)]
-pub enum Converted {
-    // The start of the lent buffer is the result, which has this length.
-    Length(usize),
+// Why nothing was made of a text.
+#[derive(Clone, Copy, Debug, PartialEq, Eq)]
+pub enum Unconverted {
     // The table's refusal.
     Refused { number: u8, line: usize },
     // A line that is not of the form.
@@ -21,11 +19,9 @@ pub enum Converted {
     NoRoom,
 }
 
-// How the lines of a text ended, converted and stored one after another.
-#[derive(Clone, Copy)]
-pub enum Ended {
-    // All were stored, in so many bytes.
-    All(usize),
+// Where the lines of a text stopped, converted and stored one after another.
+#[derive(Clone, Copy, Debug, PartialEq, Eq)]
+pub enum Stopped {
     // A line that is not of the form.
     Unread { line: usize },
     // There is no room for a line.
@@ -33,76 +29,68 @@ pub enum Ended {
 }
 
 // Converts the lines one after another into out.
-fn convert_lines(packing: bool, text: &[u8], out: &mut [u8]) -> Ended
+fn convert_lines(packing: bool, text: &[u8], out: &mut [u8]) -> Result<usize, Stopped>
     requires { packing ≡ false → length text.now ≤ max_table_text }
-    ensures { Converts (line_by false packing) text.now out.old out.new result }
+    ensures { Converts (line_by false packing) text.now out.old out.new (ended_of result) }
 {
     let mut piece = [0u8; readable_lines::MAX_MADE_LINE];
     let mut from = 0;
     let mut at = 0;
     let mut number = 1;
     while from < text.len() {
-        let s = readable_lines::convert_line(false, packing, text, from, &mut piece);
-        let Stored::To { next, end } = s else {
-            return Ended::Unread { line: number };
+        let line = readable_lines::convert_line(false, packing, text, from, &mut piece);
+        let Some(Stored { next, end }) = line else {
+            return Err(Stopped::Unread { line: number });
         };
         if out.len() - at < end {
-            return Ended::Full;
+            return Err(Stopped::Full);
         }
         text::fill::copy(&piece[..end], out, at);
         at += end;
         from = next;
         number += 1;
     }
-    Ended::All(at)
+    Ok(at)
 }
 
 // A table text to its readable text.
-pub fn show(table: &[u8], out: &mut [u8]) -> Converted
-    ensures { Shows table.now out.old out.new result }
+pub fn show(table: &[u8], out: &mut [u8]) -> Result<usize, Unconverted>
+    ensures { Shows table.now out.old out.new (converted_of result) }
 {
     let c = table_check::check_table(table);
     if let Checked::Refused { number, line } = c {
-        return Converted::Refused {
-            number: number,
-            line: line,
-        };
+        return Err(Unconverted::Refused { number, line });
     }
-    let e = convert_lines(false, table, out);
-    match e {
-        Ended::All(n) => Converted::Length(n),
-        Ended::Unread { line } => Converted::Unread { line: line },
-        Ended::Full => Converted::NoRoom,
+    match convert_lines(false, table, out) {
+        Ok(n) => Ok(n),
+        Err(Stopped::Unread { line }) => Err(Unconverted::Unread { line }),
+        Err(Stopped::Full) => Err(Unconverted::NoRoom),
     }
 }
 
 // The table that was made goes to out, where it is accepted and there is room.
-fn hand_out(table: &[u8], out: &mut [u8]) -> Converted
-    ensures { Makes table.now out.old out.new result }
+fn hand_out(table: &[u8], out: &mut [u8]) -> Result<usize, Unconverted>
+    ensures { Makes table.now out.old out.new (converted_of result) }
 {
     let c = table_check::check_table(table);
     if let Checked::Refused { number, line } = c {
-        return Converted::Refused {
-            number: number,
-            line: line,
-        };
+        return Err(Unconverted::Refused { number, line });
     }
     if out.len() < table.len() {
-        return Converted::NoRoom;
+        return Err(Unconverted::NoRoom);
     }
     text::fill::copy(table, out, 0);
-    Converted::Length(table.len())
+    Ok(table.len())
 }
 
 // A readable text to its table text.
-pub fn pack(text: &[u8], out: &mut [u8]) -> Converted
-    ensures { Packs text.now out.old out.new result }
+pub fn pack(text: &[u8], out: &mut [u8]) -> Result<usize, Unconverted>
+    ensures { Packs text.now out.old out.new (converted_of result) }
 {
     let mut table = [0u8; limits::MAX_TABLE_TEXT];
-    let e = convert_lines(true, text, &mut table);
-    match e {
-        Ended::All(n) => hand_out(&table[..n], out),
-        Ended::Unread { line } => Converted::Unread { line: line },
-        Ended::Full => Converted::Refused { number: 1, line: 0 },
+    match convert_lines(true, text, &mut table) {
+        Ok(n) => hand_out(&table[..n], out),
+        Err(Stopped::Unread { line }) => Err(Unconverted::Unread { line }),
+        Err(Stopped::Full) => Err(Unconverted::Refused { number: 1, line: 0 }),
     }
 }

@@ -31,7 +31,7 @@ use Rattle.readable_parts.specs.Parts.{part_of, hex_text, shown}
 use Rattle.readable_lines.specs.Form.{form_by, printed, shown_by, shown_frame}
 use Rattle.readable_lines.specs.Lines.{lined, shown_line_by, shown_line}
 use Rattle.readable.specs.Texts.{onward, ending}
-use Rattle.readable.specs.declared.Ended.TheVariants as ended
+use Rattle.readable.specs.Ended as ended
 use Rattle.readable_lines.proofs.Converting.{kind_version_lem, kind_group_lem, kind_member_lem, kind_rule_lem}
 use Rattle.readable_laws.proofs.HexLines.{Small, frame_text}
 use Rattle.readable_laws.proofs.Times.{small_drop}

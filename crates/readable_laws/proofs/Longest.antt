@@ -31,7 +31,7 @@ use Rattle.readable_parts.specs.Parts.{part_of, rest, of_rest, quoted, hex_text,
 use Rattle.readable_lines.specs.Form.{parts, form_by, shown_by, shown_frame}
 use Rattle.readable_lines.specs.Lines.{shown_line_by, shown_line}
 use Rattle.readable.specs.Texts.{onward, ending}
-use Rattle.readable.specs.declared.Ended.TheVariants as ended
+use Rattle.readable.specs.Ended as ended
 use Rattle.readable_parts.proofs.Digits.{hex_length}
 use Rattle.readable_laws.proofs.HexLines.{frame_text}
 use Rattle.readable_laws.proofs.Frames.{whole_some, printed_some}

@@ -17,9 +17,9 @@ use Rattle.table.specs.declared.Checked.{Checked}
 use Rattle.table.specs.declared.Checked.TheVariants as checked
 use Rattle.readable_lines.specs.Lines.{shown_line}
 use Rattle.readable.specs.Texts.{ending, stored, shown_as, show_answer, show_lent, made_answer, made_lent, pack_answer, pack_lent, packed_end, packed_table}
-use Rattle.readable.specs.declared.Converted.TheVariants.{Length, Refused, Unread, NoRoom}
-use Rattle.readable.specs.declared.Ended.{Ended}
-use Rattle.readable.specs.declared.Ended.TheVariants as ended
+use Rattle.readable.specs.Converted.{Length, Refused, Unread, NoRoom}
+use Rattle.readable.specs.Ended.{Ended}
+use Rattle.readable.specs.Ended as ended
 use Rattle.readable_parts.proofs.Stored.{front}
 use Rattle.readable.proofs.Calling.{accepted_short, stored_length}
 use Rattle.readable_laws.proofs.Texts.{show_then_pack, pack_then_show}

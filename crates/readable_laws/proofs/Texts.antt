@@ -23,7 +23,7 @@ use Rattle.readable_parts.specs.Parts.{hex_digit, hex_pair, hex_text}
 use Rattle.readable_lines.specs.Form.{shown_by, shown_frame, packed_frame}
 use Rattle.readable_lines.specs.Lines.{lined, unlined, shown_line_by, packed_line_by, shown_line, packed_line}
 use Rattle.readable.specs.Texts.{onward, ending, storing, stored, packed_end, packed_table}
-use Rattle.readable.specs.declared.Ended.TheVariants as ended
+use Rattle.readable.specs.Ended as ended
 use Rattle.readable_lines.proofs.Lining.{unlined_line}
 use Rattle.readable_laws.proofs.HexLines.{Small, frame_text}
 use Rattle.readable_laws.proofs.Times.{lines_text, snoc_same, hex_line_lem}

@@ -19,12 +19,15 @@ use Rattle.text.specs.Steps.{Wrote}
 use Rattle.text.proofs.Tests.{by}
 use Rattle.text.proofs.Filling.{wrote_long, wrote_more, wrote_nothing, wrote_before}
 use Rattle.path_read.specs.declared.reader.Stored.{Stored}
-use Rattle.path_read.specs.declared.reader.Stored.TheVariants.{To, Unread}
+use Rattle.std.specs.Prelude.{Some, None}
+use Rattle.std.specs.Prelude as program
+use Rattle.std.proofs.lemmas.Option.{same_Some, none-some}
+use Rattle.path_read.specs.Steps.{MaybeStored, reached}
 use Rattle.table.specs.Frame.{unknown, whole}
 use Rattle.readable_parts.specs.Parts.{Parts, part_of}
 use Rattle.readable_lines.specs.Form.{parts, form_by, request_form, printed, shown_by, shown_frame, kind_by, packed_by, packed_frame}
 use Rattle.readable_parts.specs.Steps.{longest, Puts, puts, stops}
-use Rattle.readable_lines.specs.Steps.{max_made_frame, parts_by, room_for, Fills, fills, nothing, stored_end, closed}
+use Rattle.readable_lines.specs.Steps.{max_made_frame, parts_by, room_for, Fills, fills, nothing, closed, kind_said}
 use Rattle.readable_parts.proofs.Stored.{put_to, put_not, front}
 
 -- ---- parts
@@ -103,7 +106,7 @@ module _ (p : Parts) (form s : Str) (start : ℕ) (d : List ℕ) (to : ℕ) wher
         inside = k;
       }
 
-    pub going_done : length form ≤ i → Puts (room_for form) (parts p form) s start d to out (To at q)
+    pub going_done : length form ≤ i → Puts (room_for form) (parts p form) s start d to out (reached at q)
     going_done l =
         let e : parts p (drop i form) s at ≡ got [] at = ap (λ (f : Str). parts p f s at) (drop_of_length-le form l) ∙ parts_nil p s at in
         puts (g.same ∙ ap (after g.so_far) e ∙ ap (λ (z : Str). got z at) (append-nil g.so_far)) g.wrote (omega (arith, g.few)) g.inside
@@ -154,46 +157,62 @@ room_request = omega arith
 -- ---- frames, shown
 
 module _ (r : Reader Str) (f : Str) (at : ℕ) where
-  pub shown_room : {d d' : List ℕ} {q : Stored} → Puts max_readable_line r f at d 0 d' q → max_made_frame ≤ length d → stored_end q ≤ length d'
-  unfolding stored_end
-  shown_room (puts {w = w} {d = d} {d' = d'} {end = end} i v b l) h = omega (arith, v.ends, wrote_long d 0 w d' end v (omega (arith, b)), b)
-  shown_room (stops i) h = omega arith
+  module _ {d d' : List ℕ} {q : MaybeStored} (e : Puts max_readable_line r f at d 0 d' q) where
+    pub shown_unread : q ≡ None → shown_by r at f ≡ none
+    unfolding shown_by whole printed
+    shown_unread g = rw (put_not e g)
 
-  pub shown_fills : {d d' : List ℕ} {q : Stored} → Puts max_readable_line r f at d 0 d' q → Fills (shown_by r at f) d d' (closed (length f) d' q)
-  unfolding shown_by whole printed closed ◌and◌ whether◌then◌else◌
-  shown_fills (puts {w = w} {t = t} {d = d} {d' = d'} {end = end} i v b l) =
-      let k : take end d' ≡ w = front d w d' end v in
-      by (eqb t (length f))
-      (λ u. by (all is_print w) (λ p. rw (i, u, k, p) (fills v (omega (arith, v.ends, b)))) (λ p. rw (i, u, k, p) nothing))
-      (λ u. rw (i, u) nothing)
-  shown_fills (stops i) = rw i nothing
+    module _ {o : Stored} (g : q ≡ Some o) where
+      pub shown_room : max_made_frame ≤ length d → o.end ≤ length d'
+      shown_room h = let u = put_to e g in omega (arith, u.2.ends, wrote_long d 0 u.0 d' o.end u.2 (omega (arith, u.3)), u.3)
+
+      pub shown_fills : Fills (shown_by r at f) d d' (closed (length f) d' o)
+      unfolding shown_by whole printed closed ◌and◌ whether◌then◌else◌
+      shown_fills =
+          let u = put_to e g in
+          let k : take o.end d' ≡ u.0 = front d u.0 d' o.end u.2 in
+          by (eqb o.next (length f))
+          (λ x. by (all is_print u.0) (λ p. rw (u.1, x, k, p) (fills u.2 (omega (arith, u.2.ends, u.3)))) (λ p. rw (u.1, x, k, p) nothing))
+          (λ x. rw (u.1, x) nothing)
 
 pub frame_empty : (f : Str) → length f ≤ 0 → shown_frame f ≡ none
 frame_empty [] h = unfold shown_frame shown_by form_by whether◌then◌else◌ unknown whole printed in refl
 frame_empty (x ∷ f) h = absurd (omega arith)
 
-pub frame_fills : (f : Str) {d d' : List ℕ} {q : Stored} → Puts max_readable_line (form_by (parts_by false) (get_or f 0 0)) f 1 d 0 d' q → Fills (shown_frame f) d d' (closed (length f) d' q)
-unfolding shown_frame parts_by whether◌then◌else◌
-frame_fills f e = shown_fills _ f 1 e
+module _ (f : Str) {d d' : List ℕ} {q : MaybeStored} (e : Puts max_readable_line (form_by (parts_by false) (get_or f 0 0)) f 1 d 0 d' q) where
+  pub frame_unread : q ≡ None → shown_frame f ≡ none
+  unfolding shown_frame parts_by whether◌then◌else◌
+  frame_unread g = shown_unread _ f 1 e g
+
+  pub frame_fills : {o : Stored} → q ≡ Some o → Fills (shown_frame f) d d' (closed (length f) d' o)
+  unfolding shown_frame parts_by whether◌then◌else◌
+  frame_fills g = shown_fills _ f 1 e g
 
 -- ---- readable lines, packed
+
+-- what the answer of `kind_by` tells
+pub kind_is : {r : program.Option ℕ} {k n : ℕ} → r ≡ Some k → kind_said r ≡ n → k ≡ n
+kind_is e i = ap kind_said (sym e) ∙ i
+
+pub kind_is_none : {r : program.Option ℕ} {n : ℕ} → r ≡ None → kind_said r ≡ n → 0 ≡ n
+kind_is_none e i = ap kind_said (sym e) ∙ i
 
 module _ (r : Reader Str) (s : Str) where
   pub packed_strange : all is_print s ≡ false → packed_by r s ≡ none
   unfolding packed_by whether◌then◌else◌
   packed_strange e = rw e
 
-  module _ (a : all is_print s ≡ true) {most to : ℕ} {d d' : List ℕ} {q : Stored} (e : Puts most r s 0 d to d' q) where
-    pub packed_unread : q ≡ Unread → packed_by r s ≡ none
+  module _ (a : all is_print s ≡ true) {most to : ℕ} {d d' : List ℕ} {q : MaybeStored} (e : Puts most r s 0 d to d' q) where
+    pub packed_unread : q ≡ None → packed_by r s ≡ none
     unfolding packed_by whole whether◌then◌else◌
     packed_unread g = rw (a, put_not e g)
 
-    module _ {next end : ℕ} (g : q ≡ To next end) where
-      pub packed_longer : (next ≡ length s → ⊥) → packed_by r s ≡ none
+    module _ {o : Stored} (g : q ≡ Some o) where
+      pub packed_longer : (o.next ≡ length s → ⊥) → packed_by r s ≡ none
       unfolding packed_by whole whether◌then◌else◌
       packed_longer n = rw (a, (put_to e g).1, ne_eqb _ _ n)
 
-      pub packed_is : next ≡ length s → packed_by r s ≡ some (put_to e g).0
+      pub packed_is : o.next ≡ length s → packed_by r s ≡ some (put_to e g).0
       unfolding packed_by whole whether◌then◌else◌
       packed_is n = rw (a, (put_to e g).1, eq-eqb _ _ n)
 
@@ -213,15 +232,19 @@ module _ (s : Str) where
       go [] h = unfold packed_frame packed_by all kind_by form_by whether◌then◌else◌ unknown whole in refl
       go (x ∷ g) h = absurd (omega arith)
 
-  module _ (a : all is_print s ≡ true) (k : ℕ) (i : k ≡ kind_by (get_or s 0 0)) (d d' : List ℕ) (r : Stored) (e : Puts max_readable_line (form_by (parts_by true) k) s 0 d 1 d' r) where
-    pub line_unread : r ≡ Unread → packed_frame s ≡ none
+  pub line_kindless : 0 ≡ kind_by (get_or s 0 0) → packed_frame s ≡ none
+  unfolding packed_by form_by whole whether◌then◌else◌ unknown
+  line_kindless i = kinded 0 i {o = none} (by (all is_print s) (λ u. rw u refl) (λ u. rw u refl))
+
+  module _ (a : all is_print s ≡ true) (k : ℕ) (i : k ≡ kind_by (get_or s 0 0)) (d d' : List ℕ) (r : MaybeStored) (e : Puts max_readable_line (form_by (parts_by true) k) s 0 d 1 d' r) where
+    pub line_unread : r ≡ None → packed_frame s ≡ none
     line_unread g = kinded k i (packed_unread _ s a e g)
 
-    module _ (next end : ℕ) (g : r ≡ To next end) where
-      pub line_longer : (next ≡ length s → ⊥) → packed_frame s ≡ none
+    module _ {o : Stored} (g : r ≡ Some o) where
+      pub line_longer : (o.next ≡ length s → ⊥) → packed_frame s ≡ none
       line_longer n = kinded k i (packed_longer _ s a e g n)
 
-      pub line_fills : max_made_frame ≤ length d → next ≡ length s → Fills (packed_frame s) d (set d' 0 k) (To next end)
+      pub line_fills : max_made_frame ≤ length d → o.next ≡ length s → Fills (packed_frame s) d (set d' 0 k) (Some o.end)
       line_fills l n =
           let u = put_to e g in
-          rw (kinded k i (packed_is _ s a e g n)) (fills (wrote_before d 0 k u.0 d' end (omega (arith, u.3)) u.2) (omega (arith, u.2.ends, u.3)))
+          rw (kinded k i (packed_is _ s a e g n)) (fills (wrote_before d 0 k u.0 d' o.end (omega (arith, u.3)) u.2) (omega (arith, u.2.ends, u.3)))

@@ -20,10 +20,10 @@ use Rattle.text_search.specs.Search.{until, is}
 use Rattle.table_line.specs.Lines.{lines, onto}
 use Rattle.table_line.specs.Decoding.{digits, first_line}
 use Rattle.table_line.specs.declared.Line.{Line}
-use Rattle.table_line.specs.declared.Line.TheVariants.{Frame, Bad}
+use Rattle.std.specs.Prelude as prelude
+use Rattle.std.specs.Prelude.{None, Some}
 use Rattle.table_line.proofs.FirstLine.{Read, line_read, line_unhex}
-use Rattle.path_read.specs.declared.reader.Stored.{Stored}
-use Rattle.path_read.specs.declared.reader.Stored.TheVariants.{To, Unread}
+use Rattle.path_read.specs.Steps.{reached}
 use Rattle.readable_parts.specs.Parts.{hex_text}
 use Rattle.readable_lines.specs.Lines.{lined, unlined, shown_line_by, packed_line_by}
 use Rattle.readable_lines.specs.Steps.{max_made_frame, max_made_line, Fills, Lays, lays, fails}
@@ -69,14 +69,20 @@ unlined_none s z h = rw (unended s h (length s - 1) (omega arith))
 
 -- ---- a hex line, by what is shown of its frame
 
-module _ (show : Str → Option Str) (text : Str) (from : ℕ) (i : from < length text) (r : Line) (e : r ≡ first_line from (lines (drop from text))) where
-  pub show_bad : r ≡ Bad → {d d' : List ℕ} → Lays (shown_line_by show) text from d d' Unread
+module _ (show : Str → Option Str) (text : Str) (from : ℕ) (i : from < length text) (r : prelude.Option Line) (e : r ≡ first_line from (lines (drop from text))) where
+  pub show_bad : r ≡ None → {d d' : List ℕ} → Lays (shown_line_by show) text from d d' None
   unfolding shown_line_by lined bind
   show_bad g = let u = line_unhex text from r e i g in fails u.first (rw u.is)
 
-  module _ (len next : ℕ) (g : r ≡ Frame len next) (z b : List ℕ) (x : b ≡ put z 0 (digits (drop from text))) where
+  module _ (hex : Line) (g : r ≡ Some hex) (z b : List ℕ) (x : b ≡ put z 0 (digits (drop from text))) where
+    abbrev len : ℕ
+    len = hex.len
+
+    abbrev next : ℕ
+    next = hex.next
+
     told : Read text from len next
-    told = line_read text from r e (omega arith) len next g
+    told = line_read text from r e (omega arith) hex g
 
     frame_here : take len b ≡ digits (drop from text)
     frame_here = front z (digits (drop from text)) b len (record { ends = omega (arith, told.size); same = x })
@@ -88,19 +94,19 @@ module _ (show : Str → Option Str) (text : Str) (from : ℕ) (i : from < lengt
     unfolding shown_line_by bind
     is_shown o s = let t = ap show (sym frame_here) ∙ s in rw (told.is, t)
 
-    module _ (d d' : List ℕ) (q : Stored) (f : Fills (show (take len b)) d d' q) where
-      pub show_unread : q ≡ Unread → Lays (shown_line_by show) text from d d' Unread
+    module _ (d d' : List ℕ) (q : prelude.Option ℕ) (f : Fills (show (take len b)) d d' q) where
+      pub show_unread : q ≡ None → Lays (shown_line_by show) text from d d' None
       unfolding lined
       show_unread h = fails told.first (is_shown none (filled_not f h))
 
-      module _ (n end : ℕ) (h : q ≡ To n end) (l : max_made_line ≤ length d) where
+      module _ (end : ℕ) (h : q ≡ Some end) (l : max_made_line ≤ length d) where
         pub show_room : (end < length d') × (end < max_made_line)
         show_room =
             let u = filled_to f h in
             let k : length d' ≡ length d = wrote_long d 0 u.0 d' end u.2 (omega (arith, u.2.ends, u.3)) in
             (omega (arith, u.3), omega (arith, u.3))
 
-        pub show_lays : Lays (shown_line_by show) text from d (set d' end 10) (To next (end + 1))
+        pub show_lays : Lays (shown_line_by show) text from d (set d' end 10) (reached next (end + 1))
         unfolding lined
         show_lays =
             let u = filled_to f h in
@@ -118,7 +124,7 @@ module _ (show : Str → Option Str) (text : Str) (from : ℕ) (i : from < lengt
 -- ---- a readable line, by the frame that is packed of it
 
 module _ (pack : Str → Option Str) (text : Str) (from : ℕ) (i : from < length text) (stop : ℕ) (e : stop ≡ from + until (is 10) (drop from text)) where
-  pub pack_open : length text ≤ stop → {d d' : List ℕ} → Lays (packed_line_by pack) text from d d' Unread
+  pub pack_open : length text ≤ stop → {d d' : List ℕ} → Lays (packed_line_by pack) text from d d' None
   unfolding packed_line_by lined bind
   pack_open h =
       let s = drop from text in
@@ -140,12 +146,12 @@ module _ (pack : Str → Option Str) (text : Str) (from : ℕ) (i : from < lengt
     unfolding packed_line_by bind
     is_packed o s = rw (unlined_line body, s)
 
-    module _ (z b : List ℕ) (q : Stored) (f : Fills (pack body) z b q) where
-      pub pack_unread : q ≡ Unread → {d d' : List ℕ} → Lays (packed_line_by pack) text from d d' Unread
+    module _ (z b : List ℕ) (q : prelude.Option ℕ) (f : Fills (pack body) z b q) where
+      pub pack_unread : q ≡ None → {d d' : List ℕ} → Lays (packed_line_by pack) text from d d' None
       unfolding lined
       pack_unread h = fails pack_first (is_packed none (filled_not f h))
 
-      module _ (n end : ℕ) (h : q ≡ To n end) (d : List ℕ) (w : max_made_line ≤ length d) where
+      module _ (end : ℕ) (h : q ≡ Some end) (d : List ℕ) (w : max_made_line ≤ length d) where
         pub pack_end : end ≤ max_made_frame
         pack_end = (filled_to f h).3
 
@@ -166,7 +172,7 @@ module _ (pack : Str → Option Str) (text : Str) (from : ℕ) (i : from < lengt
               wrote_long d 0 (hex_text (take end b) ++ (10 ∷ [])) (set d' close 10) (close + 1) both
               (omega (arith, length-append (hex_text (take end b)) (10 ∷ []), hex_length (take end b), length-take end b, pack_end))
 
-          pub pack_lays : Lays (packed_line_by pack) text from d (set d' close 10) (To (stop + 1) (close + 1))
+          pub pack_lays : Lays (packed_line_by pack) text from d (set d' close 10) (reached (stop + 1) (close + 1))
           unfolding lined
           pack_lays =
               let u = filled_to f h in

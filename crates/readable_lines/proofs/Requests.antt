@@ -1,5 +1,5 @@
 -- Requests of a log: what the programs find, and what they show and pack.
-use mathlib.Core.Path.{◌≡◌, refl, sym, ap, ◌∙◌}
+use mathlib.Core.Path.{◌≡◌, sym, ◌∙◌}
 use mathlib.Core.Bool.{true, false, not}
 use mathlib.Core.List.{List}
 use mathlib.Core.Option.{none, some, bind}
@@ -12,17 +12,17 @@ use Rattle.text.specs.Test.{whether◌then◌else◌, absent, all}
 use Rattle.text.specs.Byte.{is_print}
 use Rattle.text.specs.String.{Str}
 use Rattle.text.specs.Refusal.{clear}
-use Rattle.text.specs.Frame.{Parsed, got, unread}
 use Rattle.text.proofs.Tests.{by}
 use Rattle.path.specs.Bytes.{path}
 use Rattle.path.specs.Walk.{is_path_in}
 use Rattle.request_log.specs.Request.{good_request}
-use Rattle.request_log.specs.Heading.{Head, heading, head_refusal, headed}
+use Rattle.std.specs.Prelude.{Option, Some, None}
+use Rattle.refusal.specs.Refusal.{code}
+use Rattle.request_log.specs.Heading.{heading, headed, told}
 use Rattle.request_log.specs.declared.Heading.{Heading}
-use Rattle.request_log.specs.declared.Heading.TheVariants as headings
-use Rattle.request_log.proofs.Headings.{no_heading, bad_heading, bad_path, good_path_lem}
+use Rattle.request_log.proofs.Headings.{head_told, head_missed, no_heading, bad_heading, bad_path, good_path_lem}
 use Rattle.path_read.specs.declared.reader.Stored.{Stored}
-use Rattle.path_read.specs.declared.reader.Stored.TheVariants.{To}
+use Rattle.path_read.specs.Steps.{MaybeStored}
 use Rattle.readable_parts.specs.Parts.{shown, packed}
 use Rattle.readable_parts.specs.Steps.{Puts}
 use Rattle.readable_parts.proofs.Stored.{put_to, front}
@@ -33,36 +33,24 @@ use Rattle.readable_lines.proofs.Converting.{room_request, packed_is}
 
 -- ---- whether a request is good
 
--- what an answer of `read_heading` tells
-headed_unread : (x : Parsed Head) → headed x ≡ headings.Unread → x ≡ unread
-unfolding headed
-headed_unread (got h t) e = let z : ◌≡◌ {A = ℕ} 0 1 = cc in absurd (omega arith)
-headed_unread unread e = refl
-
-headed_at : (x : Parsed Head) (n o p : ℕ) → headed x ≡ headings.At n o p → (h : Head) × (x ≡ got h p) × (head_refusal h ≡ n)
-unfolding headed
-headed_at (got h t) n o p e = let i : t ≡ p = cc in let j : head_refusal h ≡ n = cc in (h, ap (got h) i, j)
-headed_at unread n o p e = let z : ◌≡◌ {A = ℕ} 0 1 = cc in absurd (omega arith)
-
-module _ (f : Str) {r : Heading} (e : r ≡ headed (heading f 0)) where
-  pub good_unread : r ≡ headings.Unread → false ≡ not (absent (good_request f))
+module _ (f : Str) {r : Option Heading} (e : told r ≡ headed (heading f 0)) where
+  pub good_unread : r ≡ None → false ≡ not (absent (good_request f))
   unfolding absent
-  good_unread g = rw (no_heading f (headed_unread (heading f 0) (sym e ∙ g)))
+  good_unread g = rw (no_heading f (head_missed f r e g))
 
-  module _ {n o p : ℕ} (g : r ≡ headings.At n o p) where
-    pub good_refused : (n ≡ clear → ⊥) → false ≡ not (absent (good_request f))
+  module _ {h : Heading} (g : r ≡ Some h) where
+    pub good_refused : (code h.refusal ≡ clear → ⊥) → false ≡ not (absent (good_request f))
     unfolding absent
     good_refused c =
-        let h = headed_at (heading f 0) n o p (sym e ∙ g) in
-        rw (bad_heading f h.0 p h.1 (λ z. c (sym h.2 ∙ z)))
+        let at = head_told f r e h g in rw (bad_heading f _ _ at.reads (λ z. c (at.number ∙ z)))
 
-    pub good_by_path : n ≡ clear → is_path_in f (path f p) ≡ not (absent (good_request f))
+    pub good_by_path : code h.refusal ≡ clear → is_path_in f (path f h.path) ≡ not (absent (good_request f))
     unfolding absent
     good_by_path c =
-        let h = headed_at (heading f 0) n o p (sym e ∙ g) in
-        by (is_path_in f (path f p))
-        (λ y. rw (y, good_path_lem f h.0 p h.1 (h.2 ∙ c) y))
-        (λ y. rw (y, bad_path f h.0 p h.1 (h.2 ∙ c) y))
+        let at = head_told f r e h g in
+        by (is_path_in f (path f h.path))
+        (λ y. rw (y, good_path_lem f _ h.path at.reads (sym at.number ∙ c) y))
+        (λ y. rw (y, bad_path f _ h.path at.reads (sym at.number ∙ c) y))
 
 -- ---- shown and packed
 
@@ -98,15 +86,15 @@ module _ (s : Str) where
     pack_good g = rw (e, good_yes w g)
 
   -- the request was packed whole, to the start of d'
-  module _ (a : all is_print s ≡ true) {d d' : List ℕ} {q : Stored} (e : Puts (room_for request_form) (parts packed request_form) s 0 d 0 d' q) {next end : ℕ} (g : q ≡ To next end) (n : next ≡ length s) where
-    made : take end d' ≡ (put_to e g).0
-    made = front d (put_to e g).0 d' end (put_to e g).2
+  module _ (a : all is_print s ≡ true) {d d' : List ℕ} {q : MaybeStored} (e : Puts (room_for request_form) (parts packed request_form) s 0 d 0 d' q) {o : Stored} (g : q ≡ Some o) (n : o.next ≡ length s) where
+    made : take o.end d' ≡ (put_to e g).0
+    made = front d (put_to e g).0 d' o.end (put_to e g).2
 
-    pub request_short : end ≤ max_readable_line
+    pub request_short : o.end ≤ max_readable_line
     request_short = let u = put_to e g in omega (arith, u.2.ends, u.3, room_request)
 
-    pub request_refused : not (absent (good_request (take end d'))) ≡ false → packed_request s ≡ none
+    pub request_refused : not (absent (good_request (take o.end d'))) ≡ false → packed_request s ≡ none
     request_refused h = pack_bad (packed_is _ s a e g n) (rw made at h)
 
-    pub request_fills : not (absent (good_request (take end d'))) ≡ true → Fills (packed_request s) d d' (To next end)
+    pub request_fills : not (absent (good_request (take o.end d'))) ≡ true → Fills (packed_request s) d d' (Some o.end)
     request_fills h = rw (pack_good (packed_is _ s a e g n) (rw made at h)) (fills (put_to e g).2 (omega (arith, request_short)))

@@ -1,5 +1,5 @@
 -- The answers of the programs that convert line by line, said of what is read there.
-use Rattle.std.specs.Prelude.{ℕ, ◌+◌, ◌*◌, ◌≤◌, ◌<◌, ◌≡◌, Bool, List, [], ◌∷◌, eqb, length, take, drop}
+use Rattle.std.specs.Prelude.{ℕ, ◌+◌, ◌*◌, ◌≤◌, ◌<◌, ◌≡◌, Bool, List, [], ◌∷◌, eqb, length, take, drop, Some, None}
 use Rattle.std.proofs.Math.Option.{Option, none, some}
 use Rattle.limits.specs.Sizes.{max_readable_line}
 use Rattle.text.specs.Test.{◌and◌, whether◌then◌else◌, all}
@@ -8,7 +8,8 @@ use Rattle.text.specs.String.{Str}
 use Rattle.text.specs.Steps.{Wrote}
 use Rattle.table_line.specs.Lines.{lines}
 use Rattle.path_read.specs.declared.reader.Stored.{Stored}
-use Rattle.path_read.specs.declared.reader.Stored.TheVariants as stored
+use Rattle.path_read.specs.Steps.{MaybeStored, reached}
+use Rattle.std.specs.Prelude as program
 use Rattle.readable_parts.specs.Parts.{Parts, shown, packed}
 use Rattle.readable_parts.specs.Steps.{longest}
 
@@ -30,22 +31,21 @@ room_for [] = 0
 room_for (c ∷ cs) = longest c + room_for cs
 
 -- what there is, a frame or a line of either form, fills the start of d, and nothing else does; where there is nothing, nothing is said of d
-pub data Fills : Option Str → List ℕ → List ℕ → Stored → Type 0 where
-  fills : {w : Str} {d d' : List ℕ} {next end : ℕ} → Wrote d 0 w d' end → end ≤ max_made_frame → Fills (some w) d d' (stored.To next end)
-  nothing : {d d' : List ℕ} → Fills none d d' stored.Unread
+pub data Fills : Option Str → List ℕ → List ℕ → program.Option ℕ → Type 0 where
+  fills : {w : Str} {d d' : List ℕ} {end : ℕ} → Wrote d 0 w d' end → end ≤ max_made_frame → Fills (some w) d d' (Some end)
+  nothing : {d d' : List ℕ} → Fills none d d' None
 
--- where what was stored ends
-unfoldable pub stored_end : Stored → ℕ
-stored_end (stored.To next end) = end
-stored_end stored.Unread = 0
+-- where a reading ended that took all of `size` bytes and stored printable text at the start of `out`
+unfoldable pub closed : ℕ → List ℕ → Stored → program.Option ℕ
+closed size out r = whether eqb r.next size and all is_print (take r.end out) then Some r.end else None
 
--- a reading that took all of `size` bytes and stored printable text at the start of `out`
-unfoldable pub closed : ℕ → List ℕ → Stored → Stored
-closed size out (stored.To next end) = whether eqb next size and all is_print (take end out) then stored.To next end else stored.Unread
-closed size out stored.Unread = stored.Unread
+-- the number of a kind, 0 for none
+abbrev pub kind_said : program.Option ℕ → ℕ
+kind_said (Some k) = k
+kind_said None = 0
 
 -- the line of the text that starts at `from` was converted by g to the start of d, and the next one starts at `next`; or g does not convert it
-pub data Lays (g : Str → Option Str) (text : Str) (from : ℕ) : List ℕ → List ℕ → Stored → Type 0 where
+pub data Lays (g : Str → Option Str) (text : Str) (from : ℕ) : List ℕ → List ℕ → MaybeStored → Type 0 where
   lays : {l w : Str} {d d' : List ℕ} {next end : ℕ} → lines (drop from text) ≡ l ∷ lines (drop next text) → g l ≡ some w → Wrote d 0 w d' end
-      → end ≤ length d → from < next → next ≤ length text → Lays g text from d d' (stored.To next end)
-  fails : {l : Str} {ls : List Str} {d d' : List ℕ} → lines (drop from text) ≡ l ∷ ls → g l ≡ none → Lays g text from d d' stored.Unread
+      → end ≤ length d → from < next → next ≤ length text → Lays g text from d d' (reached next end)
+  fails : {l : Str} {ls : List Str} {d d' : List ℕ} → lines (drop from text) ≡ l ∷ ls → g l ≡ none → Lays g text from d d' None

@@ -18,7 +18,7 @@ const MAX_MADE_FRAME: usize = 1 + limits::MAX_READABLE_LINE;
 pub const MAX_MADE_LINE: usize = 2 * MAX_MADE_FRAME + 1;
 
 // The readable form of a frame, without its LF.
-fn show_frame(log: bool, f: &[u8], out: &mut [u8]) -> Stored
+fn show_frame(log: bool, f: &[u8], out: &mut [u8]) -> Option<usize>
     requires { max_made_frame ≤ length out.old }
     ensures { Fills (shown_for log f.now) out.old out.new result }
 {
@@ -29,28 +29,21 @@ fn show_frame(log: bool, f: &[u8], out: &mut [u8]) -> Stored
 }
 
 // The readable line of the hex line that starts at `from`.
-fn show_line(log: bool, text: &[u8], from: usize, out: &mut [u8]) -> Stored
+fn show_line(log: bool, text: &[u8], from: usize, out: &mut [u8]) -> Option<Stored>
     requires { (from < length text.now) × (length text.now ≤ max_table_text) × (max_made_line ≤ length out.old) }
     ensures { Lays (shown_line_by (shown_for log)) text.now from out.old out.new result }
 {
     let mut frame = [0u8; limits::MAX_TABLE_BYTES];
-    let l = table_line::read_line(text, from, &mut frame, 0);
-    let Line::Frame { len, next } = l else {
-        return Stored::Unread;
+    let Some(Line { len, next }) = table_line::read_line(text, from, &mut frame, 0) else {
+        return None;
     };
-    let s = show_frame(log, &frame[..len], out);
-    let Stored::To { next: _, end } = s else {
-        return Stored::Unread;
-    };
+    let end = show_frame(log, &frame[..len], out)?;
     out[end] = b'\n';
-    Stored::To {
-        next: next,
-        end: end + 1,
-    }
+    Some(Stored { next, end: end + 1 })
 }
 
 // The frame of a readable line, which is given without its LF.
-fn pack_frame(log: bool, s: &[u8], out: &mut [u8]) -> Stored
+fn pack_frame(log: bool, s: &[u8], out: &mut [u8]) -> Option<usize>
     requires { max_made_frame ≤ length out.old }
     ensures { Fills (packed_for log s.now) out.old out.new result }
 {
@@ -61,29 +54,32 @@ fn pack_frame(log: bool, s: &[u8], out: &mut [u8]) -> Stored
 }
 
 // The hex line of the readable line that starts at `from`.
-fn pack_line(log: bool, text: &[u8], from: usize, out: &mut [u8]) -> Stored
+fn pack_line(log: bool, text: &[u8], from: usize, out: &mut [u8]) -> Option<Stored>
     requires { (from < length text.now) × (max_made_line ≤ length out.old) }
     ensures { Lays (packed_line_by (packed_for log)) text.now from out.old out.new result }
 {
     let stop = text_search::find(text, from, b'\n');
     if text.len() <= stop {
-        return Stored::Unread;
+        return None;
     }
     let mut frame = [0u8; MAX_MADE_FRAME];
-    let s = pack_frame(log, &text[from..stop], &mut frame);
-    let Stored::To { next: _, end } = s else {
-        return Stored::Unread;
-    };
+    let end = pack_frame(log, &text[from..stop], &mut frame)?;
     let close = readable_parts::hex::write_hex(&frame[..end], out, 0);
     out[close] = b'\n';
-    Stored::To {
+    Some(Stored {
         next: stop + 1,
         end: close + 1,
-    }
+    })
 }
 
 // Either of the two: `packing` makes the hex line of a readable one.
-pub fn convert_line(log: bool, packing: bool, text: &[u8], from: usize, out: &mut [u8]) -> Stored
+pub fn convert_line(
+    log: bool,
+    packing: bool,
+    text: &[u8],
+    from: usize,
+    out: &mut [u8],
+) -> Option<Stored>
     requires { (from < length text.now) × (packing ≡ false → length text.now ≤ max_table_text) × (max_made_line ≤ length out.old) }
     ensures { Lays (line_by log packing) text.now from out.old out.new result }
 {

@@ -18,7 +18,8 @@ use Rattle.text_search.specs.Search.{until, is}
 use Rattle.text_search.proofs.Searching.{until_fits}
 use Rattle.table_line.specs.Lines.{lines, onto}
 use Rattle.path_read.specs.declared.reader.Stored.{Stored}
-use Rattle.path_read.specs.declared.reader.Stored.TheVariants.{To, Unread}
+use Rattle.std.specs.Prelude.{Some, None}
+use Rattle.path_read.specs.Steps.{MaybeStored, reached}
 use Rattle.readable_lines.specs.Lines.{shown_for, shown_log_line, line_by}
 use Rattle.readable_lines.specs.Steps.{Lays, lays, fails}
 use Rattle.readable_lines.proofs.Lining.{unended_line}
@@ -80,21 +81,21 @@ module _ (g : Str → Option Str) (text : Str) (from end : ℕ) (e : LineEnds te
   only : lines (part text from end) ≡ part text from end ∷ []
   only = alone (drop from text) (part text from end) (lines (drop end text)) e.first
 
-  pub cut_fails : {d d' : List ℕ} → g (part text from end) ≡ none → Lays g text from d d' Unread
+  pub cut_fails : {d d' : List ℕ} → g (part text from end) ≡ none → Lays g text from d d' None
   cut_fails h = fails e.first h
 
-  module _ {d d' : List ℕ} {q : Stored} (c : Lays g (part text from end) 0 d d' q) where
-    pub cut_unread : q ≡ Unread → Lays g text from d d' Unread
+  module _ {d d' : List ℕ} {q : MaybeStored} (c : Lays g (part text from end) 0 d d' q) where
+    pub cut_unread : q ≡ None → Lays g text from d d' None
     cut_unread h =
         let u = laid_not c h in
         let i : u.0 ∷ u.1 ≡ part text from end ∷ [] = sym u.2 ∙ only in
         let j : u.0 ≡ part text from end = cc in
         fails e.first (rw j at u.3)
 
-    pub cut_lays : {next made : ℕ} → q ≡ To next made → Lays g text from d d' (To end made)
-    cut_lays {next = next} h =
+    pub cut_lays : {o : Stored} → q ≡ Some o → Lays g text from d d' (reached end o.end)
+    cut_lays {o = o} h =
         let u = laid_to c h in
-        let i : u.0 ∷ lines (drop next (part text from end)) ≡ part text from end ∷ [] = sym u.2 ∙ only in
+        let i : u.0 ∷ lines (drop o.next (part text from end)) ≡ part text from end ∷ [] = sym u.2 ∙ only in
         let j : u.0 ≡ part text from end = cc in
         lays {next = end} e.first (rw j at u.3) u.4 u.5 e.past e.inside
 

@@ -15,7 +15,8 @@ use Rattle.text.proofs.Tests.{by, clash, and_left, and_right}
 use Rattle.text.proofs.Filling.{put_length, put_take}
 use Rattle.table_line.specs.Lines.{lines}
 use Rattle.path_read.specs.declared.reader.Stored.{Stored}
-use Rattle.path_read.specs.declared.reader.Stored.TheVariants.{To, Unread}
+use Rattle.std.specs.Prelude.{Some, None}
+use Rattle.path_read.specs.Steps.{MaybeStored}
 use Rattle.readable_parts.proofs.Rest.{part_put}
 use Rattle.readable_lines.specs.Steps.{max_made_line, Lays}
 use Rattle.readable_lines.proofs.Stored.{laid_to, laid_not}
@@ -110,8 +111,8 @@ module _ (g : Str → Option Str) (text : Str) (most : ℕ) (d : List ℕ) where
           behind_long,
         )
 
-    module _ (p : List ℕ) (q : Stored) (c : Lays g text next behind p q) where
-      module _ (h : q ≡ Unread) where
+    module _ (p : List ℕ) (q : MaybeStored) (c : Lays g text next behind p q) where
+      module _ (h : q ≡ None) where
         pub running_stop : length (back p) ≡ length out → Runs g text most d (back p) (record { next = next; count = count; made = made; stopped = true })
         running_stop k =
             let u = laid_not c h in
@@ -130,30 +131,30 @@ module _ (g : Str → Option Str) (text : Str) (most : ℕ) (d : List ℕ) where
               goes = λ e. (let z : ◌≡◌ {A = ℕ} 0 1 = cc in absurd (omega arith));
             }
 
-      module _ (after end : ℕ) (h : q ≡ To after end) where
-        pub running_fits : made + end ≤ length out
+      module _ (o : Stored) (h : q ≡ Some o) where
+        pub running_fits : made + o.end ≤ length out
         running_fits = let u = laid_to c h in omega (arith, u.5, behind_long, r.room)
 
-        pub running_past : (next < after) × (after ≤ length text)
+        pub running_past : (next < o.next) × (o.next ≤ length text)
         running_past = let u = laid_to c h in (u.6, u.7)
 
-        pub running_turn : count < most → Running g text most d (back p) after (count + 1) (made + end)
+        pub running_turn : count < most → Running g text most d (back p) o.next (count + 1) (made + o.end)
         running_turn f =
             let u = laid_to c h in
             let l = u.0 in
             let w = u.1 in
-            let n : end ≡ length w = omega (arith, u.4.ends) in
+            let n : o.end ≡ length w = omega (arith, u.4.ends) in
             let b : back p ≡ put out made w = ap back u.4.same ∙ part_put out made w r.room in
             let k : made + length w ≤ length out = omega (arith, running_fits) in
             record {
               taken = r.taken ++ (l ∷ []);
-              text_is = r.text_is ∙ ap (λ (z : List Str). r.taken ++ z) u.2 ∙ sym (append_assoc r.taken (l ∷ []) (lines (drop after text)));
+              text_is = r.text_is ∙ ap (λ (z : List Str). r.taken ++ z) u.2 ∙ sym (append_assoc r.taken (l ∷ []) (lines (drop o.next text)));
               count_is = omega (arith, length-append r.taken (l ∷ []), r.count_is);
               few = omega arith;
               inside = u.7;
               result = r.result ++ w;
               result_is = converted_more g r.taken l r.result w r.result_is u.3;
-              stands = ap (take (made + end)) b ∙ ap (λ (j : ℕ). take (made + j) (put out made w)) n ∙ put_take out made w k ∙ ap (λ (z : Str). z ++ w) r.stands;
+              stands = ap (take (made + o.end)) b ∙ ap (λ (j : ℕ). take (made + j) (put out made w)) n ∙ put_take out made w k ∙ ap (λ (z : Str). z ++ w) r.stands;
               made_is = omega (arith, r.made_is, length-append r.result w);
               long = ap length b ∙ put_length out made w k ∙ r.long;
               room = rw b (omega (arith, put_length out made w k, running_fits));

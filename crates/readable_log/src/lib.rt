@@ -31,22 +31,16 @@ fn line_end(text: &[u8], from: usize) -> usize
 }
 
 // The line at `from`. `packing` makes the hex line of a readable one.
-fn convert_line(packing: bool, text: &[u8], from: usize, out: &mut [u8]) -> Stored
+fn convert_line(packing: bool, text: &[u8], from: usize, out: &mut [u8]) -> Option<Stored>
     requires { (from < length text.now) × (max_made_line ≤ length out.old) }
     ensures { Lays (line_by true packing) text.now from out.old out.new result }
 {
     let end = line_end(text, from);
     if !packing & (limits::MAX_LOG_LINE < end - from) {
-        return Stored::Unread;
+        return None;
     }
-    let s = readable_lines::convert_line(true, packing, &text[from..end], 0, out);
-    let Stored::To { next: _, end: made } = s else {
-        return Stored::Unread;
-    };
-    Stored::To {
-        next: end,
-        end: made,
-    }
+    let line = readable_lines::convert_line(true, packing, &text[from..end], 0, out)?;
+    Some(Stored { next: end, ..line })
 }
 
 // Converts lines of a text, `most` of them at most, as long as there is room in out for the longest.
@@ -60,12 +54,12 @@ pub fn convert(packing: bool, text: &[u8], most: usize, out: &mut [u8]) -> Run
         & (count < most)
         & (readable_lines::MAX_MADE_LINE <= out.len() - made)
     {
-        let s = convert_line(packing, text, next, &mut out[made..]);
-        let Stored::To { next: after, end } = s else {
+        let line = convert_line(packing, text, next, &mut out[made..]);
+        let Some(Stored { next: after, end }) = line else {
             return Run {
-                next: next,
-                count: count,
-                made: made,
+                next,
+                count,
+                made,
                 stopped: true,
             };
         };
@@ -74,9 +68,9 @@ pub fn convert(packing: bool, text: &[u8], most: usize, out: &mut [u8]) -> Run
         made += end;
     }
     Run {
-        next: next,
-        count: count,
-        made: made,
+        next,
+        count,
+        made,
         stopped: false,
     }
 }

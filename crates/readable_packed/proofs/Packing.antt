@@ -18,12 +18,12 @@ use Rattle.text.proofs.Filling.{wrote_byte, wrote_nothing}
 use Rattle.table_line.specs.Lines.{lines, frame}
 use Rattle.table_line.specs.Decoding.{digits, first_line}
 use Rattle.table_line.specs.declared.Line.{Line}
-use Rattle.table_line.specs.declared.Line.TheVariants.{Frame, Bad}
+use Rattle.std.specs.Prelude as prelude
+use Rattle.std.specs.Prelude.{None, Some}
 use Rattle.table_line.proofs.FirstLine.{Read, line_read, line_unhex, lines_cons}
 use Rattle.path_read.specs.TextReader.{literal, value}
 use Rattle.path_read.specs.Steps.{Room, Stores, stores, nothing}
-use Rattle.path_read.specs.declared.reader.Stored.{Stored}
-use Rattle.path_read.specs.declared.reader.Stored.TheVariants.{To}
+use Rattle.path_read.specs.Steps.{MaybeStored, reached}
 use Rattle.path_read.proofs.Sound.{inside}
 use Rattle.readable_parts.specs.Parts.{rest, alone, packed_string, packed_time, stands_at, packed_code, packed_plain}
 use Rattle.readable_parts.specs.Steps.{Puts, puts, stops}
@@ -39,7 +39,7 @@ module _ (s : Str) (at : ℕ) where
   pub string_past : length s ≤ at → packed_string s at ≡ unread
   string_past h = string_unpacked (λ e. let i = inside s at 91 (omega arith) e in absurd (omega arith))
 
-  pub string_packs : {d : List ℕ} {to : ℕ} {d' : List ℕ} {r : Stored} → get_or s at 0 ≡ 91 → Stores max_string_bytes 1 string_bytes (value max_string) s (at + 1) d to d' r → Puts max_quoted packed_string s at d to d' r
+  pub string_packs : {d : List ℕ} {to : ℕ} {d' : List ℕ} {r : MaybeStored} → get_or s at 0 ≡ 91 → Stores max_string_bytes 1 string_bytes (value max_string) s (at + 1) d to d' r → Puts max_quoted packed_string s at d to d' r
   unfolding packed_string ◌>>=◌ literal whether◌then◌else◌ ret
   string_packs h (stores {a = v} {t = t} i w b) =
       let j : packed_string s at ≡ got (string_bytes v) t = rw (eq-eqb _ _ h, i) in
@@ -76,7 +76,7 @@ module _ (s : Str) (at : ℕ) where
   unfolding packed_time whether◌then◌else◌
   time_unpacked h = rw (ne_eqb _ _ h)
 
-  module _ (t : Str) (e : t ≡ drop at s ++ (10 ∷ [])) (h : length s - at ≡ 16) (r : Line) (i : r ≡ first_line 0 (lines t)) where
+  module _ (t : Str) (e : t ≡ drop at s ++ (10 ∷ [])) (h : length s - at ≡ 16) (r : prelude.Option Line) (i : r ≡ first_line 0 (lines t)) where
     long : length t ≡ 17
     long = ap length e ∙ (let a = length-append (drop at s) (10 ∷ []) in let b = length-drop at s in let c : length (drop at s ++ (10 ∷ [])) ≡ 17 = omega arith in c)
 
@@ -84,15 +84,21 @@ module _ (s : Str) (at : ℕ) where
     unfolding packed_time whether◌then◌else◌
     time_is x a = rw (eq-eqb _ _ h, sym e, a)
 
-    pub time_bad : r ≡ Bad → packed_time s at ≡ unread
+    pub time_bad : r ≡ None → packed_time s at ≡ unread
     unfolding rest
     time_bad g =
         let u = line_unhex t 0 r i (omega (arith, long)) g in
         time_is none (ap alone u.first ∙ alone_none u.line u.others u.is)
 
-    module _ (len next : ℕ) (g : r ≡ Frame len next) where
+    module _ (l : Line) (g : r ≡ Some l) where
+      abbrev len : ℕ
+      len = l.len
+
+      abbrev next : ℕ
+      next = l.next
+
       told : Read t 0 len next
-      told = line_read t 0 r i (omega arith) len next g
+      told = line_read t 0 r i (omega arith) l g
 
       pub time_short : (next ≡ 17 → ⊥) → packed_time s at ≡ unread
       unfolding rest
@@ -116,7 +122,7 @@ module _ (s : Str) (at : ℕ) where
       pub time_eight : next ≡ 17 → len ≡ 8
       time_eight n = let u = told in omega (arith, u.goes)
 
-      pub time_puts : next ≡ 17 → (d : List ℕ) (to : ℕ) (d' : List ℕ) → d' ≡ put d to (digits t) → Puts 16 packed_time s at d to d' (To (length s) (to + len))
+      pub time_puts : next ≡ 17 → (d : List ℕ) (to : ℕ) (d' : List ℕ) → d' ≡ put d to (digits t) → Puts 16 packed_time s at d to d' (reached (length s) (to + len))
       time_puts n d to d' y =
           let k : len ≡ length (digits t) = told.size in
           puts {to = to} {end = to + len} (time_got n) (record { ends = omega (arith, k); same = y }) (omega (arith, time_eight n, k)) (omega arith)
@@ -137,13 +143,13 @@ unfolding stands_at
 stands_inside w s at e = leb-true _ _ (and_l _ _ e)
 
 module _ (n : ℕ) (a b s : Str) (at : ℕ) (d : List ℕ) (to : ℕ) (h : to + 6 ≤ length d) where
-  pub code_first : stands_at a s at ≡ true → Puts 6 (packed_code n a b) s at d to (set d to n) (To (at + length a) (to + 1))
+  pub code_first : stands_at a s at ≡ true → Puts 6 (packed_code n a b) s at d to (set d to n) (reached (at + length a) (to + 1))
   unfolding packed_code whether◌then◌else◌
   code_first e =
       let i : packed_code n a b s at ≡ got (n ∷ []) (at + length a) = rw e in
       puts i (wrote_byte d to n (omega arith)) (omega arith) (stands_inside a s at e)
 
-  pub code_second : stands_at a s at ≡ false → stands_at b s at ≡ true → Puts 6 (packed_code n a b) s at d to (set d to (n + 1)) (To (at + length b) (to + 1))
+  pub code_second : stands_at a s at ≡ false → stands_at b s at ≡ true → Puts 6 (packed_code n a b) s at d to (set d to (n + 1)) (reached (at + length b) (to + 1))
   unfolding packed_code whether◌then◌else◌
   code_second x e =
       let i : packed_code n a b s at ≡ got ((n + 1) ∷ []) (at + length b) = rw (x, e) in
@@ -164,7 +170,7 @@ module _ (c : ℕ) (s : Str) (at : ℕ) where
   unfolding packed_plain ◌and◌ whether◌then◌else◌
   plain_other i h = rw (lt-ltb _ _ i, ne_eqb _ _ h)
 
-  pub plain_puts : at < length s → get_or s at 0 ≡ c → (d : List ℕ) (to : ℕ) → Puts 1 (packed_plain c) s at d to d (To (at + 1) to)
+  pub plain_puts : at < length s → get_or s at 0 ≡ c → (d : List ℕ) (to : ℕ) → Puts 1 (packed_plain c) s at d to d (reached (at + 1) to)
   unfolding packed_plain ◌and◌ whether◌then◌else◌
   plain_puts i e d to =
       let j : packed_plain c s at ≡ got [] (at + 1) = rw (lt-ltb _ _ i, eq-eqb _ _ e) in

@@ -10,41 +10,40 @@ use path_read::reader::Stored;
 use table_line::Line;
 
 // In brackets.
-fn string(s: &[u8], at: usize, out: &mut [u8], to: usize) -> Stored
+fn string(s: &[u8], at: usize, out: &mut [u8], to: usize) -> Option<Stored>
     requires { (to + max_quoted ≤ length out.old) × (at ≤ length s.now) }
     ensures { Puts max_quoted packed_string s.now at out.old to out.new result }
 {
     if s.len() <= at {
-        return Stored::Unread;
+        return None;
     }
     if s[at] != b'[' {
-        return Stored::Unread;
+        return None;
     }
     path_read::reader::read_value(s, at + 1, out, to)
 }
 
 // The rest of the line, 16 digits.
-fn time(s: &[u8], at: usize, out: &mut [u8], to: usize) -> Stored
+fn time(s: &[u8], at: usize, out: &mut [u8], to: usize) -> Option<Stored>
     requires { (to + 16 ≤ length out.old) × (at ≤ length s.now) }
     ensures { Puts 16 packed_time s.now at out.old to out.new result }
 {
     if s.len() - at != 16 {
-        return Stored::Unread;
+        return None;
     }
     // the digits with an LF, a hex line
     let mut digits = [b'\n'; 17];
     text::fill::copy(&s[at..], &mut digits, 0);
-    let l = table_line::read_line(&digits, 0, out, to);
-    let Line::Frame { len, next } = l else {
-        return Stored::Unread;
+    let Some(Line { len, next }) = table_line::read_line(&digits, 0, out, to) else {
+        return None;
     };
     if next != 17 {
-        return Stored::Unread;
+        return None;
     }
-    Stored::To {
+    Some(Stored {
         next: s.len(),
         end: to + len,
-    }
+    })
 }
 
 // The word w stands at `at`.
@@ -60,59 +59,51 @@ fn stands_at(w: &[u8], s: &[u8], at: usize) -> bool
 }
 
 // The word a as the code byte n, the word b as the next one.
-fn code(s: &[u8], at: usize, n: u8, a: &[u8], b: &[u8], out: &mut [u8], to: usize) -> Stored
+fn code(s: &[u8], at: usize, n: u8, a: &[u8], b: &[u8], out: &mut [u8], to: usize) -> Option<Stored>
     requires { (to + 6 ≤ length out.old) × (at ≤ length s.now) × (n ≤ 1) }
     ensures { Puts 6 (packed_code n a.now b.now) s.now at out.old to out.new result }
 {
     if stands_at(a, s, at) {
         out[to] = n;
-        return Stored::To {
+        return Some(Stored {
             next: at + a.len(),
             end: to + 1,
-        };
+        });
     }
     if stands_at(b, s, at) {
         out[to] = n + 1;
-        return Stored::To {
+        return Some(Stored {
             next: at + b.len(),
             end: to + 1,
-        };
+        });
     }
-    Stored::Unread
+    None
 }
 
 // The part that c names.
-pub fn part(c: u8, s: &[u8], at: usize, out: &mut [u8], to: usize) -> Stored
+pub fn part(c: u8, s: &[u8], at: usize, out: &mut [u8], to: usize) -> Option<Stored>
     requires { (to + longest c ≤ length out.old) × (at ≤ length s.now) }
     ensures { Puts (longest c) (part_of packed c) s.now at out.old to out.new result }
 {
-    if c == b'S' {
-        return string(s, at, out, to);
-    }
-    if c == b'T' {
-        return time(s, at, out, to);
-    }
-    if c == b'P' {
-        return readable_parts::ending::path(true, s, at, out, to);
-    }
-    if c == b'A' {
-        return code(s, at, 0, b"deny", b"permit", out, to);
-    }
-    if c == b'M' {
-        return code(s, at, 1, b"read", b"write", out, to);
-    }
-    if c == b'K' {
-        return code(s, at, 0, b"user", b"group", out, to);
-    }
-    // a byte that stands for itself: nothing is stored
-    if s.len() <= at {
-        return Stored::Unread;
-    }
-    if s[at] != c {
-        return Stored::Unread;
-    }
-    Stored::To {
-        next: at + 1,
-        end: to,
+    match c {
+        b'S' => string(s, at, out, to),
+        b'T' => time(s, at, out, to),
+        b'P' => readable_parts::ending::path(true, s, at, out, to),
+        b'A' => code(s, at, 0, b"deny", b"permit", out, to),
+        b'M' => code(s, at, 1, b"read", b"write", out, to),
+        b'K' => code(s, at, 0, b"user", b"group", out, to),
+        _ => {
+            // a byte that stands for itself: nothing is stored
+            if s.len() <= at {
+                return None;
+            }
+            if s[at] != c {
+                return None;
+            }
+            Some(Stored {
+                next: at + 1,
+                end: to,
+            })
+        }
     }
 }

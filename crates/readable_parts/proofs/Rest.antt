@@ -17,9 +17,9 @@ use Rattle.text.specs.Fill.{put}
 use Rattle.text.proofs.Tests.{by}
 use Rattle.path_read.specs.Calls.{answer, lent}
 use Rattle.path_read.proofs.Longest.{bytes_bound, text_bound}
-use Rattle.path_read.specs.declared.Filled.{Filled}
-use Rattle.path_read.specs.declared.Filled.TheVariants.{Length, Refused}
-use Rattle.path_read.specs.declared.reader.Stored.TheVariants.{To}
+use Rattle.path_read.specs.Filled.{Filled}
+use Rattle.path_read.specs.Filled.{Length, Refused}
+use Rattle.path_read.specs.Steps.{reached}
 use Rattle.readable_parts.specs.Parts.{rest, of_rest}
 use Rattle.readable_parts.specs.Steps.{Puts, puts, path_for}
 
@@ -90,7 +90,7 @@ module _ (g : Str → Option Str) (s : Str) (at : ℕ) (i : at < length s) where
       pub rest_size : n ≤ most
       rest_size = let a = answered (from d to) (g (from s at)) r e n f in omega (arith, a.2, b (from s at) a.0 a.1)
 
-      pub rest_puts : (p : List ℕ) → p ≡ lent (from d to) (g (from s at)) → Puts most (of_rest g) s at d to (take to d ++ (p ++ drop (length d - to) (drop to d))) (To (length s) (to + n))
+      pub rest_puts : (p : List ℕ) → p ≡ lent (from d to) (g (from s at)) → Puts most (of_rest g) s at d to (take to d ++ (p ++ drop (length d - to) (drop to d))) (reached (length s) (to + n))
       unfolding rest
       rest_puts p j =
           let a = answered (from d to) (g (from s at)) r e n f in

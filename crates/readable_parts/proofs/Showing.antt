@@ -11,13 +11,11 @@ use Rattle.text.specs.Test.{whether◌then◌else◌}
 use Rattle.text.specs.String.{Str, joined}
 use Rattle.text.specs.Frame.{got, unread, Reader, ◌>>=◌, ret, part, string}
 use Rattle.text.specs.Steps.{Wrote, end_of}
-use Rattle.text.specs.declared.frame.End.{End}
-use Rattle.text.specs.declared.frame.End.TheVariants as ends
+use Rattle.std.specs.Prelude.{Option, Some, None}
 use Rattle.text.proofs.Frames.{byte_got, byte_unread, string_ends, string_misses}
 use Rattle.text.proofs.Filling.{Pending, fill_start, fill_room, fill_put, fill_set, fill_byte, wrote, wrote_byte}
 use Rattle.path_read.specs.Text.{escaped}
-use Rattle.path_read.specs.declared.reader.Stored.{Stored}
-use Rattle.path_read.specs.declared.reader.Stored.TheVariants.{To, Unread}
+use Rattle.path_read.specs.Steps.{MaybeStored, reached}
 use Rattle.path_read.proofs.Longest.{value_length}
 use Rattle.table.specs.Frame.{unknown}
 use Rattle.readable_parts.specs.Parts.{Parts, part_of, quoted, hex_text, shown_string, shown_time, shown_code, shown_plain}
@@ -56,18 +54,18 @@ module _ (p : Parts) (c : ℕ) where
   is_plain_lem s t q a m k =
       (rw (ne_eqb c 83 s, ne_eqb c 84 t, ne_eqb c 80 q, ne_eqb c 65 a, ne_eqb c 77 m, ne_eqb c 75 k), rw (ne_eqb c 83 s, ne_eqb c 84 t, ne_eqb c 80 q, ne_eqb c 65 a, ne_eqb c 77 m, ne_eqb c 75 k))
 
-  pub put_as : {r : Reader Str} {m : ℕ} {s : Str} {at : ℕ} {d : List ℕ} {to : ℕ} {d' : List ℕ} {q : Stored} → (part_of p c ≡ r) × (longest c ≡ m)
+  pub put_as : {r : Reader Str} {m : ℕ} {s : Str} {at : ℕ} {d : List ℕ} {to : ℕ} {d' : List ℕ} {q : MaybeStored} → (part_of p c ≡ r) × (longest c ≡ m)
       → Puts m r s at d to d' q → Puts (longest c) (part_of p c) s at d to d' q
   put_as e h = rw (e.0, e.1) h
 
 -- ---- strings
 
-module _ (f : Str) (at : ℕ) (r : End) (e : r ≡ end_of (string f at)) where
-  pub string_unshown : r ≡ ends.Unread → shown_string f at ≡ unread
+module _ (f : Str) (at : ℕ) (r : Option ℕ) (e : r ≡ end_of (string f at)) where
+  pub string_unshown : r ≡ None → shown_string f at ≡ unread
   unfolding shown_string ◌>>=◌
   string_unshown g = rw (string_misses f at r e g)
 
-  module _ (t : ℕ) (g : r ≡ ends.At t) where
+  module _ (t : ℕ) (g : r ≡ Some t) where
     pub long_unshown : max_string < length (part f (at + 1) t) → shown_string f at ≡ unread
     unfolding shown_string ◌>>=◌ whether◌then◌else◌ unknown
     long_unshown h = rw ((string_ends f at r e t g).0, lt-leb _ _ h)
@@ -104,7 +102,7 @@ module _ (d : List ℕ) (to : ℕ) (s : Str) (h : to + max_quoted ≤ length d) 
     pub closed_long : length (set d' close 93) ≡ length d
     closed_long = closed.long
 
-    pub string_puts : (f : Str) (at t : ℕ) → shown_string f at ≡ got (quoted s) t → t ≤ length f → Puts max_quoted shown_string f at d to (set d' close 93) (To t (close + 1))
+    pub string_puts : (f : Str) (at t : ℕ) → shown_string f at ≡ got (quoted s) t → t ≤ length f → Puts max_quoted shown_string f at d to (set d' close 93) (reached t (close + 1))
     string_puts f at t e i = puts e (wrote d to (quoted s) _ _ closed) quoted_length i
 
 -- ---- the time
@@ -117,7 +115,7 @@ module _ (f : Str) (at : ℕ) where
   pub time_fits : (d : List ℕ) (to : ℕ) → to + 16 ≤ length d → length f - at ≡ 8 → to + length (hex_text (drop at f)) ≤ length d
   time_fits d to r h = omega (arith, hex_length (drop at f), length-drop at f)
 
-  pub time_puts : (d : List ℕ) (to : ℕ) (d' : List ℕ) (end : ℕ) → length f - at ≡ 8 → Wrote d to (hex_text (drop at f)) d' end → Puts 16 shown_time f at d to d' (To (length f) end)
+  pub time_puts : (d : List ℕ) (to : ℕ) (d' : List ℕ) (end : ℕ) → length f - at ≡ 8 → Wrote d to (hex_text (drop at f)) d' end → Puts 16 shown_time f at d to d' (reached (length f) end)
   unfolding shown_time whether◌then◌else◌
   time_puts d to d' end h w =
       let e : shown_time f at ≡ got (hex_text (drop at f)) (length f) = rw (eq-eqb _ _ h) in
@@ -145,6 +143,6 @@ module _ (n : ℕ) (a b f : Str) (at : ℕ) where
 
 -- ---- a byte that stands for itself
 
-pub plain_puts : (c : ℕ) (f : Str) (at : ℕ) (d : List ℕ) (to : ℕ) → to + 1 ≤ length d → at ≤ length f → Puts 1 (shown_plain c) f at d to (set d to c) (To at (to + 1))
+pub plain_puts : (c : ℕ) (f : Str) (at : ℕ) (d : List ℕ) (to : ℕ) → to + 1 ≤ length d → at ≤ length f → Puts 1 (shown_plain c) f at d to (set d to c) (reached at (to + 1))
 unfolding shown_plain ret
 plain_puts c f at d to h i = puts refl (wrote_byte d to c (omega arith)) (omega arith) i

@@ -10,24 +10,27 @@ use Rattle.text.specs.Frame.{got, unread, Reader}
 use Rattle.text.specs.Fill.{put}
 use Rattle.text.specs.Steps.{Wrote}
 use Rattle.path_read.specs.declared.reader.Stored.{Stored}
-use Rattle.path_read.specs.declared.reader.Stored.TheVariants.{To, Unread}
+use Rattle.std.specs.Prelude.{Some, None}
+use Rattle.std.proofs.lemmas.Option.{same_Some, none-some}
+use Rattle.path_read.specs.Steps.{MaybeStored}
 use Rattle.readable_parts.specs.Steps.{Puts, puts, stops}
 
 module _ {most : ℕ} {r : Reader Str} {s : Str} {at : ℕ} {d : List ℕ} {to : ℕ} {d' : List ℕ} where
-  pub put_to : {q : Stored} {next end : ℕ} → Puts most r s at d to d' q → q ≡ To next end
-      → (w : Str) × (r s at ≡ got w next) × Wrote d to w d' end × (length w ≤ most) × (next ≤ length s)
-  put_to {next = next} {end = end} (puts {w = w} {t = t} {end = e} i v b l) h =
-      let j : t ≡ next = cc in
-      let k : e ≡ end = cc in
+  pub put_to : {q : MaybeStored} {o : Stored} → Puts most r s at d to d' q → q ≡ Some o
+      → (w : Str) × (r s at ≡ got w o.next) × Wrote d to w d' o.end × (length w ≤ most) × (o.next ≤ length s)
+  put_to {o = o} (puts {w = w} {t = t} {end = e} i v b l) h =
+      let g : record { next = t; end = e } ≡ o = same_Some _ _ h in
+      let j : t ≡ o.next = ap (λ (u : Stored). u.next) g in
+      let k : e ≡ o.end = ap (λ (u : Stored). u.end) g in
       (w, i ∙ ap (got w) j, rw k at v, b, rw j at l)
-  put_to (stops i) h = let z : ◌≡◌ {A = ℕ} 0 1 = cc in absurd (omega arith)
+  put_to (stops i) h = absurd (none-some _ h)
 
-  pub put_not : {q : Stored} → Puts most r s at d to d' q → q ≡ Unread → r s at ≡ unread
-  put_not (puts i v b l) h = let z : ◌≡◌ {A = ℕ} 0 1 = cc in absurd (omega arith)
+  pub put_not : {q : MaybeStored} → Puts most r s at d to d' q → q ≡ None → r s at ≡ unread
+  put_not (puts i v b l) h = absurd (none-some _ (sym h))
   put_not (stops i) h = i
 
   -- the same of another reader that reads the same there, and of a greater bound
-  pub put_by : (r' : Reader Str) (more : ℕ) {q : Stored} → Puts most r s at d to d' q → r' s at ≡ r s at → most ≤ more → Puts more r' s at d to d' q
+  pub put_by : (r' : Reader Str) (more : ℕ) {q : MaybeStored} → Puts most r s at d to d' q → r' s at ≡ r s at → most ≤ more → Puts more r' s at d to d' q
   put_by r' more (puts i v b l) e h = puts (e ∙ i) v (omega arith) l
   put_by r' more (stops i) e h = stops (e ∙ i)
 

@@ -1,15 +1,16 @@
 // The path with which a frame or a line ends. `pack` says which: of path text its bytes are made, or of path bytes their text.
 ghost use Rattle.std.specs.Prelude.{◌+◌, ◌≤◌, length};
 ghost use Rattle.limits.specs.Sizes.{max_path_text};
+ghost use Rattle.path_read.specs.Calls.{filled_of};
 ghost use Rattle.path_read.specs.Steps.{Delivers};
 ghost use Rattle.readable_parts.specs.Parts.{of_rest};
 ghost use Rattle.readable_parts.specs.Steps.{Puts, path_for};
 
-use path_read::Filled;
 use path_read::reader::Stored;
+use refusal::Refusal;
 
-fn convert(pack: bool, s: &[u8], out: &mut [u8]) -> Filled
-    ensures { Delivers out.old (path_for pack s.now) out.new result }
+fn convert(pack: bool, s: &[u8], out: &mut [u8]) -> Result<usize, Refusal>
+    ensures { Delivers out.old (path_for pack s.now) out.new (filled_of result) }
 {
     if pack {
         return path_read::reader::read_text(s, out);
@@ -17,19 +18,18 @@ fn convert(pack: bool, s: &[u8], out: &mut [u8]) -> Filled
     path_write::write_text(s, out)
 }
 
-pub fn path(pack: bool, s: &[u8], at: usize, out: &mut [u8], to: usize) -> Stored
+pub fn path(pack: bool, s: &[u8], at: usize, out: &mut [u8], to: usize) -> Option<Stored>
     requires { to + max_path_text ≤ length out.old }
     ensures { Puts max_path_text (of_rest (path_for pack)) s.now at out.old to out.new result }
 {
     if s.len() <= at {
-        return Stored::Unread;
+        return None;
     }
-    let w = convert(pack, &s[at..], &mut out[to..]);
-    let Filled::Length(n) = w else {
-        return Stored::Unread;
+    let Ok(n) = convert(pack, &s[at..], &mut out[to..]) else {
+        return None;
     };
-    Stored::To {
+    Some(Stored {
         next: s.len(),
         end: to + n,
-    }
+    })
 }

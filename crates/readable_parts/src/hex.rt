@@ -16,13 +16,10 @@ pub fn write_hex(f: &[u8], out: &mut [u8], at: usize) -> usize
     ensures { Wrote out.old at (hex_text f.now) out.new result }
 {
     let mut p = at;
-    let mut i = 0;
-    while i < f.len() {
-        let b = f[i];
-        out[p] = hex_digit(b / 16);
-        out[p + 1] = hex_digit(b % 16);
+    for b in f {
+        out[p] = hex_digit(*b / 16);
+        out[p + 1] = hex_digit(*b % 16);
         p += 2;
-        i += 1;
     }
     p
 }

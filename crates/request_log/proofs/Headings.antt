@@ -8,7 +8,7 @@ use mathlib.Core.List.{List}
 use mathlib.Core.Option.{Option, none, some}
 use lib.Dec.{eqb, ltb}
 use lib.ListN.{length, get_or, length-take, length-drop}
-use Rattle.text.specs.Test.{◌and◌, ◌or◌, whether◌then◌else◌}
+use Rattle.text.specs.Test.{whether◌then◌else◌}
 use Rattle.text.specs.String.{Str}
 use Rattle.text.specs.Refusal.{◌when◌else◌, clear}
 use Rattle.text.specs.Frame.{Parsed, got, unread, and_then, ◌>>=◌, ret, byte, part, string}
@@ -25,9 +25,11 @@ use Rattle.table_place.proofs.Reading.{same_got, str_read, path_read}
 use Rattle.verdict.specs.Verdict.{Request}
 use Rattle.verdict_request.specs.Calls.{refusal_or, asked}
 use Rattle.request_log.specs.Request.{request_body, framed_request, framed_refusal, unrefused, good_request}
-use Rattle.request_log.specs.Heading.{Head, heading, head_refusal, headed}
+use Rattle.std.specs.Prelude.{Some, None}
+use Rattle.std.specs.Prelude.{Option as RustOption}
+use Rattle.refusal.specs.Refusal.{code}
+use Rattle.request_log.specs.Heading.{Head, heading, head_refusal, headed, At, Unread, told}
 use Rattle.request_log.specs.declared.Heading.{Heading}
-use Rattle.request_log.specs.declared.Heading.TheVariants.{At, Unread}
 
 -- ---- reading the heading, part by part
 
@@ -117,26 +119,26 @@ module _ (f : List ℕ) where
   heading_at h t e =
       by (ltb 0 (length f)) (λ u. from_heading (ltb-true _ _ u) h t e) (λ u. never_got (no_mode f (omega (arith, ltb-false 0 (length f) u))) e)
 
-  told : (x : Parsed Head) → heading f 0 ≡ x → (n o p : ℕ) → At n o p ≡ headed x → HeadAt f n o p
+  at_told : (x : Parsed Head) → heading f 0 ≡ x → (n o p : ℕ) → At n o p ≡ headed x → HeadAt f n o p
   unfolding headed
-  told (got h t) i n o p e =
+  at_told (got h t) i n o p e =
       let a : n ≡ head_refusal h = cc in
       let b : o ≡ 2 + length h.user = cc in
       let c : p ≡ t = cc in
       rw (a, b, c) (heading_at h t i)
-  told unread i n o p e = let z : ◌≡◌ {A = ℕ} 0 1 = cc in absurd (omega arith)
+  at_told unread i n o p e = let z : ◌≡◌ {A = ℕ} 0 1 = cc in absurd (omega arith)
 
   missed : (x : Parsed Head) → heading f 0 ≡ x → Unread ≡ headed x → heading f 0 ≡ unread
   unfolding headed
   missed (got h t) i e = let z : ◌≡◌ {A = ℕ} 0 1 = cc in absurd (omega arith)
   missed unread i e = i
 
-  module _ (r : Heading) (e : r ≡ headed (heading f 0)) where
-    pub head_told : (n o p : ℕ) → r ≡ At n o p → HeadAt f n o p
-    head_told n o p g = told (heading f 0) refl n o p (sym g ∙ e)
+  module _ (r : RustOption Heading) (e : told r ≡ headed (heading f 0)) where
+    pub head_told : (h : Heading) → r ≡ Some h → HeadAt f (code h.refusal) h.origin h.path
+    head_told h g = at_told (heading f 0) refl _ _ _ (sym (ap told g) ∙ e)
 
-    pub head_missed : r ≡ Unread → heading f 0 ≡ unread
-    head_missed g = missed (heading f 0) refl (sym g ∙ e)
+    pub head_missed : r ≡ None → heading f 0 ≡ unread
+    head_missed g = missed (heading f 0) refl (sym (ap told g) ∙ e)
 
 pub head_mode : (f : List ℕ) (h : Head) (t : ℕ) → heading f 0 ≡ got h t → h.mode ≡ get_or f 0 0
 head_mode f h t e = ap (λ (x : Head). x.mode) (same_got f _ h (head_in f (2 + length h.user) t) t t e (heading_at f h t e).reads).0

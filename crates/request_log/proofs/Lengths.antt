@@ -1,5 +1,5 @@
 -- The bytes of a heading, and how long good requests can be.
-use Prim.Native.Nat.{ℕ, ◌+◌, ◌≤◌}
+use Prim.Native.Nat.{ℕ, ◌≤◌}
 use native.Mathlib.Omega.{arith}
 use borrow.Author.Tests.{eqb-true, ltb-false}
 use mathlib.Core.Path.{◌≡◌, refl, sym, ap, ◌∙◌}
@@ -11,7 +11,7 @@ use lib.ListN.{length, take, drop, length-drop, length-append}
 use lib.Seq.{take_at}
 use Rattle.limits.specs.Limits.{max_string, max_short_string}
 use Rattle.limits.specs.Sizes.{max_heading, max_log_frame}
-use Rattle.text.specs.Test.{◌and◌, ◌or◌, whether◌then◌else◌}
+use Rattle.text.specs.Test.{◌or◌, whether◌then◌else◌}
 use Rattle.text.specs.String.{Str}
 use Rattle.text.specs.Refusal.{◌when◌else◌, clear}
 use Rattle.text.specs.Frame.{Parsed, got, unread, ◌>>=◌, ret, byte, string, string_bytes}

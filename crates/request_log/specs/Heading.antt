@@ -1,11 +1,11 @@
 -- A request in two parts: its heading, which is all before its path, and the path. Programs read them apart, since many lines of a log have one heading.
-use Rattle.std.specs.Prelude.{ℕ, ◌+◌, ◌∷◌, ◌++◌, length}
+use Rattle.std.specs.Prelude.{ℕ, ◌+◌, ◌∷◌, ◌++◌, length, Option, Some, None}
 use Rattle.text.specs.String.{Str}
 use Rattle.text.specs.Refusal.{clear}
 use Rattle.text.specs.Frame.{Parsed, got, unread, Reader, ◌>>=◌, ret, byte, string, string_bytes}
 use Rattle.verdict_request.specs.Calls.{refusal_or}
+use Rattle.refusal.specs.Refusal.{code}
 use Rattle.request_log.specs.declared.Heading.{Heading}
-use Rattle.request_log.specs.declared.Heading.TheVariants.{At, Unread}
 
 pub record Head : Type 0 where
   pub mode : ℕ
@@ -29,6 +29,15 @@ unfoldable pub head_refusal : Head → ℕ
 head_refusal h = refusal_or clear h.user h.mode h.origin
 
 -- the answer: its number, where the origin stands, and where the path
-unfoldable pub headed : Parsed Head → Heading
+pub data Told : Type 0 where
+  At : (number origin path : ℕ) → Told
+  Unread : Told
+
+unfoldable pub headed : Parsed Head → Told
 headed (got h t) = At (head_refusal h) (2 + length h.user) t
 headed unread = Unread
+
+-- as the programs have it
+abbrev pub told : Option Heading → Told
+told (Some h) = At (code h.refusal) h.origin h.path
+told None = Unread

@@ -2,42 +2,31 @@
 
 // The request of a log line, in the bytes of its frame: its heading (mode, user, origin); `path_frame` reads the path after it.
 ghost use Rattle.std.specs.Prelude.{◌≡◌};
-ghost use Rattle.request_log.specs.Heading.{heading, headed};
+ghost use Rattle.request_log.specs.Heading.{heading, headed, told};
 
-use text::frame::End;
+use refusal::Refusal;
 
 #[derive(Clone, Copy)]
-pub enum Heading {
-    // 20 or 21, or `limits::CLEAR` where neither holds; where the origin stands, and where the path.
-    At {
-        number: u8,
-        origin: usize,
-        path: usize,
-    },
-    // The frame is too short.
-    Unread,
+pub struct Heading {
+    // 20 or 21.
+    pub refusal: Result<(), Refusal>,
+    // Where the origin stands, and where the path.
+    pub origin: usize,
+    pub path: usize,
 }
 
-// Reads mode, user and origin.
-pub fn read_heading(f: &[u8]) -> Heading
-    ensures { result ≡ headed (heading f.now 0) }
+// Reads mode, user and origin. None: the frame is too short.
+pub fn read_heading(f: &[u8]) -> Option<Heading>
+    ensures { told result ≡ headed (heading f.now 0) }
 {
-    if f.len() == 0 {
-        return Heading::Unread;
-    }
-    let u = text::frame::string_end(f, 1);
-    let End::At(origin) = u else {
-        return Heading::Unread;
-    };
-    let o = text::frame::string_end(f, origin);
-    let End::At(path) = o else {
-        return Heading::Unread;
-    };
-    let start = origin + 1;
-    let number = verdict_request::request::number(&f[2..origin], f[0] as u32, &f[start..path]);
-    Heading::At {
-        number: number,
-        origin: origin,
-        path: path,
-    }
+    let mode = *f.first()?;
+    let origin = text::frame::string_end(f, 1)?;
+    let path = text::frame::string_end(f, origin)?;
+    let user = &f[2..origin];
+    let refusal = verdict_request::request::check(user, mode as u32, &f[origin + 1..path]);
+    Some(Heading {
+        refusal,
+        origin,
+        path,
+    })
 }

@@ -1,5 +1,5 @@
 -- Start, upload, finalize and close: what each answers, and what it leaves of record and store.
-use Rattle.std.specs.Prelude.{ℕ, Bool, not, eqb, length}
+use Rattle.std.specs.Prelude.{ℕ, Bool, not, eqb, length, Result, Ok, Err}
 use Rattle.text.specs.String.{Str}
 use Rattle.text.specs.Fill.{put}
 use Rattle.text.specs.Refusal.{◌when◌else◌, clear}
@@ -8,7 +8,8 @@ use Rattle.table.specs.declared.Checked.{Checked}
 use Rattle.table.specs.declared.Checked.TheVariants.{Accepted, Refused}
 use Rattle.rotation.specs.State.{no_length, given, off, on, record_refusal, slot_start, candidate_slot, at_rest}
 use Rattle.rotation.specs.declared.Record.{Record}
-use Rattle.rotation.specs.declared.Stepped.{Stepped}
+use Rattle.refusal.specs.Refusal.{number}
+use Rattle.refusal.specs.declared.fault.Fault.{Fault}
 
 -- ---- the refusals of each call; n is the store's length
 
@@ -53,6 +54,16 @@ unfoldable pub closed : Record → Record
 closed r = at_rest r r.live_slot r.live_len
 
 -- ---- the calls
+
+-- what a call makes of a record, and what it answers
+pub record Stepped : Type 0 where
+  pub next : Record
+  pub answer : Checked
+
+-- as the programs have it: the next record, or the fault, which leaves the record r
+unfoldable pub step_of : Record → Result Record Fault → Stepped
+step_of r (Ok next) = record { next = next; answer = Accepted }
+step_of r (Err f) = record { next = r; answer = Refused (number f.refusal) f.line }
 
 -- what a call on the record r answers and leaves: `next` where it is accepted, and r where it is refused
 unfoldable pub stepped : Checked → Record → Record → Stepped

@@ -7,11 +7,9 @@ use Rattle.text.specs.Refusal.{◌when◌else◌, clear}
 use Rattle.table.specs.Text.{unless, is_accepted}
 use Rattle.table.specs.declared.Checked.{Checked}
 use Rattle.table.specs.declared.Checked.TheVariants.{Accepted}
-use Rattle.rotation.specs.State.{given, on, short_store, bad_record, candidate_slot, text_in}
+use Rattle.rotation.specs.State.{given, on, short_store, bad_record, candidate_slot, text_in, InForce, Text, Factory}
 use Rattle.rotation.specs.Calls.{start, upload, upload_store, finalize, close}
 use Rattle.rotation.specs.declared.Record.{Record}
-use Rattle.rotation.specs.declared.InForce.{InForce}
-use Rattle.rotation.specs.declared.InForce.TheVariants.{Text, Factory}
 
 pub data Call : Type 0 where
   Start : Call

@@ -1,13 +1,14 @@
 -- What a record and a store say. "The record has a kind (1 policy, 2 table), the live slot and its length or none, whether a rotation is on, and
 -- the candidate's length or none."
-use Rattle.std.specs.Prelude.{ℕ, ◌*◌, Bool, not, eqb, ltb, take, drop}
+use Rattle.std.specs.Prelude.{ℕ, ◌*◌, Bool, not, eqb, ltb, take, drop, Option, Some, None}
 use Rattle.limits.specs.Limits.{slot_length, store_length}
 use Rattle.text.specs.Test.{◌and◌, ◌or◌, whether◌then◌else◌}
 use Rattle.text.specs.String.{Str}
 use Rattle.text.specs.Refusal.{◌when◌else◌}
+use Rattle.rotation.specs.declared.Kind.{Kind}
+use Rattle.rotation.specs.declared.Kind.TheVariants.{Policy, Table}
 use Rattle.rotation.specs.declared.Record.{Record}
-use Rattle.rotation.specs.declared.InForce.{InForce}
-use Rattle.rotation.specs.declared.InForce.TheVariants.{Text, Factory}
+use Rattle.rotation.specs.declared.SlotText.{SlotText}
 
 -- the number that stands for no length
 abbrev pub no_length : ℕ
@@ -16,6 +17,18 @@ no_length = 4294967295
 -- there is a length; 0 is one
 unfoldable pub given : ℕ → Bool
 given len = not (eqb len no_length)
+
+-- a length as the programs have it
+unfoldable pub length_of : ℕ → Option ℕ
+length_of len = whether given len then Some len else None
+
+-- a kind as the programs have it, and its number
+abbrev pub kind_number : Kind → ℕ
+kind_number Policy = 1
+kind_number Table = 2
+
+unfoldable pub kind_of : ℕ → Option Kind
+kind_of n = whether eqb n 1 then Some Policy else whether eqb n 2 then Some Table else None
 
 -- no rotation is on
 unfoldable pub off : Record → Bool
@@ -61,6 +74,16 @@ candidate_slot r = whether given r.live_len and eqb r.live_slot 0 then 1 else 0
 -- the text of that length at the start of a slot
 unfoldable pub text_in : Str → ℕ → ℕ → Str
 text_in store slot len = take len (drop (slot_start slot) store)
+
+-- what a probe judges by: the text of that length in that slot, or no text
+pub data InForce : Type 0 where
+  Text : ℕ → ℕ → InForce
+  Factory : InForce
+
+-- as the programs have it
+abbrev pub force_of : Option SlotText → InForce
+force_of (Some t) = Text t.slot t.len
+force_of None = Factory
 
 -- "what is in force: the candidate, else the live text, else factory"
 unfoldable pub in_force : Record → InForce

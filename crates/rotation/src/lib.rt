@@ -1,18 +1,25 @@
 #![tactic(auto)]
 
 // The rotation record.
-pub mod state;
+mod state;
 
-use table::Checked;
+pub use state::slot_start;
 
-// Stands for no length.
-pub const NO_LENGTH: u32 = 4294967295;
+// What a record's texts are.
+#[derive(Clone, Copy)]
+pub enum Kind {
+    Policy,
+    Table,
+}
+
+// Stands for no length in C's layout of a record; `Record::live` and `Record::candidate` read it as an `Option`.
+pub const NO_LENGTH: u32 = u32::MAX;
 
 // As the host lends it: five numbers in C's layout.
 #[repr(C)]
 #[derive(Clone, Copy)]
 pub struct Record {
-    // 1 policy, 2 table.
+    // 1 policy, 2 table: `Record::kind_of` reads it as a `Kind`.
     pub kind: u32,
     // 0 or 1; it counts only where there is a live text.
     pub live_slot: u32,
@@ -24,16 +31,9 @@ pub struct Record {
     pub candidate_len: u32,
 }
 
-// What a call makes of a record, and what it answers.
+// The text of a slot.
 #[derive(Clone, Copy)]
-pub struct Stepped {
-    pub next: Record,
-    pub answer: Checked,
-}
-
-// What a probe judges by: the text of a slot, or no text.
-#[derive(Clone, Copy)]
-pub enum InForce {
-    Text { slot: u32, len: u32 },
-    Factory,
+pub struct SlotText {
+    pub slot: u32,
+    pub len: u32,
 }

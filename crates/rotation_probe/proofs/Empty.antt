@@ -17,8 +17,7 @@ use Rattle.verdict.specs.Orderly.{Orderly}
 use Rattle.table_rows.specs.Rules.{rules_in}
 use Rattle.table.specs.declared.Checked.TheVariants.{Accepted}
 use Rattle.verdict_request.specs.Calls.{path_answer, tree_answer}
-use Rattle.verdict_request.specs.Either.{one_of}
-use Rattle.verdict_concern.specs.Concern.{Safe}
+use Rattle.verdict_judge.specs.Rules.{Safe}
 use Rattle.table_membership.specs.Set.{UserGroups}
 use Rattle.verdict_call.specs.Holding.{Holding}
 
@@ -33,9 +32,11 @@ no_tree : (q : Request) → tree empty q ≡ NONE
 unfolding tree permits action answer word decider choose
 no_tree q = refl
 
-pub factory_is : (whole : Bool) (number : ℕ) (q : Request)
-    → one_of whole (path_answer Accepted number (decider empty q)) (tree_answer Accepted number (tree empty q)) ≡ one_of whole (path_answer Accepted number none) (tree_answer Accepted number NONE)
-factory_is whole number q = rw (no_decider q, no_tree q)
+pub path_is : (number : ℕ) (q : Request) → path_answer Accepted number (decider empty q) ≡ path_answer Accepted number none
+path_is number q = rw (no_decider q)
+
+pub tree_is : (number : ℕ) (q : Request) → tree_answer Accepted number (tree empty q) ≡ tree_answer Accepted number NONE
+tree_is number q = rw (no_tree q)
 
 orderly : Orderly empty
 unfolding twice

@@ -1,4 +1,4 @@
+pub mod Answer
 pub mod Probe
 pub mod Rpc
 pub mod Source
-pub mod Either

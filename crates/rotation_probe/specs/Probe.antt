@@ -7,15 +7,13 @@ use Rattle.text.specs.Refusal.{clear}
 use Rattle.table.specs.declared.Checked.TheVariants.{Accepted}
 use Rattle.verdict.specs.Verdict.{NONE}
 use Rattle.verdict_request.specs.Calls.{request_refusal, path_answer, path_verdict, tree_answer, tree_verdict}
-use Rattle.verdict_request.specs.declared.PathAnswer.{PathAnswer}
-use Rattle.verdict_request.specs.declared.PathAnswer.TheVariants as path
-use Rattle.verdict_request.specs.declared.TreeAnswer.{TreeAnswer}
-use Rattle.verdict_request.specs.declared.TreeAnswer.TheVariants as trees
-use Rattle.rotation.specs.State.{text_in, in_force}
+use Rattle.verdict_request.specs.PathAnswer.{PathAnswer}
+use Rattle.verdict_request.specs.PathAnswer as path
+use Rattle.verdict_request.specs.TreeAnswer.{TreeAnswer}
+use Rattle.verdict_request.specs.TreeAnswer as trees
+use Rattle.rotation.specs.State.{text_in, in_force, InForce, Text, Factory}
 use Rattle.rotation.specs.Calls.{probe_refusal}
 use Rattle.rotation.specs.declared.Record.{Record}
-use Rattle.rotation.specs.declared.InForce.{InForce}
-use Rattle.rotation.specs.declared.InForce.TheVariants.{Text, Factory}
 
 -- "11, then 15, then .. 16, then the text .. in force (probe), then the request": the record's refusal, or what is judged of what is in force; the probe is
 -- for records of that kind, and the store has n bytes

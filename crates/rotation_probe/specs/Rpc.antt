@@ -5,14 +5,12 @@ use Rattle.text.specs.String.{Str}
 use Rattle.text.specs.Refusal.{clear}
 use Rattle.rpc.specs.Request.{rpc_refusal}
 use Rattle.rpc.specs.Call.{rpc_verdict}
-use Rattle.rpc.specs.declared.verdict.Verdict.TheVariants.{Refused}
-use Rattle.rotation.specs.State.{text_in}
+use Rattle.rpc.specs.Answer.{Refused}
+use Rattle.rotation.specs.State.{text_in, InForce, Text, Factory}
 use Rattle.rotation.specs.declared.Record.{Record}
-use Rattle.rotation.specs.declared.InForce.{InForce}
-use Rattle.rotation.specs.declared.InForce.TheVariants.{Text, Factory}
 use Rattle.rotation_probe.specs.Probe.{probed}
-use Rattle.rotation_probe.specs.declared.rpcs.RpcAnswer.{RpcAnswer}
-use Rattle.rotation_probe.specs.declared.rpcs.RpcAnswer.TheVariants.{PermitAll, Judged}
+use Rattle.rotation_probe.specs.Answer.{RpcAnswer}
+use Rattle.rotation_probe.specs.Answer.{PermitAll, Judged}
 
 abbrev pub rpc_refused : ℕ → RpcAnswer
 rpc_refused number = Judged (Refused number)

@@ -1,32 +1,29 @@
 // Where the text in force lies, once record and store are judged.
 ghost use Rattle.std.specs.Prelude.{◌≡◌};
-ghost use Rattle.rotation_probe.specs.Source.{source_of};
+ghost use Rattle.rotation.specs.State.{kind_number};
+ghost use Rattle.rotation_probe.specs.Source.{source_of, source_as};
 
-use rotation::{InForce, Record};
+use refusal::Refusal;
+use rotation::{Kind, Record};
 
-// The record's refusal; no text; or the part of the store that holds the text in force.
+// A part of the store.
 #[derive(Clone, Copy)]
-pub enum Source {
-    Refused(u8),
-    Factory,
-    Part { start: usize, end: usize },
+pub struct Part {
+    pub start: usize,
+    pub end: usize,
 }
 
-// For a probe of records of that kind, and a store of n bytes.
-pub fn find_source(r: Record, n: usize, kind: u32) -> Source
-    ensures { result ≡ source_of kind r n }
+// The part that holds the text in force, if there is one. For a probe of records of that kind, and a store of n bytes.
+pub fn find_source(r: Record, n: usize, kind: Kind) -> Result<Option<Part>, Refusal>
+    ensures { source_as result ≡ source_of (kind_number kind) r n }
 {
-    let number = rotation::state::probe_refusal(r, n, kind);
-    if number != limits::CLEAR {
-        return Source::Refused(number);
-    }
-    let force = rotation::state::in_force(r);
-    let InForce::Text { slot, len } = force else {
-        return Source::Factory;
+    r.check_kind(n, kind)?;
+    let Some(text) = r.in_force() else {
+        return Ok(None);
     };
-    let start = rotation::state::slot_start(slot);
-    Source::Part {
-        start: start,
-        end: start + len as usize,
-    }
+    let start = rotation::slot_start(text.slot);
+    Ok(Some(Part {
+        start,
+        end: start + text.len as usize,
+    }))
 }

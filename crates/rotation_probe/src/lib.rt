@@ -4,60 +4,56 @@
 pub mod force;
 pub mod rpcs;
 
-ghost use Rattle.std.specs.Prelude.{◌≡◌, ◌≤◌, length};
-ghost use Rattle.text.specs.Frame.{part};
+ghost use Rattle.std.specs.Prelude.{◌≡◌};
+ghost use Rattle.std.proofs.Math.Option.{none};
+ghost use Rattle.table.specs.declared.Checked.TheVariants.{Accepted};
+ghost use Rattle.verdict.specs.Verdict.{NONE};
+ghost use Rattle.verdict_request.specs.Calls.{request_refusal, path_answer, tree_answer};
+ghost use Rattle.verdict_request.specs.Answers.{path_answer_of, tree_answer_of};
 ghost use Rattle.rotation_probe.specs.Probe.{probe_path, probe_tree};
-ghost use Rattle.rotation_probe.specs.Either.{factory_answer, text_answer, probe_answer};
 
-use crate::force::Source;
-use rotation::Record;
-use verdict_request::{PathAnswer, TreeAnswer, Verdict};
+use refusal::Fault;
+use rotation::{Kind, Record};
+use verdict_concern::Asker;
+use verdict_judge::rules::Rules;
+use verdict_request::{PathAnswer, TreeAnswer};
 
 // Kind 2 without a text: as a table without rules, which denies all.
-fn factory(user: &[u8], mode: u32, origin: &[u8], path: &[u8], whole: bool) -> Verdict
-    ensures { result ≡ factory_answer whole user.now mode origin.now path.now }
+fn factory_path(user: &[u8], mode: u32, origin: &[u8], path: &[u8]) -> Result<PathAnswer, Fault>
+    ensures { path_answer_of result ≡ path_answer Accepted (request_refusal user.now mode origin.now path.now) none }
 {
-    let f = [0u8; 1];
-    let starts = [0u16; 1];
-    let holders = [0u8; 1];
-    verdict_call::loaded::call(&f, &starts, &holders, 0, 0, user, mode, origin, path, whole)
+    let rules = Rules {
+        bytes: &[0],
+        starts: &[0],
+        holders: &[0],
+        count: 0,
+    };
+    let asker = Asker {
+        user,
+        set: 0,
+        mode,
+        origin,
+    };
+    verdict_call::loaded::path_answer(rules, asker, path)
 }
 
-// By the table text that stands in the store from `start` to `end`.
-fn judge(
-    store: &[u8],
-    start: usize,
-    end: usize,
-    user: &[u8],
-    mode: u32,
-    origin: &[u8],
-    path: &[u8],
-    whole: bool,
-) -> Verdict
-    requires { (start ≤ end) × (end ≤ length store.now) }
-    ensures { result ≡ text_answer whole (part store.now start end) user.now mode origin.now path.now }
+// Kind 2 without a text: as a table without rules, which denies all.
+fn factory_tree(user: &[u8], mode: u32, origin: &[u8], path: &[u8]) -> Result<TreeAnswer, Fault>
+    ensures { tree_answer_of result ≡ tree_answer Accepted (request_refusal user.now mode origin.now path.now) NONE }
 {
-    verdict_call::verdict(&store[start..end], user, mode, origin, path, whole)
-}
-
-// Either probe: the path probe, or the tree probe where `whole`.
-fn probe(
-    r: Record,
-    store: &[u8],
-    user: &[u8],
-    mode: u32,
-    origin: &[u8],
-    path: &[u8],
-    whole: bool,
-) -> Verdict
-    ensures { result ≡ probe_answer whole r store.now user.now mode origin.now path.now }
-{
-    let s = crate::force::find_source(r, store.len(), 2);
-    match s {
-        Source::Refused(number) => verdict_request::answer::refused(number, 0, whole),
-        Source::Factory => factory(user, mode, origin, path, whole),
-        Source::Part { start, end } => judge(store, start, end, user, mode, origin, path, whole),
-    }
+    let rules = Rules {
+        bytes: &[0],
+        starts: &[0],
+        holders: &[0],
+        count: 0,
+    };
+    let asker = Asker {
+        user,
+        set: 0,
+        mode,
+        origin,
+    };
+    verdict_call::loaded::tree_answer(rules, asker, path)
 }
 
 // The action for one path.
@@ -68,10 +64,20 @@ pub fn probe_path(
     mode: u32,
     origin: &[u8],
     path: &[u8],
-) -> PathAnswer
-    ensures { result ≡ probe_path r store.now user.now mode origin.now path.now }
+) -> Result<PathAnswer, Fault>
+    ensures { path_answer_of result ≡ probe_path r store.now user.now mode origin.now path.now }
 {
-    verdict_request::answer::path_of(probe(r, store, user, mode, origin, path, false))
+    match crate::force::find_source(r, store.len(), Kind::Table) {
+        Err(refusal) => Err(Fault::at(refusal, 0)),
+        Ok(None) => factory_path(user, mode, origin, path),
+        Ok(Some(part)) => verdict_call::path_verdict(
+            &store[part.start..part.end],
+            user,
+            mode,
+            origin,
+            path,
+        ),
+    }
 }
 
 // ALL, NONE or MIXED for the paths at or beneath.
@@ -82,8 +88,18 @@ pub fn probe_tree(
     mode: u32,
     origin: &[u8],
     path: &[u8],
-) -> TreeAnswer
-    ensures { result ≡ probe_tree r store.now user.now mode origin.now path.now }
+) -> Result<TreeAnswer, Fault>
+    ensures { tree_answer_of result ≡ probe_tree r store.now user.now mode origin.now path.now }
 {
-    verdict_request::answer::tree_of(probe(r, store, user, mode, origin, path, true))
+    match crate::force::find_source(r, store.len(), Kind::Table) {
+        Err(refusal) => Err(Fault::at(refusal, 0)),
+        Ok(None) => factory_tree(user, mode, origin, path),
+        Ok(Some(part)) => verdict_call::tree_verdict(
+            &store[part.start..part.end],
+            user,
+            mode,
+            origin,
+            path,
+        ),
+    }
 }

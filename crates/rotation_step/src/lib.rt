@@ -1,116 +1,54 @@
 #![tactic(auto)]
 
-// Start, finalize and close as steps by value, on a record and a store of n bytes; and what an upload makes of a record.
+// Start, finalize and close as steps by value, on a record and a store of n bytes: the next record, or the fault, which leaves the record as it is.
 ghost use Rattle.std.specs.Prelude.{◌≡◌};
-ghost use Rattle.table.specs.Text.{unless};
-ghost use Rattle.table.specs.declared.Checked.TheVariants.{Accepted};
-ghost use Rattle.rotation.specs.Calls.{stepped, start_refusal, off_refusal, finalize_refusal, uploaded, start, finalize, close};
+ghost use Rattle.refusal.specs.Refusal.{code};
+ghost use Rattle.rotation.specs.Calls.{step_of, off_refusal, start, finalize, close};
 
-use rotation::{Record, Stepped};
-use table::Checked;
+use refusal::{Fault, Refusal};
+use rotation::Record;
 
-// The step that a call takes: to `next` where it is accepted; a refusal keeps the record r.
-pub fn settle(c: Checked, r: Record, next: Record) -> Stepped
-    ensures { result ≡ stepped c r next }
+// Of upload, finalize and close: 11, 15 or 13.
+pub fn check_on(r: Record, n: usize) -> Result<(), Refusal>
+    ensures { code result ≡ off_refusal r n }
 {
-    match c {
-        Checked::Accepted => Stepped {
-            next: next,
-            answer: Checked::Accepted,
-        },
-        Checked::Refused { number, line } => Stepped {
-            next: r,
-            answer: Checked::Refused {
-                number: number,
-                line: line,
-            },
-        },
+    r.check(n)?;
+    if !r.is_on() {
+        return Err(Refusal::RotationOff);
     }
+    Ok(())
 }
 
-// A refusal number as an answer.
-fn checked(number: u8) -> Checked
-    ensures { result ≡ unless number 0 Accepted }
+// A rotation begins; 11, 15 or 12.
+pub fn start(r: Record, n: usize) -> Result<Record, Fault>
+    ensures { step_of r result ≡ start r n }
 {
-    if number == limits::CLEAR {
-        return Checked::Accepted;
+    r.check(n)?;
+    if r.is_on() {
+        return Err(Fault::from(Refusal::RotationOn));
     }
-    Checked::Refused {
-        number: number,
-        line: 0,
-    }
-}
-
-// 11, 15 or 12; `CLEAR` for none.
-fn start_refusal(r: Record, n: usize) -> u8
-    ensures { result ≡ start_refusal r n }
-{
-    if r.rotating == 0 {
-        return rotation::state::refusal(r, n, limits::CLEAR);
-    }
-    rotation::state::refusal(r, n, 12)
-}
-
-// Of upload and close: 11, 15 or 13.
-pub fn off_refusal(r: Record, n: usize) -> u8
-    ensures { result ≡ off_refusal r n }
-{
-    if r.rotating == 0 {
-        return rotation::state::refusal(r, n, 13);
-    }
-    rotation::state::refusal(r, n, limits::CLEAR)
-}
-
-// 11, 15, 13 or 14.
-fn finalize_refusal(r: Record, n: usize) -> u8
-    ensures { result ≡ finalize_refusal r n }
-{
-    if r.rotating == 0 {
-        return rotation::state::refusal(r, n, 13);
-    }
-    if r.candidate_len == rotation::NO_LENGTH {
-        return rotation::state::refusal(r, n, 14);
-    }
-    rotation::state::refusal(r, n, limits::CLEAR)
-}
-
-// The candidate gets its length.
-pub fn with_candidate(r: Record, len: u32) -> Record
-    ensures { result ≡ uploaded r len }
-{
-    Record {
-        kind: r.kind,
-        live_slot: r.live_slot,
-        live_len: r.live_len,
-        rotating: r.rotating,
-        candidate_len: len,
-    }
-}
-
-pub fn start(r: Record, n: usize) -> Stepped
-    ensures { result ≡ start r n }
-{
-    let next = Record {
-        kind: r.kind,
-        live_slot: r.live_slot,
-        live_len: r.live_len,
+    Ok(Record {
         rotating: 1,
         candidate_len: rotation::NO_LENGTH,
+        ..r
+    })
+}
+
+// The candidate becomes the live text; 11, 15, 13 or 14.
+pub fn finalize(r: Record, n: usize) -> Result<Record, Fault>
+    ensures { step_of r result ≡ finalize r n }
+{
+    check_on(r, n)?;
+    let Some(len) = r.candidate() else {
+        return Err(Fault::from(Refusal::NoCandidate));
     };
-    settle(checked(start_refusal(r, n)), r, next)
+    Ok(r.at_rest(r.candidate_slot(), len))
 }
 
-pub fn finalize(r: Record, n: usize) -> Stepped
-    ensures { result ≡ finalize r n }
+// The candidate is dropped; 11, 15 or 13.
+pub fn close(r: Record, n: usize) -> Result<Record, Fault>
+    ensures { step_of r result ≡ close r n }
 {
-    let slot = rotation::state::candidate_slot(r);
-    let next = rotation::state::at_rest(r, slot, r.candidate_len);
-    settle(checked(finalize_refusal(r, n)), r, next)
-}
-
-pub fn close(r: Record, n: usize) -> Stepped
-    ensures { result ≡ close r n }
-{
-    let next = rotation::state::at_rest(r, r.live_slot, r.live_len);
-    settle(checked(off_refusal(r, n)), r, next)
+    check_on(r, n)?;
+    Ok(r.at_rest(r.live_slot, r.live_len))
 }

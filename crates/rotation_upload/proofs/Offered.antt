@@ -1,5 +1,8 @@
 -- An accepted text fits its slot; what an upload answers, leaves of the record and stores.
-use mathlib.Core.Path.{◌≡◌, ap, ◌∙◌}
+use mathlib.Core.Path.{◌≡◌, refl, ap, ◌∙◌}
+use Rattle.refusal.specs.Refusal.{number}
+use Rattle.refusal.specs.declared.Refusal.{Refusal}
+use Rattle.refusal.proofs.Numbers.{never_clear}
 use Prim.Native.Nat.{ℕ, ◌+◌, ◌≤◌}
 use native.Mathlib.Omega.{arith}
 use borrow.Author.Tests.{eq-eqb, ne_eqb, eqb-true, ltb-false}
@@ -16,13 +19,19 @@ use Rattle.table.specs.declared.Checked.{Checked}
 use Rattle.table.specs.declared.Checked.TheVariants.{Accepted, Refused}
 use Rattle.policy.specs.Policy.{policy_refusal}
 use Rattle.policy_check.specs.Answer.{check_of}
-use Rattle.policy_check.specs.declared.check.Check.{Check}
 use Rattle.rotation.specs.State.{short_store, record_refusal, slot_start, candidate_slot}
-use Rattle.rotation.specs.Calls.{off_refusal, uploaded, stepped, upload_answer, upload, stored_by, upload_store}
+use Rattle.rotation.specs.Calls.{off_refusal, uploaded, Stepped, stepped, upload_answer, upload, stored_by, upload_store}
 use Rattle.rotation.specs.declared.Record.{Record}
-use Rattle.rotation.specs.declared.Stepped.{Stepped}
 use Rattle.rotation.proofs.Follows.{candidate_low}
 use Rattle.rotation_upload.specs.Offered.{of_policy, offered_check}
+
+pub accepted_is : Accepted ≡ of_policy (check_of clear)
+unfolding of_policy check_of whether◌then◌else◌
+accepted_is = refl
+
+pub refused_is : (r : Refusal) → Refused (number r) 0 ≡ of_policy (check_of (number r))
+unfolding of_policy check_of whether◌then◌else◌
+refused_is r = rw (ne_eqb (number r) clear (λ e. never_clear r e))
 
 pub never : {X : Type 0} (n l : ℕ) → Refused n l ≡ Accepted → X
 never n l e = let z : ◌≡◌ {A = ℕ} 0 1 = cc in absurd (omega arith)
@@ -49,9 +58,9 @@ offered_short kind text e =
 -- ---- the check
 
 module _ (kind : ℕ) (text : Str) (c : Checked) where
-  pub offered_policy : (p : Check) → kind ≡ 1 → p ≡ check_of (policy_refusal text) → c ≡ of_policy p → c ≡ offered_check kind text
+  pub offered_policy : (n : ℕ) → kind ≡ 1 → n ≡ policy_refusal text → c ≡ of_policy (check_of n) → c ≡ offered_check kind text
   unfolding offered_check whether◌then◌else◌
-  offered_policy p k e f = f ∙ rw (eq-eqb kind 1 k, e)
+  offered_policy n k e f = f ∙ rw (eq-eqb kind 1 k, e)
 
   pub offered_table : (kind ≡ 1 → ⊥) → c ≡ check text → c ≡ offered_check kind text
   unfolding offered_check whether◌then◌else◌
@@ -87,6 +96,15 @@ module _ (r : Record) (n : ℕ) (text : Str) where
 
   pub upload_room : (slot start : ℕ) → slot ≡ candidate_slot r → start ≡ slot_start slot → upload_answer offered_check r n text ≡ Accepted → start + slot_length ≤ n
   upload_room slot start e f a = let low : slot ≤ 1 = rw e (candidate_low r) in omega (arith, f, upload_long a)
+
+-- a step, by its answer
+pub step_refused : (r : Record) (c : Checked) (number line : ℕ) → c ≡ Refused number line → ◌≡◌ {A = Stepped} (record { next = r; answer = c }) (stepped c r r)
+unfolding stepped
+step_refused r c number line e = rw e
+
+pub step_accepted : (r next : Record) (c : Checked) → c ≡ Accepted → ◌≡◌ {A = Stepped} (record { next = next; answer = c }) (stepped c r next)
+unfolding stepped
+step_accepted r next c e = rw e
 
 -- what is left after a refusal, and after an accepted upload
 module _ (r : Record) (store text : Str) (c : Checked) (answered : c ≡ upload_answer offered_check r (length store) text) where

@@ -7,8 +7,10 @@ use Rattle.table.specs.declared.Checked.{Checked}
 use Rattle.table.specs.declared.Checked.TheVariants as checked
 use Rattle.policy.specs.Policy.{policy_refusal}
 use Rattle.policy_check.specs.Answer.{check_of}
-use Rattle.policy_check.specs.declared.check.Check.{Check}
-use Rattle.policy_check.specs.declared.check.Check.TheVariants as policy
+use Rattle.rotation.specs.Calls.{Stepped}
+use Rattle.rotation_upload.specs.declared.Uploaded.{Uploaded}
+use Rattle.policy_check.specs.Answer.{Check}
+use Rattle.policy_check.specs.Answer as policy
 
 -- a policy's refusal carries no line
 unfoldable pub of_policy : Check → Checked
@@ -18,3 +20,7 @@ of_policy (policy.Refused n) = checked.Refused n 0
 -- a text offered to a record of that kind
 unfoldable pub offered_check : ℕ → Str → Checked
 offered_check kind text = whether eqb kind 1 then of_policy (check_of (policy_refusal text)) else check text
+
+-- an upload's answer as the programs have it
+abbrev pub as_step : Uploaded → Stepped
+as_step u = record { next = u.next; answer = u.answer }

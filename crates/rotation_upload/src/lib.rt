@@ -5,20 +5,30 @@ ghost use Rattle.std.specs.Prelude.{◌≡◌, ◌+◌, ◌≤◌, length};
 ghost use Rattle.limits.specs.Limits.{slot_length};
 ghost use Rattle.text.specs.Fill.{put};
 ghost use Rattle.rotation.specs.Calls.{upload_answer, upload, upload_store};
-ghost use Rattle.rotation_upload.specs.Offered.{of_policy, offered_check};
+ghost use Rattle.refusal.specs.Refusal.{code};
+ghost use Rattle.policy_check.specs.Answer.{check_of};
+ghost use Rattle.rotation_upload.specs.Offered.{of_policy, offered_check, as_step};
 
-use policy_check::check::Check;
-use rotation::{Record, Stepped};
+use refusal::Refusal;
+use rotation::Record;
 use table::Checked;
 
+// What an upload makes of a record, and what it answers.
+#[derive(Clone, Copy)]
+pub struct Uploaded {
+    pub next: Record,
+    pub answer: Checked,
+}
+
 // A policy's refusal carries no line.
-fn of_policy(c: Check) -> Checked
-    ensures { result ≡ of_policy c }
+#[tactic(auto, using(crate::proofs::Offered::accepted_is, crate::proofs::Offered::refused_is))]
+fn of_policy(c: Result<(), Refusal>) -> Checked
+    ensures { result ≡ of_policy (check_of (code c)) }
 {
     match c {
-        Check::Accepted => Checked::Accepted,
-        Check::Refused(number) => Checked::Refused {
-            number: number,
+        Ok(()) => Checked::Accepted,
+        Err(refusal) => Checked::Refused {
+            number: refusal.number(),
             line: 0,
         },
     }
@@ -38,14 +48,13 @@ fn check_offered(kind: u32, text: &[u8]) -> Checked
 fn answer(r: Record, n: usize, text: &[u8]) -> Checked
     ensures { result ≡ upload_answer offered_check r n text.now }
 {
-    let number = rotation_step::off_refusal(r, n);
-    if number != limits::CLEAR {
-        return Checked::Refused {
-            number: number,
+    match rotation_step::check_on(r, n) {
+        Ok(()) => check_offered(r.kind, text),
+        Err(refusal) => Checked::Refused {
+            number: refusal.number(),
             line: 0,
-        };
+        },
     }
-    check_offered(r.kind, text)
 }
 
 // The text goes to the start of a slot.
@@ -57,18 +66,18 @@ fn store_at(start: usize, text: &[u8], store: &mut [u8])
 }
 
 // The whole text is checked, then stored to the slot that is not live.
-pub fn upload(r: Record, store: &mut [u8], text: &[u8]) -> Stepped
-    ensures { (result ≡ upload offered_check r (length store.old) text.now)
+pub fn upload(r: Record, store: &mut [u8], text: &[u8]) -> Uploaded
+    ensures { (as_step result ≡ upload offered_check r (length store.old) text.now)
         × (store.new ≡ upload_store offered_check r store.old text.now) }
 {
-    let n = store.len();
-    let c = answer(r, n, text);
-    let Checked::Accepted = c else {
-        return rotation_step::settle(c, r, r);
+    let answer = answer(r, store.len(), text);
+    let Checked::Accepted = answer else {
+        return Uploaded { next: r, answer };
     };
-    let slot = rotation::state::candidate_slot(r);
-    store_at(rotation::state::slot_start(slot), text, store);
-    let len = text.len();
-    let next = rotation_step::with_candidate(r, len as u32);
-    rotation_step::settle(c, r, next)
+    store_at(rotation::slot_start(r.candidate_slot()), text, store);
+    let next = Record {
+        candidate_len: text.len() as u32,
+        ..r
+    };
+    Uploaded { next, answer }
 }

@@ -9,7 +9,7 @@ use Rattle.text.proofs.Tests.{by, clash, and_r, all→}
 use Rattle.policy.specs.Policy.{Header, Rule, Policy}
 use Rattle.rpc.specs.Request.{Request}
 use Rattle.rpc.specs.Verdict.{header_matches, rule_matches, first_from, allowed, decided, verdict, permits}
-use Rattle.rpc.specs.declared.verdict.Verdict.TheVariants.{Denied, Permitted, Default}
+use Rattle.rpc.specs.Answer.{Denied, Permitted, Default}
 
 module _ {A : Type 0} (f : A → Bool) where
   found : (k : ℕ) (l : List A) → any f l ≡ true → (n : ℕ) × (first_from k f l ≡ some n)

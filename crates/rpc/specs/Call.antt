@@ -7,8 +7,8 @@ use Rattle.text.specs.Refusal.{clear}
 use Rattle.policy.specs.Policy.{Policy, policy_refusal, policy_of}
 use Rattle.rpc.specs.Request.{Request, headers_of, rpc_refusal}
 use Rattle.rpc.specs.Verdict.{verdict}
-use Rattle.rpc.specs.declared.verdict.Verdict.{Verdict}
-use Rattle.rpc.specs.declared.verdict.Verdict.TheVariants.{Refused, Default}
+use Rattle.rpc.specs.Answer.{Verdict}
+use Rattle.rpc.specs.Answer.{Refused, Default}
 
 -- "A request has an identity (empty without a client certificate), a path, and header lines"
 unfoldable pub request : Str → Str → Str → Request

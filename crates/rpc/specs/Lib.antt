@@ -1,3 +1,4 @@
+pub mod Answer
 pub mod Pattern
 pub mod Request
 pub mod Verdict

@@ -6,8 +6,8 @@ use Rattle.text.specs.String.{Str}
 use Rattle.policy.specs.Policy.{Header, Rule, Policy}
 use Rattle.rpc.specs.Pattern.{matches}
 use Rattle.rpc.specs.Request.{Line, Request, header_value}
-use Rattle.rpc.specs.declared.verdict.Verdict.{Verdict}
-use Rattle.rpc.specs.declared.verdict.Verdict.TheVariants.{Refused, Denied, Permitted, Default}
+use Rattle.rpc.specs.Answer.{Verdict}
+use Rattle.rpc.specs.Answer.{Refused, Denied, Permitted, Default}
 
 -- "Entries of a list are alternatives"; an empty list checks nothing
 unfoldable pub listed : List Str → Str → Bool

@@ -1,7 +1,6 @@
-// The answer of an RPC verdict: a refusal with its number; denied or permitted by the rule with that number in its list; or denied by default.
-#[derive(Clone, Copy)]
+// What is decided: denied or permitted by the rule with that number in its list; or denied by default.
+#[derive(Clone, Copy, Debug, PartialEq, Eq)]
 pub enum Verdict {
-    Refused(u8),
     Denied(usize),
     Permitted(usize),
     Default,

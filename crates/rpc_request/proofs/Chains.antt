@@ -3,11 +3,13 @@ use mathlib.Core.Path.{◌≡◌, refl, sym, ap, ◌∙◌, subst}
 use mathlib.Core.Bool.{true, false}
 use mathlib.Core.List.{List, [], ◌∷◌, ◌++◌}
 use mathlib.Core.Option.{Option, none, some}
+use Rattle.std.proofs.lemmas.List.{drop_min}
 use Prim.Native.Nat.{ℕ, suc, ◌+◌, ◌-◌, ◌*◌, ◌/◌, ◌≤◌, ◌<◌}
+use Rattle.std.proofs.Common.{min}
 use native.Mathlib.Omega.{arith}
 use lib.Dec.{eqb, ltb}
-use lib.ListN.{length, take, drop, get_or, set, length-set, length-drop, drop_of_length-le}
-use lib.Seq.{take_all, drop_at, drop-drop, length-take-le, get_or-set_same, get_or-set_other}
+use lib.ListN.{length, take, drop, get_or, set, length-set, drop_of_length-le}
+use lib.Seq.{drop_at, drop-drop, length-take-le, get_or-set_same, get_or-set_other}
 use borrow.Author.Tests.{eqb-true, eqb-false, ltb-true, ltb-false, lt-ltb, le-ltb}
 use Rattle.text.specs.Test.{◌and◌, whether◌then◌else◌, only, absent, or_nothing}
 use Rattle.text.specs.String.{Str}
@@ -15,14 +17,14 @@ use Rattle.text.specs.Frame.{part}
 use Rattle.text.specs.Fill.{put}
 use Rattle.text.specs.Steps.{Wrote}
 use Rattle.text.proofs.Tests.{by, clash}
-use Rattle.text.proofs.Frames.{no_part}
 use Rattle.text.proofs.Filling.{wrote_long}
 use Rattle.text_affix.specs.Affix.{empty}
 use Rattle.text_search.specs.Search.{is}
 use Rattle.text_hash.specs.Mix.{Small}
+use Rattle.text_hash.proofs.Mixing.{place_within}
 use Rattle.text_hash.specs.declared.Seed.{Seed}
 use Rattle.rpc.specs.Request.{Line, longer, cut_at, line_of, cons, lines_of, headers_of, bad_headers, joined, values_of, header_value}
-use Rattle.rpc_request.specs.Steps.{Cut, commaed, line_value}
+use Rattle.rpc_request.specs.Steps.{Cut, commaed, line_value, Joined}
 use Rattle.rpc_request.specs.Index.{bucket_count, bucket_of, in_bucket, LineAt, Chain, stop, link, onto, Blank, Indexed}
 use Rattle.rpc_request.proofs.Lines.{part_long, until_later, cut_same, cut_until, first_lf, lf_cut, colon_before, cut_part, name_part, fueled, read_is, Reading, reading_on, lines_cut, lines_uncut, lines_bad, lines_on, lines_over, headers_short, headers_read}
 use Rattle.rpc_request.proofs.Values.{gather, gather_nil, gather_cons, gathered, one_bucket, commaed_nil, commaed_append, joined_is, line_value_lem, line_bucket}
@@ -60,7 +62,7 @@ chain_under : (h before : Str) {top to p : ℕ} {l : List Line} → Chain h befo
 chain_under h before (stop q) t = stop q
 chain_under h before {to = to} (link {e = e} a k c) t = let z : e < to = omega arith in link a z c
 
--- ---- index_lines
+-- ---- HeaderIndex::new
 
 written_some : (l : List Line) → or_nothing (some l) ≡ l
 unfolding or_nothing
@@ -225,7 +227,11 @@ indexing_done seed h last before i g j l = record {
   chains = λ b s. chain_under h before (j.chains b s) j.reading.inside;
 }
 
--- ---- header_value
+-- a bucket is in the index
+pub bucket_inside : (seed : Seed) (name last : Str) (b : ℕ) → b ≡ bucket_of seed name → length last ≡ bucket_count → b < length last
+bucket_inside seed name last b e l = omega (arith, place_within seed name bucket_count b e (omega arith), l)
+
+-- ---- HeaderIndex::value
 
 -- the lines from p on are still to be gathered; the values of those after them are stored from `at` on, each after a comma
 pub record Gathering (key h before out : Str) (p at : ℕ) : Type 0 where
@@ -344,8 +350,6 @@ module _ (key h before out : Str) (p at : ℕ) (l : length h ≤ p) where
     unfolding header_value
     value_is = ap joined (g.is ∙ ap (λ (m : List Line). gather key m g.got) (chain_over g.chain) ∙ gather_nil key g.got) ∙ joined_is g.got ∙ ap (drop 1) (sym g.stored)
 
-    pub joined_empty : (end : ℕ) → at ≡ end → end ≡ length out → part out end end ≡ header_value key (or_nothing (headers_of h))
-    joined_empty end z q = no_part out end ∙ sym (value_is ∙ ap (drop 1) (let y : length out ≤ at = omega arith in drop_of_length-le out y))
-
-    pub joined_value : (end : ℕ) → end ≡ length out → part out (at + 1) end ≡ header_value key (or_nothing (headers_of h))
-    joined_value end q = take_all (end - (at + 1)) (drop (at + 1) out) (omega (arith, length-drop (at + 1) out)) ∙ sym (value_is ∙ drop-drop 1 at out)
+    -- without the first comma
+    pub joined_value : (r : ℕ) → r ≡ min (at + 1) (length out) → Joined key h out r
+    joined_value r m = record { is = rw m (drop_min (at + 1) out ∙ sym (value_is ∙ drop-drop 1 at out)); high = omega (arith, m) }

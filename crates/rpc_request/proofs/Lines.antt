@@ -3,6 +3,7 @@ use mathlib.Core.Path.{◌≡◌, refl, sym, ap, ◌∙◌, subst}
 use mathlib.Core.Bool.{Bool, true, false, not}
 use mathlib.Core.List.{List, [], ◌∷◌}
 use mathlib.Core.Option.{Option, none, some}
+use Rattle.std.specs.Prelude.{None}
 use Prim.Native.Nat.{ℕ, zero, suc, ◌+◌, ◌-◌, ◌≤◌, ◌<◌}
 use native.Mathlib.Numerals.{add-one}
 use native.Mathlib.Omega.{arith}
@@ -22,7 +23,7 @@ use Rattle.text_search.specs.Search.{until, is, unprinted}
 use Rattle.text_search.proofs.Searching.{until_fits, found, passed, ran_out, found_low, found_high, printed}
 use Rattle.policy.specs.Text.{is_header_byte}
 use Rattle.rpc.specs.Request.{Line, longer, cut_at, line_of, cons, line_then, lines_of, headers_of, bad_text, bad_headers}
-use Rattle.rpc_request.specs.Steps.{cut_here, Cut, LineEnd}
+use Rattle.rpc_request.specs.Steps.{cut_here, Cut, LineTo, LineEnd}
 
 -- ---- parts
 
@@ -370,26 +371,22 @@ module _ (h : Str) (i e fuel : ℕ) (l : i < length h) (k : Cut 10 h i e) where
 -- each way out of line_end; c is where the colon stands, or the end
 module _ (h : Str) (i c : ℕ) (l : i < length h) (k : Cut 58 h i c) where
   -- no good line stands at i
-  line_end_bad : (first_lf h i < length h → absent (line_of (cut_at 58 (part h i (first_lf h i)))) ≡ false → ⊥) → LineEnd h i (length h)
-  line_end_bad f = record {
-    high = omega arith;
-    good = λ q. absurd (omega arith);
-    bad = λ _ n.
-        by (ltb (first_lf h i) (length h))
-        (λ t. by (absent (line_of (cut_at 58 (part h i (first_lf h i))))) (λ g. lines_bad h i _ n l (lf_cut h i l) (ltb-true _ _ t) g) (λ g. absurd (f (ltb-true _ _ t) g)))
-        (λ t. let z = ltb-false (first_lf h i) (length h) t in lines_uncut h i _ n l (lf_cut h i l) (omega (arith, (lf_cut h i l).high)));
-  }
+  line_end_bad : (first_lf h i < length h → absent (line_of (cut_at 58 (part h i (first_lf h i)))) ≡ false → ⊥) → LineEnd h i None
+  line_end_bad f n =
+      by (ltb (first_lf h i) (length h))
+      (λ t. by (absent (line_of (cut_at 58 (part h i (first_lf h i))))) (λ g. lines_bad h i _ n l (lf_cut h i l) (ltb-true _ _ t) g) (λ g. absurd (f (ltb-true _ _ t) g)))
+      (λ t. let z = ltb-false (first_lf h i) (length h) t in lines_uncut h i _ n l (lf_cut h i l) (omega (arith, (lf_cut h i l).high)))
 
-  pub line_colonless : c ≡ length h → LineEnd h i (length h)
+  pub line_colonless : c ≡ length h → LineEnd h i None
   line_colonless q = line_end_bad (λ z g. omega (arith, colon_before h i c l k g))
 
   line_is_good : first_lf h i < length h → absent (line_of (cut_at 58 (part h i (first_lf h i)))) ≡ false → good (part h i c) (part h (c + 1) (first_lf h i)) ≡ true
   line_is_good z g = not-false _ (sym (line_parts h i c _ k (colon_before h i c l k g) (omega arith)) ∙ g)
 
-  pub line_nameless : c ≡ i → LineEnd h i (length h)
+  pub line_nameless : c ≡ i → LineEnd h i None
   line_nameless q = line_end_bad (λ z g. clash (line_is_good z g) (good_nameless _ _ (part_long h i c k.high ∙ omega arith)))
 
-  pub line_ill : all is_header_byte (part h i c) ≡ false → LineEnd h i (length h)
+  pub line_ill : all is_header_byte (part h i c) ≡ false → LineEnd h i None
   line_ill q = line_end_bad (λ z g. clash (line_is_good z g) (good_ill _ _ q))
 
   -- e is where the first byte behind the colon stands that does not print
@@ -401,10 +398,10 @@ module _ (h : Str) (i c : ℕ) (l : i < length h) (k : Cut 58 h i c) where
         let v = until_lf unprinted printed unprinted_lf (first_lf h i - (c + 1)) (drop (c + 1) h) (omega (arith, length-drop (c + 1) h)) (good_print _ _ (line_is_good z g)) (get_or-drop (c + 1) h _ 0 ∙ ap (λ (n : ℕ). get_or h n 0) w ∙ lf_byte h i l z) in
         omega (arith, v)
 
-    pub line_endless : e ≡ length h → LineEnd h i (length h)
+    pub line_endless : length h ≤ e → LineEnd h i None
     line_endless q = line_end_bad (λ z g. omega (arith, print_end_is z g))
 
-    pub line_unprinted : (get_or h e 0 ≡ 10 → ⊥) → LineEnd h i (length h)
+    pub line_unprinted : (get_or h e 0 ≡ 10 → ⊥) → LineEnd h i None
     line_unprinted q = line_end_bad (λ z g. q (ap (λ (n : ℕ). get_or h n 0) (print_end_is z g) ∙ lf_byte h i l z))
 
     module _ (inside : e < length h) (named : c ≡ i → ⊥) (name : all is_header_byte (part h i c) ≡ true) (ends : get_or h e 0 ≡ 10) where
@@ -422,11 +419,11 @@ module _ (h : Str) (i c : ℕ) (l : i < length h) (k : Cut 58 h i c) where
           let v = until_lf (is 10) printed_not_lf refl (e - (c + 1)) (drop (c + 1) h) (omega (arith, length-drop (c + 1) h)) value_print (get_or-drop (c + 1) h _ 0 ∙ ap (λ (n : ℕ). get_or h n 0) w ∙ ends) in
           sym (until_later (is 10) h i (c + 1) (omega (arith, k.low)) (omega (arith, b, k.low))) ∙ omega (arith, v)
 
-      pub line_ended : LineEnd h i e
+      pub line_ended : LineTo h i e
       line_ended = record {
-        high = omega arith;
-        good = λ _. (subst (Cut 10 h i) lf_here (lf_cut h i l), line_parts h i c e k (omega arith) (omega arith) ∙ ap not (good_last _ _ (λ x. named (omega (arith, part_long h i c k.high, x, k.low))) name ∙ value_print));
-        bad = λ q. absurd (omega arith);
+        cut = subst (Cut 10 h i) lf_here (lf_cut h i l);
+        inside = omega arith;
+        good = line_parts h i c e k (omega arith) (omega arith) ∙ ap not (good_last _ _ (λ x. named (omega (arith, part_long h i c k.high, x, k.low))) name ∙ value_print);
       }
 
 -- whether the lines are well formed is whether those from i on are
@@ -443,19 +440,17 @@ module _ (h : Str) (i : ℕ) (l : i < length h) where
   fueled zero r = absurd (omega (arith, r.enough))
   fueled (suc g) r = (g, refl)
 
-  module _ (e : ℕ) (k : LineEnd h i e) (j : Judging h i) where
+  module _ (j : Judging h i) where
     turn : (g : ℕ) × (Reading h i (suc g)) × (absent (headers_of h) ≡ absent (lines_of (suc g) (drop i h)))
     turn = let f = fueled j.fuel j.reading in (f.0, subst (Reading h i) f.1 j.reading, j.is ∙ ap (λ (n : ℕ). absent (lines_of n (drop i h))) f.1)
 
-    pub judging_bad : e ≡ length h → false ≡ not (absent (headers_of h))
-    judging_bad z = let t = turn in ap not (sym (t.2 ∙ k.bad z t.0))
+    pub judging_bad : LineEnd h i None → false ≡ not (absent (headers_of h))
+    judging_bad k = let t = turn in ap not (sym (t.2 ∙ k t.0))
 
-    pub judging_on : (e ≡ length h → ⊥) → (i ≤ e) × Judging h (e + 1)
-    judging_on n =
+    pub judging_on : (e : ℕ) → LineTo h i e → Judging h (e + 1)
+    judging_on e k =
         let t = turn in
-        let z : e < length h = omega (arith, n, k.high) in
-        let g = k.good z in
-        (g.0.low, record { fuel = t.0; reading = reading_on h i e t.0 t.1 g.0.low z; is = t.2 ∙ lines_on h i e t.0 l g.0 z g.1 })
+        record { fuel = t.0; reading = reading_on h i e t.0 t.1 k.cut.low k.inside; is = t.2 ∙ lines_on h i e t.0 l k.cut k.inside k.good }
 
 pub lines_over : (h : Str) (i n : ℕ) → length h ≤ i → lines_of n (drop i h) ≡ some []
 lines_over h i n l = ap (lines_of n) (drop_of_length-le h l) ∙ lines_nil n

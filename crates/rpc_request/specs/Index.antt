@@ -65,8 +65,3 @@ pub record Indexed (seed : Seed) (h last before : Str) : Type 0 where
   pub buckets : length last ≡ bucket_count
   pub places : length h ≤ 3 * length before
   pub chains : (b : ℕ) → b < bucket_count → Chain h before (length h) (get_or last b 0) (only (in_bucket seed b) back)
-
--- an index of the header lines, and room for the value of a header
-pub record Ready (seed : Seed) (h last before out : Str) : Type 0 where
-  pub indexed : Indexed seed h last before
-  pub room : length h ≤ length out

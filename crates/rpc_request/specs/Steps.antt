@@ -1,11 +1,11 @@
 -- What the programs answer step by step: header lines by position, and the joined value of a header.
 use Rattle.std.specs.Prelude.{◌≡◌, true, false, List, [], ◌∷◌, ◌++◌, ℕ, suc, ◌+◌, ◌≤◌, ◌<◌, ltb, length, drop}
+use Rattle.std.specs.Prelude.{Option as Maybe, MatchOption}
 use Rattle.std.proofs.Math.Option.{Option, none, some}
 use Rattle.text.specs.Test.{whether◌then◌else◌, absent, or_nothing}
 use Rattle.text.specs.String.{Str}
 use Rattle.text.specs.Frame.{part}
 use Rattle.rpc.specs.Request.{Line, cut_at, line_of, lines_of, headers_of, values_of, header_value}
-use Rattle.rpc_request.specs.declared.index.Span.{Span}
 
 -- the bytes from `from` on, cut at e; no cut where e is the end
 unfoldable pub cut_here : List ℕ → ℕ → ℕ → Option (Str × Str)
@@ -17,11 +17,15 @@ pub record Cut (b : ℕ) (h : List ℕ) (from r : ℕ) : Type 0 where
   pub low : from ≤ r
   pub high : r ≤ length h
 
--- r is where the LF of the line at i stands, or the end, and then no lines stand from i on
-pub record LineEnd (h : List ℕ) (i r : ℕ) : Type 0 where
-  pub high : r ≤ length h
-  pub good : r < length h → Cut 10 h i r × (absent (line_of (cut_at 58 (part h i r))) ≡ false)
-  pub bad : r ≡ length h → (n : ℕ) → absent (lines_of (suc n) (drop i h)) ≡ true
+-- e is where the LF of the line at i stands, which is well formed
+pub record LineTo (h : List ℕ) (i e : ℕ) : Type 0 where
+  pub cut : Cut 10 h i e
+  pub inside : e < length h
+  pub good : absent (line_of (cut_at 58 (part h i e))) ≡ false
+
+-- r is where the LF of the line at i stands; or no lines stand from i on
+abbrev pub LineEnd : List ℕ → ℕ → Maybe ℕ → Type 0
+LineEnd h i r = MatchOption r ((n : ℕ) → absent (lines_of (suc n) (drop i h)) ≡ true) (LineTo h i)
 
 -- each value after a comma
 unfoldable pub commaed : List Str → Str
@@ -36,8 +40,7 @@ one_line (some x) = x ∷ []
 unfoldable pub line_value : Str → Str → Str
 line_value key l = commaed (values_of key (one_line (line_of (cut_at 58 l))))
 
--- r is where the value of the header stands in `out`
-pub record Joined (key h out : Str) (r : Span) : Type 0 where
-  pub is : part out r.from r.to ≡ header_value key (or_nothing (headers_of h))
-  pub low : r.from ≤ r.to
-  pub high : r.to ≤ length out
+-- the value of the header stands in `out` from r on
+pub record Joined (key h out : Str) (r : ℕ) : Type 0 where
+  pub is : drop r out ≡ header_value key (or_nothing (headers_of h))
+  pub high : r ≤ length out

@@ -12,55 +12,41 @@ pub fn byte_from(h: &[u8], at: usize, b: u8) -> usize
     text_search::find(h, at, b)
 }
 
-// Where the LF of the line at i stands; the end where the line is ill-formed. The colon is searched first, and the LF is the first byte behind it that
-// does not print.
-fn line_end(h: &[u8], i: usize) -> usize
+// Where the LF of the line at i stands, where that is well formed. The colon is searched first, and the LF is the first byte behind it that does not print.
+fn line_end(h: &[u8], i: usize) -> Option<usize>
     requires { i < length h.now }
     ensures { LineEnd h.now i result }
 {
-    let n = h.len();
     let c = byte_from(h, i, b':');
-    if c == n {
-        return n;
-    }
-    if c == i {
-        return n;
-    }
-    if !policy::string::all_header_bytes(&h[i..c]) {
-        return n;
+    if c == h.len() || c == i || !policy::string::all_header_bytes(&h[i..c]) {
+        return None;
     }
     let e = text_search::print_end(h, c + 1);
-    if e == n {
-        return n;
+    if e < h.len() && h[e] == b'\n' {
+        Some(e)
+    } else {
+        None
     }
-    if h[e] != b'\n' {
-        return n;
-    }
-    e
 }
 
 // Whether h is lines, each with its LF.
 fn are_lines(h: &[u8]) -> bool
     ensures { result ≡ not (absent (headers_of h.now)) }
 {
-    let n = h.len();
     let mut i = 0;
-    while i < n {
-        let e = line_end(h, i);
-        if e == n {
+    while i < h.len() {
+        let Some(e) = line_end(h, i) else {
             return false;
-        }
+        };
         i = e + 1;
     }
     true
 }
 
 // 41: header lines ill-formed or too long.
+#[tactic(auto, using(crate::proofs::Lines::bad_long, crate::proofs::Lines::bad_lines))]
 pub fn is_bad_headers(h: &[u8]) -> bool
     ensures { result ≡ bad_headers h.now }
 {
-    if limits::MAX_HEADER_LINES < h.len() {
-        return true;
-    }
-    !are_lines(h)
+    limits::MAX_HEADER_LINES < h.len() || !are_lines(h)
 }

@@ -5,8 +5,9 @@ ghost use Rattle.text.specs.Steps.{Wrote};
 ghost use Rattle.text_hash.specs.Mix.{Small};
 ghost use Rattle.rpc.specs.Request.{cut_at, line_of};
 ghost use Rattle.rpc_request.specs.Steps.{line_value, Joined};
-ghost use Rattle.rpc_request.specs.Index.{bucket_of, Blank, Indexed, Ready};
+ghost use Rattle.rpc_request.specs.Index.{bucket_of, Blank, Indexed};
 
+use std::marker::Model;
 use text_hash::Seed;
 
 // Any number of buckets would do.
@@ -47,37 +48,15 @@ pub fn factors(policy: &[u8], headers: &[u8]) -> Seed
     text_hash::factors::draw_after(sample(policy), headers)
 }
 
-// The bucket of a name; b is that of another, which often is the same.
-fn next_bucket(seed: Seed, name: &[u8], other: &[u8], b: usize) -> usize
-    requires { Small seed × (b ≡ bucket_of seed other.now) }
+// The bucket of a name. b is that of the line before, which often has the same name.
+fn next_bucket(seed: Seed, name: &[u8], before: &[u8], b: usize) -> usize
+    requires { Small seed × (b ≡ bucket_of seed before.now) }
     ensures { result ≡ bucket_of seed name.now }
 {
-    if text::string::is_same(name, other) {
-        return b;
-    }
-    text_hash::place(seed, BUCKETS, name)
-}
-
-// Stores where the last line of each bucket starts and, at a third of where a line starts, where the line of its bucket before it does. `b` is the bucket
-// of the name from `from` to `to`, that of the line before.
-pub fn index_lines(seed: Seed, h: &[u8], last: &mut [u16], before: &mut [u16])
-    requires { Blank seed h.now last.old before.old }
-    ensures { Indexed seed h.now last.new before.new }
-{
-    let n = h.len();
-    let mut from = 0;
-    let mut to = 0;
-    let mut b = text_hash::place(seed, BUCKETS, &h[0..0]);
-    let mut i = 0;
-    while i < n {
-        let c = crate::headers::byte_from(h, i, b':');
-        b = next_bucket(seed, &h[i..c], &h[from..to], b);
-        let e = crate::headers::byte_from(h, c + 1, b'\n');
-        before[i / 3] = last[b];
-        last[b] = i as u16;
-        from = i;
-        to = c;
-        i = e + 1;
+    if text::string::is_same(name, before) {
+        b
+    } else {
+        text_hash::place(seed, BUCKETS, name)
     }
 }
 
@@ -101,40 +80,74 @@ fn join_line(l: &[u8], key: &[u8], out: &mut [u8], at: usize) -> usize
     comma
 }
 
-// From where to where a value stands.
-#[derive(Clone, Copy)]
-pub struct Span {
-    pub from: usize,
-    pub to: usize,
+// Good header lines with their index: the lines of a bucket are linked, the last first.
+#[derive(Drop)]
+pub struct HeaderIndex<'a> {
+    lines: &'a [u8],
+    seed: Seed,
+    // Where the last line of each bucket starts.
+    last: &'a [u16],
+    // At a third of where a line starts, where the line of its bucket before it does.
+    before: &'a [u16],
 }
 
-// The value of the header `key`, at the end of `out`: the values of its lines, each after a comma, without the first comma.
-pub fn header_value(
-    seed: Seed,
-    h: &[u8],
-    last: &[u16],
-    before: &[u16],
-    key: &[u8],
-    out: &mut [u8],
-) -> Span
-    requires { Ready seed h.now last.now before.now out.old }
-    ensures { Joined key.now h.now out.new result }
-{
-    let n = h.len();
-    let end = out.len();
-    let b = text_hash::place(seed, BUCKETS, key);
-    let mut p = last[b] as usize;
-    let mut at = end;
-    while p < n {
-        let e = crate::headers::byte_from(h, p, b'\n');
-        at = join_line(&h[p..e], key, out, at);
-        p = before[p / 3] as usize;
+impl<'a> Model for HeaderIndex<'a> {
+    ghost use Rattle.text.specs.String.{Str};
+
+    ghost Value = { Str };
+
+    ghost use Rattle.rpc_request.specs.Index.{Indexed};
+
+    ghost view = { λ a. a.lines.now };
+
+    ghost invariant = { λ a. Indexed a.seed a.lines.now a.last.now a.before.now };
+}
+
+impl<'a> HeaderIndex<'a> {
+    // The index of good header lines. It is made in two arrays in which no line is yet.
+    pub fn new(
+        seed: Seed,
+        lines: &'a [u8],
+        last: &'a mut [u16],
+        before: &'a mut [u16],
+    ) -> HeaderIndex<'a>
+        requires { Blank seed lines.now last.old before.old }
+        ensures { result ≡ lines.now }
+    {
+        let mut name = &lines[..0];
+        let mut b = text_hash::place(seed, BUCKETS, name);
+        let mut i = 0;
+        while i < lines.len() {
+            let c = crate::headers::byte_from(lines, i, b':');
+            b = next_bucket(seed, &lines[i..c], name, b);
+            name = &lines[i..c];
+            let e = crate::headers::byte_from(lines, c + 1, b'\n');
+            before[i / 3] = last[b];
+            last[b] = i as u16;
+            i = e + 1;
+        }
+        HeaderIndex {
+            lines,
+            seed,
+            last,
+            before,
+        }
     }
-    if at == end {
-        return Span { from: end, to: end };
-    }
-    Span {
-        from: at + 1,
-        to: end,
+
+    // Stores the value of the header `key` at the end of `out`: the values of its lines, each after a comma. Answers where the value starts, past the first
+    // comma.
+    pub fn value(&self, key: &[u8], out: &mut [u8]) -> usize
+        requires { length self.now ≤ length out.old }
+        ensures { Joined key.now self.now out.new result }
+    {
+        let b = text_hash::place(self.seed, BUCKETS, key);
+        let mut p = self.last[b] as usize;
+        let mut at = out.len();
+        while p < self.lines.len() {
+            let e = crate::headers::byte_from(self.lines, p, b'\n');
+            at = join_line(&self.lines[p..e], key, out, at);
+            p = self.before[p / 3] as usize;
+        }
+        (at + 1).min(out.len())
     }
 }

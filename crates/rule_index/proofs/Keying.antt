@@ -21,18 +21,21 @@ use Rattle.table_place.specs.Place.{str_in, path_in}
 use Rattle.table_rows.specs.Rules.{path_at, rule_in}
 use Rattle.verdict.specs.Rank.{top_rank, rank}
 use Rattle.verdict_judge.proofs.Parts.{path_in_lem}
-use Rattle.verdict_concern.proofs.Concerns.{by_group_lem}
 use Rattle.rule_index.specs.Clue.{rule_clues}
 use Rattle.rule_index.specs.Index.{buckets, span, subject_place, bucket_of, Keyed}
 
 module _ (f : List ℕ) (s : ℕ) (seed : Seed) where
-  pub group_place : get_or f (s + 2) 0 ≡ 1 → 0 ≡ subject_place seed (rule_in f s)
+  pub group_place : (rule_in f s).by_group ≡ true → 0 ≡ subject_place seed (rule_in f s)
   unfolding subject_place whether◌then◌else◌
-  group_place e = rw (by_group_lem f s e)
+  group_place e = rw e
 
-  pub user_place : (get_or f (s + 2) 0 ≡ 1 → ⊥) → place_of seed buckets (str_in f (s + 3)) ≡ subject_place seed (rule_in f s)
-  unfolding subject_place whether◌then◌else◌ rule_in
-  user_place e = rw (ne_eqb (get_or f (s + 2) 0) 1 e)
+  user_by : (r : Rule) → r.by_group ≡ false → place_of seed buckets r.subject ≡ subject_place seed r
+  unfolding subject_place whether◌then◌else◌
+  user_by r e = rw e
+
+  pub user_place : (rule_in f s).by_group ≡ false → place_of seed buckets (str_in f (s + 3)) ≡ subject_place seed (rule_in f s)
+  unfolding rule_in
+  user_place e = user_by (rule_in f s) e
 
   subject_by : (t : Bool) (x : Str) → (whether t then 0 else place_of seed buckets x) < buckets
   unfolding whether◌then◌else◌

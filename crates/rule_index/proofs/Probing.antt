@@ -2,7 +2,7 @@
 use Prim.Native.Nat.{ℕ, ◌+◌, ◌-◌, ◌/◌, ◌%◌, ◌<◌}
 use native.Mathlib.Omega.{arith}
 use mathlib.Core.Path.{◌≡◌, sym, ap, ◌∙◌, subst}
-use mathlib.Core.Bool.{true, false}
+use mathlib.Core.Bool.{Bool, true, false}
 use mathlib.Core.Logic.{◌⊎◌, inl, inr}
 use mathlib.Core.List.{List}
 use lib.Dec.{eqb}
@@ -19,8 +19,10 @@ use Rattle.table.specs.Table.{Rule}
 use Rattle.table_rows.specs.Rules.{rule_in}
 use Rattle.table_membership.specs.Set.{has_of}
 use Rattle.table_membership.proofs.Bits.{has_none}
-use Rattle.verdict_judge.specs.declared.best.Best.{Best}
-use Rattle.verdict_concern.specs.Concern.{concerns_by, applies_by, Safe}
+use mathlib.Core.Option.{Option}
+use Rattle.verdict.specs.Order.{Numbered}
+use Rattle.verdict_judge.specs.Rules.{Safe}
+use Rattle.verdict_concern.specs.Concern.{concerns_by, applies_by}
 use Rattle.rule_index.specs.Index.{buckets, span, subject_place, bucket_of, KeyedAt}
 use Rattle.rule_index.specs.Found.{matches_at, over_at, After, Scanned, DoneAt, Probing, Probed}
 use Rattle.rule_index.proofs.Clues.{in_cons}
@@ -55,7 +57,7 @@ module _ (f starts holders : List ℕ) (n set : ℕ) (user : Str) (mode : ℕ) (
   unfolding matches_at applies_by
   matched i e = and_r _ _ (and_r _ _ (and_l _ _ e))
 
-  module _ (safe : Safe f starts holders n) (seed : Seed) (keys : List ℕ) (x c : ℕ) (place : x ≡ place_of seed buckets user) (low : c < buckets) (b own r : Best)
+  module _ (safe : Safe f starts holders n) (seed : Seed) (keys : List ℕ) (x c : ℕ) (place : x ≡ place_of seed buckets user) (low : c < buckets) (b own r : Option Numbered)
       (S : Scanned f starts holders n set user mode origin p seed keys ((x + c) % buckets) b own) (A : After f starts holders n set user mode origin p own r)
       (groups : (i j : ℕ) → i < n → j < n → (k : KeyedAt seed f starts i (get_or keys j 0)) → get_or keys j 0 / span ≡ c → has_of set (get_or holders i 0) ≡ true
       → matches_at f starts holders n set user mode origin p i ≡ true → over_at f starts holders n set user mode origin p i r ≡ false) where
@@ -67,8 +69,8 @@ module _ (f starts holders : List ℕ) (n set : ℕ) (user : Str) (mode : ℕ) (
         (λ g. not_over f starts holders n set user mode origin p safe own r A i
         (S.done i j l m k (key_bucket k ∙ user_bucket seed _ k.clue g user (user_named _ _ _ _ d g) x c place e) t))
 
-    clue_probed : (seen : List ℕ) → Probing f starts holders n set user mode origin p seed keys seen b → c < length seen
-        → Probed f starts holders n set user mode origin p seed keys c b r (store seen c 1)
+    clue_probed : (seen : List Bool) → Probing f starts holders n set user mode origin p seed keys seen b → c < length seen
+        → Probed f starts holders n set user mode origin p seed keys c b r (store seen c true)
     clue_probed seen P room = record {
       probing = record {
         kept = A.kept;
@@ -76,7 +78,7 @@ module _ (f starts holders : List ℕ) (n set : ℕ) (user : Str) (mode : ℕ) (
             λ d h. by (eqb d c)
             (λ e. subst (λ (y : ℕ). DoneAt f starts holders n set user mode origin p seed keys y r) (sym (eqb-true d c e)) clue_done)
             (λ e i j l m k q t. not_over f starts holders n set user mode origin p safe b r (record { kept = A.kept; still = λ k h. S.after.still k (A.still k h) }) i
-            (P.done d (sym (get_or-set_other seen c d 1 0 (eqb-false d c e)) ∙ h) i j l m k q t));
+            (P.done d (sym (get_or-set_other seen c d true false (eqb-false d c e)) ∙ h) i j l m k q t));
       };
       goes =
           λ clue rest e H. record {
@@ -86,7 +88,7 @@ module _ (f starts holders : List ℕ) (n set : ℕ) (user : Str) (mode : ℕ) (
     }
 
   -- the place is done with already
-  pub seen_before : (seed : Seed) (keys seen : List ℕ) (c : ℕ) (b : Best) → Probing f starts holders n set user mode origin p seed keys seen b → get_or seen c 0 ≡ 1
+  pub seen_before : (seed : Seed) (keys : List ℕ) (seen : List Bool) (c : ℕ) (b : Option Numbered) → Probing f starts holders n set user mode origin p seed keys seen b → get_or seen c false ≡ true
       → Probed f starts holders n set user mode origin p seed keys c b b seen
   seen_before seed keys seen c b P h =
       record {
@@ -99,15 +101,15 @@ module _ (f starts holders : List ℕ) (n set : ℕ) (user : Str) (mode : ℕ) (
       }
 
   -- no group lists the user
-  pub probed_own : Safe f starts holders n → (seed : Seed) (keys : List ℕ) (x c : ℕ) → x ≡ place_of seed buckets user → c < buckets → set ≡ 0 → (b own : Best) (seen : List ℕ) → Probing f starts holders n set user mode origin p seed keys seen b → c < length seen
+  pub probed_own : Safe f starts holders n → (seed : Seed) (keys : List ℕ) (x c : ℕ) → x ≡ place_of seed buckets user → c < buckets → set ≡ 0 → (b own : Option Numbered) (seen : List Bool) → Probing f starts holders n set user mode origin p seed keys seen b → c < length seen
       → Scanned f starts holders n set user mode origin p seed keys ((x + c) % buckets) b own
-      → Probed f starts holders n set user mode origin p seed keys c b own (store seen c 1)
+      → Probed f starts holders n set user mode origin p seed keys c b own (store seen c true)
   probed_own safe seed keys x c place low z b own seen P room S =
       clue_probed safe seed keys x c place low b own own S (record { kept = S.after.kept; still = λ k h. h })
       (λ i j l m k e h t. clash h (ap (λ (y : ℕ). has_of y (get_or holders i 0)) z ∙ has_none (get_or holders i 0))) seen P room
 
-  pub probed_both : Safe f starts holders n → (seed : Seed) (keys : List ℕ) (x c : ℕ) → x ≡ place_of seed buckets user → c < buckets → (b own r : Best) (seen : List ℕ) → Probing f starts holders n set user mode origin p seed keys seen b → c < length seen
+  pub probed_both : Safe f starts holders n → (seed : Seed) (keys : List ℕ) (x c : ℕ) → x ≡ place_of seed buckets user → c < buckets → (b own r : Option Numbered) (seen : List Bool) → Probing f starts holders n set user mode origin p seed keys seen b → c < length seen
       → Scanned f starts holders n set user mode origin p seed keys ((x + c) % buckets) b own → Scanned f starts holders n set user mode origin p seed keys c own r
-      → Probed f starts holders n set user mode origin p seed keys c b r (store seen c 1)
+      → Probed f starts holders n set user mode origin p seed keys c b r (store seen c true)
   probed_both safe seed keys x c place low b own r seen P room S T =
       clue_probed safe seed keys x c place low b own r S T.after (λ i j l m k e h t. T.done i j l m k e t) seen P room

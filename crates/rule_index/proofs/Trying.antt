@@ -13,13 +13,12 @@ use Rattle.text.specs.String.{Str}
 use Rattle.text.proofs.Tests.{clash, by}
 use Rattle.path.specs.Path.{Path}
 use Rattle.table.specs.Table.{Rule}
-use Rattle.table_rows.specs.Rules.{rule_in, rule_end}
+use Rattle.table_rows.specs.Rules.{rule_in}
 use Rattle.verdict.specs.Cover.{covers}
 use Rattle.verdict.specs.Order.{Numbered, better, prefer, candidate}
 use Rattle.verdict.specs.Rank.{rank}
 use Rattle.verdict.proofs.Order.{better_order}
-use Rattle.verdict_judge.specs.Best.{held, Ranked, NumberBelow, wins, matching}
-use Rattle.verdict_judge.specs.declared.best.Best.{Best}
+use Rattle.verdict_judge.specs.Best.{wins, matching}
 use Rattle.verdict_judge.proofs.Steps.{step_off, step_miss, step_keep, step_take}
 use Rattle.verdict_concern.specs.Concern.{applies_by}
 use Rattle.rule_index.specs.Found.{is_over, matches_at, Kept, Tried}
@@ -72,23 +71,20 @@ module _ (f starts holders : List ℕ) (n set : ℕ) (user : Str) (mode : ℕ) (
   unfolding matches_at
   tests i = refl
 
-  module _ (b : Best) (i : ℕ) (l : i < n) (K : Kept f starts holders n set user mode origin p b) where
+  module _ (b : Option Numbered) (i : ℕ) (l : i < n) (K : Kept f starts holders n set user mode origin p b) where
     abbrev Stands : Numbered → Type 0
     Stands m = (m.number < n) × (m.rule ≡ rule_in f (get_or starts m.number 0)) × (matches_at f starts holders n set user mode origin p m.number ≡ true)
 
-    tried : (c : Best) → Ranked f c → NumberBelow n c
-        → held f c ≡ prefer better (held f b) (candidate (Test i) i (rule_in f (get_or starts i 0))) → Tried f starts holders n set user mode origin p i b c
-    tried c ranked numbered e =
+    tried : (c : Option Numbered) → c ≡ prefer better b (candidate (Test i) i (rule_in f (get_or starts i 0))) → Tried f starts holders n set user mode origin p i b c
+    tried c e =
         record {
           after = record {
             kept = record {
-              ranked = ranked;
-              numbered = numbered;
-              stands = λ m h. prefer_stands Stands (held f b) _ K.stands (candidate_stands Stands (Test i) i _ (λ t. (l, refl, tests i ∙ t))) m (sym e ∙ h);
+              stands = λ m h. prefer_stands Stands b _ K.stands (candidate_stands Stands (Test i) i _ (λ t. (l, refl, tests i ∙ t))) m (sym e ∙ h);
             };
-            still = λ k h. prefer_still _ (held f b) _ (ap (is_over (rule_in f (get_or starts k 0))) (sym e) ∙ h);
+            still = λ k h. prefer_still _ b _ (ap (is_over (rule_in f (get_or starts k 0))) (sym e) ∙ h);
           };
-          done = λ t. ap (is_over (rule_in f (get_or starts i 0))) e ∙ prefer_done (Test i) i _ (held f b) (sym (tests i) ∙ t);
+          done = λ t. ap (is_over (rule_in f (get_or starts i 0))) e ∙ prefer_done (Test i) i _ b (sym (tests i) ∙ t);
         }
 
     abbrev App : Rule → Bool
@@ -98,23 +94,19 @@ module _ (f starts holders : List ℕ) (n set : ℕ) (user : Str) (mode : ℕ) (
     Also r = covers r.path p
 
     -- it does not win
-    pub tried_behind : wins better f (get_or starts i 0) b ≡ false → Tried f starts holders n set user mode origin p i b b
-    tried_behind e = tried b K.ranked K.numbered (step_keep better f b i _ App Also e)
+    pub tried_behind : wins better (rule_in f (get_or starts i 0)) b ≡ false → Tried f starts holders n set user mode origin p i b b
+    tried_behind e = tried b (step_keep better b i _ App Also e)
 
     -- it does not apply
-    pub tried_off : (mark : ℕ) → (mark ≡ 1 → ⊥) → (g : ℕ) → g ≡ get_or holders i 0 → eqb mark 1 ≡ applies_by set g user mode origin (rule_in f (get_or starts i 0))
-        → Tried f starts holders n set user mode origin p i b b
-    tried_off mark off g eg a = tried b K.ranked K.numbered (step_off better f b i _ App Also (sym (rw eg at a) ∙ ne_eqb mark 1 off))
+    pub tried_off : App (rule_in f (get_or starts i 0)) ≡ false → Tried f starts holders n set user mode origin p i b b
+    tried_off e = tried b (step_off better b i _ App Also e)
 
     -- it does not cover the path
     pub tried_miss : covers (rule_in f (get_or starts i 0)).path p ≡ false → Tried f starts holders n set user mode origin p i b b
-    tried_miss e = tried b K.ranked K.numbered (step_miss better f b i _ App Also e)
+    tried_miss e = tried b (step_miss better b i _ App Also e)
 
     -- it is the best so far
-    pub tried_best : (x : ℕ) → x ≡ suc (rank (rule_in f (get_or starts i 0))) → rule_end f (get_or starts i 0) ≤ length f → wins better f (get_or starts i 0) b ≡ true
-        → (mark : ℕ) → mark ≡ 1 → (g : ℕ) → g ≡ get_or holders i 0 → eqb mark 1 ≡ applies_by set g user mode origin (rule_in f (get_or starts i 0))
+    pub tried_best : wins better (rule_in f (get_or starts i 0)) b ≡ true → App (rule_in f (get_or starts i 0)) ≡ true
         → covers (rule_in f (get_or starts i 0)).path p ≡ true
-        → Tried f starts holders n set user mode origin p i b (record { weight = x; number = record { 0 = i }; at = get_or starts i 0 })
-    tried_best x ex h w mark em g eg a c =
-        tried (record { weight = x; number = record { 0 = i }; at = get_or starts i 0 }) (λ z. (h, ex)) (λ z. l)
-        (step_take better f b i _ App Also x (λ z. omega arith) (sym (rw eg at a) ∙ eq-eqb mark 1 em) c w)
+        → Tried f starts holders n set user mode origin p i b (some (record { number = i; rule = rule_in f (get_or starts i 0) }))
+    tried_best w a c = tried _ (step_take better b i _ App Also a c w)

@@ -1,9 +1,10 @@
--- An array of zeros.
-use Prim.Native.Nat.{ℕ, zero, suc, ◌≤◌}
-use native.Mathlib.Omega.{arith}
+-- An array without a mark.
+use Prim.Native.Nat.{ℕ, zero, suc}
+use mathlib.Core.Path.{◌≡◌, refl}
+use mathlib.Core.Bool.{false}
 use lib.ListN.{get_or, replicate}
 
-pub zeros_low : (n i : ℕ) → get_or (replicate n 0) i 0 ≤ 0
-zeros_low zero i = omega arith
-zeros_low (suc n) zero = omega arith
-zeros_low (suc n) (suc i) = zeros_low n i
+pub unmarked : (n i : ℕ) → get_or (replicate n false) i false ≡ false
+unmarked zero i = refl
+unmarked (suc n) zero = refl
+unmarked (suc n) (suc i) = unmarked n i

@@ -1,3 +1,4 @@
 pub mod Clue
 pub mod Index
 pub mod Found
+pub mod Lookup

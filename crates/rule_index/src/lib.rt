@@ -5,5 +5,6 @@
 pub mod clue;
 pub mod find;
 pub mod keys;
+pub mod lookup;
 pub mod scan;
 mod uses;

@@ -19,7 +19,7 @@ use Rattle.text_make.specs.Decimal.{digits, decimal}
 use Rattle.table_line.specs.Lines.{lines, onto}
 use Rattle.table.specs.Table.{Table}
 use Rattle.verdict.specs.Verdict.{Request}
-use Rattle.verdict_request.specs.declared.PathAnswer.{PathAnswer}
+use Rattle.verdict_request.specs.PathAnswer.{PathAnswer}
 use Rattle.season.specs.Report.{permitted, denied_by_rule, denied_by_default, for_each, rule_count, rule_counts, cell, row, grid, figures, figure_line, report}
 use Rattle.season.proofs.Totals.{count_append, count_most, each_length, each_at}
 

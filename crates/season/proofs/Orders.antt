@@ -26,7 +26,7 @@ use Rattle.verdict.proofs.Reorder.{perm_mem}
 use Rattle.verdict.proofs.Theorems.{verdict, best_unique, reordered}
 use Rattle.verdict_order.proofs.Permutations.{perm_length, perm_filter_map}
 use Rattle.verdict_request.specs.Calls.{decided_by}
-use Rattle.verdict_request.specs.declared.PathAnswer.{PathAnswer}
+use Rattle.verdict_request.specs.PathAnswer.{PathAnswer}
 use Rattle.request_log.specs.Request.{request_of}
 use Rattle.request_log.specs.Log.{check_log, before, requests_of, log_of}
 use Rattle.season.specs.Report.{answer_to, decides, permitted, denied_by_rule, denied_by_default, count, rule_count, cell, row, grid, figures}

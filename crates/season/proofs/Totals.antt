@@ -20,8 +20,8 @@ use Rattle.verdict.specs.Verdict.{Request, decider}
 use Rattle.verdict.specs.Laws.{Decided}
 use Rattle.verdict.proofs.Theorems.{verdict}
 use Rattle.verdict_request.specs.Calls.{decided_by}
-use Rattle.verdict_request.specs.declared.PathAnswer.{PathAnswer}
-use Rattle.verdict_request.specs.declared.PathAnswer.TheVariants.{Permit, Deny, Default}
+use Rattle.verdict_request.specs.PathAnswer.{PathAnswer}
+use Rattle.verdict_request.specs.PathAnswer.{Permit, Deny, Default}
 use Rattle.season.specs.Report.{answer_to, decides, permitted, denied_by_rule, denied_by_default, count, for_each, rule_count, rule_counts, cell, row, grid}
 use Rattle.season.specs.Total.{total}
 

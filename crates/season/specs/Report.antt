@@ -7,8 +7,8 @@ use Rattle.text_make.specs.Decimal.{decimal}
 use Rattle.table.specs.Table.{Table}
 use Rattle.verdict.specs.Verdict.{Request, decider}
 use Rattle.verdict_request.specs.Calls.{decided_by}
-use Rattle.verdict_request.specs.declared.PathAnswer.{PathAnswer}
-use Rattle.verdict_request.specs.declared.PathAnswer.TheVariants.{Permit, Deny, Default, Refused}
+use Rattle.verdict_request.specs.PathAnswer.{PathAnswer}
+use Rattle.verdict_request.specs.PathAnswer.{Permit, Deny, Default, Refused}
 
 -- ---- the single-path verdicts
 

@@ -2,18 +2,16 @@
 use Prim.Native.Nat.{ℕ, zero, suc, ◌≤◌}
 use native.Mathlib.Omega.{arith}
 use mathlib.Core.Path.{◌≡◌, refl, ap, subst}
+use mathlib.Core.Bool.{Bool}
 use mathlib.Core.List.{List, [], ◌++◌}
 use lib.ListN.{length, take, get_or, replicate}
 use Rattle.limits.specs.Limits.{max_rules}
 use Rattle.text.specs.Test.{only}
 use Rattle.text.specs.String.{Str, joined}
 use Rattle.table.specs.Text.{check, table_of}
-use Rattle.table.specs.declared.Checked.{Checked}
 use Rattle.table.specs.declared.Checked.TheVariants as checked
-use Rattle.table_load.specs.declared.row.Counts.{Counts}
-use Rattle.table_load.specs.declared.Loaded.{Loaded}
-use Rattle.table_load.specs.declared.Loaded.TheVariants as loaded
-use Rattle.table_load.specs.Loaded.{Kept}
+use Rattle.table_load.specs.declared.loaded.Table.{Table as Loaded}
+use Rattle.table_load.specs.Loaded.{Kept, bytes}
 use Rattle.table_check.proofs.Calls.{count_requires, grouped}
 use Rattle.verdict.specs.Verdict.{Request}
 use Rattle.table.specs.Table.{Table}
@@ -28,23 +26,22 @@ use Rattle.season_count.specs.Loaded.{Sound, Is, Remembered}
 use Rattle.season_count.specs.Counting.{CountsOf, Counts-lines}
 use Rattle.season_count.specs.declared.lines.Ended.{Ended}
 use Rattle.season_count.specs.declared.lines.Ended.TheVariants as ended
-use Rattle.season_call.specs.Refused.{refused_by}
 use Rattle.season_call.specs.Counted.{CountedLog, CountsLog}
 use Rattle.season_call.specs.Written.{cells_in, hands_out, left_in}
 
 -- ---- a loaded table
 
-module _ {text buf : List ℕ} {u : ℕ} {c : Counts} {groups users owners starts holders : List ℕ} (K : Kept text buf u c groups users owners starts holders) where
-  pub sound : Sound (take u buf) users owners c.members starts holders c.rules
+module _ {text : List ℕ} {t : Loaded} (K : Kept text t) where
+  pub sound : Sound (bytes t) t.users t.owners t.counts.members t.starts t.holders t.counts.rules
   sound = record { members = count_requires K; rules = safe K }
 
-  pub is_table : Is (take u buf) users owners c.members starts holders c.rules (table_of text)
+  pub is_table : Is (bytes t) t.users t.owners t.counts.members t.starts t.holders t.counts.rules (table_of text)
   is_table = record { holding = holding K; groups = grouped K }
 
 -- ---- a whole log
 
 module _ (f users owners : List ℕ) (m : ℕ) (starts holders : List ℕ) (n : ℕ) (log : Str) (counts : List ℕ) (cells : List (List ℕ))
-    (key on counts' : List ℕ) (cells' : List (List ℕ)) where
+    (key : List ℕ) (on : List Bool) (counts' : List ℕ) (cells' : List (List ℕ)) where
   pub whole_log : (e : Ended) → Counts-lines f users owners m starts holders n log 0 counts cells key on counts' cells' e
       → CountsLog f users owners m starts holders n log counts cells counts' cells' e
   unfolding Counts-lines CountsLog check_log log_of
@@ -88,12 +85,7 @@ module _ (table log out : Str) where
       unfolding season_answer season_lent fault first_fault report_of
       reported r out' e w = (rw (a, b, report_is (table_of table) (log_of log) counts cells c) e, rw (a, b, report_is (table_of table) (log_of log) counts cells c) w)
 
-module _ (l : Loaded) (n k : ℕ) (e : l ≡ loaded.Refused n k) where
-  pub refused_as : refused_by l ≡ Refused n k
-  unfolding refused_by
-  refused_as = rw e
-
-pub nothing_remembered : (f users owners : List ℕ) (m : ℕ) (starts holders : List ℕ) (n : ℕ) (key on : List ℕ) → n ≤ length on → Remembered f users owners m starts holders n key 0 on
+pub nothing_remembered : (f users owners : List ℕ) (m : ℕ) (starts holders : List ℕ) (n : ℕ) (key : List ℕ) (on : List Bool) → n ≤ length on → Remembered f users owners m starts holders n key 0 on
 nothing_remembered f users owners m starts holders n key on h = record { within = omega arith; marks = h; head = λ l. absurd (omega arith) }
 
 -- ---- before the first line

@@ -1,7 +1,6 @@
 -- What the programs that make the text of a report answer.
-use Rattle.std.specs.Prelude.{ℕ, ◌*◌, ◌≤◌, List, [], ◌∷◌, length}
+use Rattle.std.specs.Prelude.{ℕ, List, [], ◌∷◌}
 use Rattle.text.specs.String.{joined}
-use Rattle.text_make.specs.Added.{Added}
 use Rattle.table.specs.declared.Checked.TheVariants.{Accepted}
 use Rattle.season.specs.Report.{figure_line}
 use Rattle.season.specs.Calls.{answered, stored}
@@ -11,11 +10,6 @@ use Rattle.season_count.specs.Counts.{cell_of}
 -- room for the line of any number of 64 bits
 abbrev pub line_room : ℕ
 line_room = 21
-
--- these figures were written, a line for each
-pub record FiguresWritten (d figures d' : List ℕ) (end : ℕ) : Type 0 where
-  pub added : Added d 0 (joined figure_line figures) d' end
-  pub short : end ≤ length figures * line_room
 
 -- the six cells, row after row
 abbrev pub cells_in : List (List ℕ) → List ℕ

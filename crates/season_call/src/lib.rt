@@ -6,26 +6,12 @@ ghost use Rattle.season.specs.Calls.{season_answer, season_lent};
 ghost use Rattle.season_count.specs.Counts.{UpTo};
 ghost use Rattle.season_count.specs.Loaded.{Sound};
 ghost use Rattle.season_call.specs.Counted.{CountsLog};
-ghost use Rattle.season_call.specs.Refused.{refused_by};
 
 use season::Reported;
 use season_count::lines::Ended;
-use table_load::Loaded;
+use table_load::Table;
 
 pub mod written;
-
-// A table's own refusal.
-fn refused(l: Loaded) -> Reported
-    ensures { result ≡ refused_by l }
-{
-    let Loaded::Refused { number, line } = l else {
-        return Reported::Length(0);
-    };
-    Reported::Refused {
-        number: number,
-        line: line,
-    }
-}
 
 // Counts the lines of a whole log. The others are those of `season_count::heading::judge`.
 fn count_log(
@@ -46,7 +32,7 @@ fn count_log(
 {
     let mut line = [0u8; limits::MAX_LOG_FRAME];
     let mut key = [0u8; limits::MAX_HEADING];
-    let mut on = [0u8; limits::MAX_RULES];
+    let mut on = [false; limits::MAX_RULES];
     season_count::lines::count_lines(
         f, users, owners, m, starts, holders, n, log, 0, &mut line, &mut key, 0, &mut on, counts,
         grid,
@@ -58,40 +44,30 @@ pub fn season_report(table: &[u8], log: &[u8], out: &mut [u8]) -> Reported
     ensures value { result ≡ season_answer table.now log.now out.old }
     ensures out_after { out.new ≡ season_lent table.now log.now out.old }
 {
-    let mut buf = [0u8; limits::MAX_TABLE_BYTES];
-    let mut groups = [0u16; limits::MAX_GROUPS];
-    let mut users = [0u16; limits::MAX_MEMBERS];
-    let mut owners = [0u8; limits::MAX_MEMBERS];
-    let mut starts = [0u16; limits::MAX_RULES];
-    let mut holders = [0u8; limits::MAX_RULES];
-    let l = table_load::load(
-        table,
-        &mut buf,
-        &mut groups,
-        &mut users,
-        &mut owners,
-        &mut starts,
-        &mut holders,
-    );
-    let Loaded::Table { used, counts: rows } = l else {
-        return refused(l);
-    };
+    let mut loaded = Table::new();
+    if let Err(fault) = table_load::load(table, &mut loaded) {
+        return Reported::Refused {
+            number: fault.refusal.number(),
+            line: fault.line,
+        };
+    }
+    let rows = loaded.counts;
     let mut counts = [0u64; limits::MAX_RULES];
     let mut grid = [[0u64; 3]; 2];
     let e = count_log(
-        &buf[..used],
-        &users,
-        &owners,
+        loaded.bytes(),
+        &loaded.users,
+        &loaded.owners,
         rows.members,
-        &starts,
-        &holders,
+        &loaded.starts,
+        &loaded.holders,
         rows.rules,
         log,
         &mut counts,
         &mut grid,
     );
     let Ended::Refused { number, line } = e else {
-        return crate::written::hand_out(&counts, grid, out);
+        return crate::written::hand_out(&counts, &grid, out);
     };
     Reported::Refused {
         number: number,

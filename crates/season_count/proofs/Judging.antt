@@ -1,10 +1,11 @@
 -- The answer to a frame whose heading and path are good.
+use mathlib.Core.Bool.{Bool}
 use Prim.Native.Nat.{ℕ, ◌≤◌, ◌<◌}
 use native.Mathlib.Omega.{arith}
 use mathlib.Core.Path.{◌≡◌, refl, ap, ◌∙◌}
 use mathlib.Core.Bool.{true, false}
 use mathlib.Core.List.{List}
-use mathlib.Core.Option.{none}
+use mathlib.Core.Option.{Option, none, some}
 use lib.ListN.{length, get_or}
 use Rattle.limits.specs.Limits.{max_rules}
 use Rattle.text.specs.Test.{whether◌then◌else◌}
@@ -13,13 +14,15 @@ use Rattle.text.proofs.Tests.{by}
 use Rattle.path.specs.Path.{Path}
 use Rattle.path.specs.Bytes.{path}
 use Rattle.path.specs.Walk.{is_path_in}
-use Rattle.table_rows.specs.Rules.{rule_in}
+use Rattle.table_rows.specs.Rules.{rules_in}
 use Rattle.table_place.specs.Place.{path_end, path_in}
 use Rattle.table_place.proofs.Reading.{path_read}
-use Rattle.verdict_judge.specs.Best.{lacks, held, NumberBelow, BestMarked}
-use Rattle.verdict_judge.specs.declared.best.Best.{Best}
+use Rattle.table.specs.Table.{Rule}
+use Rattle.verdict.specs.Order.{better, Numbered, choose}
+use Rattle.verdict_judge.specs.Rules.{Marked}
+use Rattle.verdict_judge.specs.Best.{NumberBelow, matching}
 use Rattle.verdict_request.specs.Calls.{decided_by}
-use Rattle.verdict_request.specs.declared.PathAnswer.{PathAnswer}
+use Rattle.verdict_request.specs.PathAnswer.{PathAnswer}
 use Rattle.verdict_call.proofs.Found.{found}
 use Rattle.request_log.specs.Request.{good_request}
 use Rattle.request_log.proofs.Headings.{no_path_there, head_mode, bad_path, good_path_lem, with_path}
@@ -39,34 +42,34 @@ path_ends f at y = path_within f at (path f at) refl y
 
 -- ---- the rule that decided has a place
 
-decided_placed : (f : List ℕ) (b : Best) (n : ℕ) → NumberBelow n b → n ≤ max_rules → Placed (decided_by (held f b))
-unfolding Placed decided_by held whether◌then◌else◌
-decided_placed f b n l h =
-    by (lacks b)
-    (λ e. rw e tt)
-    (λ e. let k : b.number.0 < max_rules = omega (arith, l e) in rw e (by (rule_in f b.at).permit (λ p. rw p k) (λ p. rw p k)))
+decided_placed : (x : Option Numbered) (n : ℕ) → NumberBelow n x → n ≤ max_rules → Placed (decided_by x)
+unfolding Placed decided_by whether◌then◌else◌
+decided_placed none n l h = tt
+decided_placed (some m) n l h =
+    let k : m.number < max_rules = omega (arith, l m refl) in by m.rule.permit (λ p. rw p k) (λ p. rw p k)
 
 -- ---- the answer
 
-module _ {f users owners : List ℕ} {m : ℕ} {starts holders : List ℕ} {n : ℕ} {frame key on : List ℕ} {r : ℕ}
+module _ {f users owners : List ℕ} {m : ℕ} {starts holders : List ℕ} {n : ℕ} {frame key : List ℕ} {on : List Bool} {r : ℕ}
     (H : Headed f users owners m starts holders n frame key on r) (l : 0 < r) where
   pub bad_end : is_path_in frame (path frame r) ≡ false → good_request frame ≡ none
   bad_end y = let h = H.good l in bad_path frame h.0 r h.1 h.2 y
 
-  pub answered : is_path_in frame (path frame r) ≡ true → n ≤ max_rules → (b : Best) → BestMarked f starts on n (path_in frame r) b
-      → (a : PathAnswer) → a ≡ decided_by (held f b) → Answers f users owners m starts holders n frame key r on a
+  pub answered : is_path_in frame (path frame r) ≡ true → n ≤ max_rules → (x : Option Numbered) → NumberBelow n x
+      → ((app : Rule → Bool) → Marked app f starts on n → x ≡ choose better (matching app (path_in frame r)) 0 (rules_in f starts n 0))
+      → (a : PathAnswer) → a ≡ decided_by x → Answers f users owners m starts holders n frame key r on a
   unfolding answer_to
-  answered y few b best a e =
+  answered y few x below best a e =
       let h = H.good l in
       let mode : h.0.mode ≡ get_or frame 0 0 = head_mode frame h.0 r h.1 in
       record {
         kept = H.kept;
-        placed = rw e (decided_placed f b n best.numbered few);
+        placed = rw e (decided_placed x n below few);
         mode = rw mode at (good_mode h.0 h.2);
         request = with_path h.0 (path_in frame r);
         good = good_path_lem frame h.0 r h.1 h.2 y;
         same_mode = mode;
         answer =
             λ t is. e ∙ ap decided_by (found t f starts holders n is.holding h.0.user _ (is.groups h.0.user) h.0.mode h.0.origin
-            (path_in frame r) on h.3 b best.best);
+            (path_in frame r) on h.3 x best);
       }

@@ -1,4 +1,5 @@
 -- One line counted: what was decoded is its frame, and what was judged is its request.
+use mathlib.Core.Bool.{Bool}
 use Prim.Native.Nat.{ℕ, ◌+◌, ◌≤◌, ◌<◌}
 use native.Mathlib.Omega.{arith}
 use mathlib.Core.Path.{◌≡◌, sym, ap, ◌∙◌, subst}
@@ -14,7 +15,9 @@ use Rattle.table_line.specs.Lines.{lines}
 use Rattle.table_line.specs.Decoding.{digits}
 use Rattle.table_line.proofs.Digits.{digits_half}
 use Rattle.table_line.proofs.FirstLine.{Read}
-use Rattle.verdict_request.specs.declared.PathAnswer.{PathAnswer}
+use Rattle.verdict_request.specs.PathAnswer.{PathAnswer}
+use Rattle.verdict_request.specs.declared.PathAnswer as given
+use Rattle.verdict_request.specs.Answers.{on_path}
 use Rattle.request_log.specs.Request.{good_request, request_of}
 use Rattle.season_count.specs.Counts.{raised_by, cell_raised_by}
 use Rattle.season_count.specs.Loaded.{Answers, Judges}
@@ -26,12 +29,12 @@ use Rattle.season_count.proofs.Windows.{line_room_lem, next_within, first_line_l
 
 -- ---- what `judge` tells
 
-module _ (f users owners : List ℕ) (m : ℕ) (starts holders : List ℕ) (n : ℕ) (frame key on : List ℕ) (j : Judged) (J : Judges f users owners m starts holders n frame key on j) where
+module _ (f users owners : List ℕ) (m : ℕ) (starts holders : List ℕ) (n : ℕ) (frame key : List ℕ) (on : List Bool) (j : Judged) (J : Judges f users owners m starts holders n frame key on j) where
   pub judged_bad : j ≡ Bad → good_request frame ≡ none
   unfolding Judges
   judged_bad e = subst (λ (x : Judged). Judges f users owners m starts holders n frame key on x) e J
 
-  pub judged_answer : (len : ℕ) (a : PathAnswer) → j ≡ Answer len a → Answers f users owners m starts holders n frame key len on a
+  pub judged_answer : (len : ℕ) (a : given.PathAnswer) → j ≡ Answer len a → Answers f users owners m starts holders n frame key len on (on_path a)
   unfolding Judges
   judged_answer len a e = subst (λ (x : Judged). Judges f users owners m starts holders n frame key on x) e J
 
@@ -70,7 +73,7 @@ module _ (text : Str) (from to : ℕ) (h : from < length text) (r : Reaches from
     pub first_of : get_or line' 0 0 ≡ get_or (take len line') 0 0
     first_of = sym (get_or-take len line' 0 0 g.some')
 
-    module _ (f users owners : List ℕ) (m : ℕ) (starts holders : List ℕ) (n : ℕ) (key : List ℕ) (path : ℕ) (on : List ℕ) (a : PathAnswer)
+    module _ (f users owners : List ℕ) (m : ℕ) (starts holders : List ℕ) (n : ℕ) (key : List ℕ) (path : ℕ) (on : List Bool) (a : PathAnswer)
         (A : Answers f users owners m starts holders n (take len line') key path on a) where
       pub mode_fits : (1 ≤ get_or line' 0 0) × (get_or line' 0 0 ≤ 2)
       mode_fits = rw first_of A.mode

@@ -1,4 +1,5 @@
 -- Counting line after line: what the loop keeps.
+use mathlib.Core.Bool.{Bool}
 use Prim.Native.Nat.{ℕ, ◌+◌, ◌≤◌, ◌<◌}
 use native.Mathlib.Nat.{add-zero}
 use native.Mathlib.Omega.{arith}
@@ -67,7 +68,7 @@ no_lines = refl
 
 module _ (f users owners : List ℕ) (m : ℕ) (starts holders : List ℕ) (n : ℕ) (text : Str) (first : ℕ) (counts : List ℕ) (cells : List (List ℕ)) where
   -- what is said of a step, by its answer
-  module _ (from : ℕ) (key on counts' : List ℕ) (cells' : List (List ℕ)) (s : Step)
+  module _ (from : ℕ) (key : List ℕ) (on : List Bool) (counts' : List ℕ) (cells' : List (List ℕ)) (s : Step)
       (S : Counts-line f users owners m starts holders n text from counts cells key on counts' cells' s) where
     pub step_bad : s ≡ Bad → BadLine text from
     unfolding Counts-line
@@ -77,7 +78,7 @@ module _ (f users owners : List ℕ) (m : ℕ) (starts holders : List ℕ) (n : 
     unfolding Counts-line
     step_to next len e = subst (λ (x : Step). Counts-line f users owners m starts holders n text from counts cells key on counts' cells' x) e S
 
-  pub record Going (all from : ℕ) (key : List ℕ) (len : ℕ) (on counts' : List ℕ) (cells' : List (List ℕ)) : Type 0 where
+  pub record Going (all from : ℕ) (key : List ℕ) (len : ℕ) (on : List Bool) (counts' : List ℕ) (cells' : List (List ℕ)) : Type 0 where
     pub done : List Str
     pub split : lines text ≡ done ++ lines (drop from text)
     pub judged : judge_log (first + 1) (lines text) ≡ judge_log (all + 1) (lines (drop from text))
@@ -89,7 +90,7 @@ module _ (f users owners : List ℕ) (m : ℕ) (starts holders : List ℕ) (n : 
     pub counts_are : (t : Table) → Is f users owners m starts holders n t → (qs : List Request) → CountsOf t qs counts cells
         → CountsOf t (qs ++ requests_of done) counts' cells'
 
-  pub going_starts : {key : List ℕ} {len : ℕ} {on : List ℕ} → first ≤ max_log_lines → UpTo first counts cells → Remembered f users owners m starts holders n key len on
+  pub going_starts : {key : List ℕ} {len : ℕ} {on : List Bool} → first ≤ max_log_lines → UpTo first counts cells → Remembered f users owners m starts holders n key len on
       → Going first 0 key len on counts cells
   going_starts few low kept =
       record {
@@ -104,7 +105,7 @@ module _ (f users owners : List ℕ) (m : ℕ) (starts holders : List ℕ) (n : 
         counts_are = λ t is qs c. rw (requests_none, append-nil qs) c;
       }
 
-  module _ {all from : ℕ} {key : List ℕ} {len : ℕ} {on counts' : List ℕ} {cells' : List (List ℕ)} (G : Going all from key len on counts' cells') where
+  module _ {all from : ℕ} {key : List ℕ} {len : ℕ} {on : List Bool} {counts' : List ℕ} {cells' : List (List ℕ)} (G : Going all from key len on counts' cells') where
     pub going_over : from < length text → max_log_lines ≤ all → judge_log (first + 1) (lines text) ≡ Refused 50 0
     going_over h l =
         let c = lines_cons (drop from text) (omega (arith, length-drop from text)) in
@@ -113,7 +114,7 @@ module _ (f users owners : List ℕ) (m : ℕ) (starts holders : List ℕ) (n : 
     pub going_bad : all < max_log_lines → BadLine text from → judge_log (first + 1) (lines text) ≡ Refused 51 (all + 1)
     going_bad l b = G.judged ∙ ap (judge_log (all + 1)) b.first ∙ judge_bad (all + 1) b.line b.others (omega arith) b.bad
 
-    pub going_on : all < max_log_lines → {next : ℕ} {key'' : List ℕ} {len'' : ℕ} {on'' counts'' : List ℕ} {cells'' : List (List ℕ)}
+    pub going_on : all < max_log_lines → {next : ℕ} {key'' : List ℕ} {len'' : ℕ} {on'' : List Bool} {counts'' : List ℕ} {cells'' : List (List ℕ)}
         → CountedLine f users owners m starts holders n text from counts' cells' next key'' len'' on'' counts'' cells'' → Going (all + 1) next key'' len'' on'' counts'' cells''
     going_on l {next} S =
         record {

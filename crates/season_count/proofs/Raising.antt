@@ -15,8 +15,8 @@ use Rattle.text.specs.Test.{◌and◌, whether◌then◌else◌, only}
 use Rattle.text.proofs.Tests.{by}
 use Rattle.table.specs.Table.{Table}
 use Rattle.verdict.specs.Verdict.{Request}
-use Rattle.verdict_request.specs.declared.PathAnswer.{PathAnswer}
-use Rattle.verdict_request.specs.declared.PathAnswer.TheVariants.{Permit, Deny, Default, Refused}
+use Rattle.verdict_request.specs.PathAnswer.{PathAnswer}
+use Rattle.verdict_request.specs.PathAnswer.{Permit, Deny, Default, Refused}
 use Rattle.season.specs.Report.{answer_to, decides, permitted, denied_by_rule, denied_by_default, count, for_each, rule_count, rule_counts, cell, row, grid}
 use Rattle.season_count.specs.Counts.{raised, cell_of, cell_raised, raised_by, column_of, cell_raised_by, Placed, UpTo}
 

@@ -1,4 +1,5 @@
 -- A run of lines with one heading: the heading that is remembered, and what it tells of a frame.
+use mathlib.Core.Bool.{Bool}
 use Prim.Native.Nat.{ℕ, ◌+◌, ◌≤◌, ◌<◌}
 use native.Mathlib.Omega.{arith}
 use borrow.Author.Tests.{ltb-true}
@@ -46,13 +47,13 @@ module _ {frame : List ℕ} {number o p : ℕ} (a : HeadAt frame number o p) (c 
 
 module _ {f users owners : List ℕ} {m : ℕ} {starts holders : List ℕ} {n : ℕ} where
   -- the frame has no good heading, and none is remembered any more
-  pub forgotten : {key on : List ℕ} {len : ℕ} → Remembered f users owners m starts holders n key len on → (frame : List ℕ) → good_request frame ≡ none
+  pub forgotten : {key : List ℕ} {on : List Bool} {len : ℕ} → Remembered f users owners m starts holders n key len on → (frame : List ℕ) → good_request frame ≡ none
       → Headed f users owners m starts holders n frame key on 0
   forgotten k frame e =
       record { kept = record { within = omega arith; marks = k.marks; head = λ l. absurd (omega arith) }; bad = λ z. e; good = λ l. absurd (omega arith) }
 
   -- the frame has the heading that is remembered
-  module _ {key on : List ℕ} {len : ℕ} (k : Remembered f users owners m starts holders n key len on) (frame : List ℕ)
+  module _ {key : List ℕ} {on : List Bool} {len : ℕ} (k : Remembered f users owners m starts holders n key len on) (frame : List ℕ)
       (e : (ltb 0 (length (take len key)) and begins (take len key) frame) ≡ true) where
     front_long : length (take len key) ≡ len
     front_long = length-take-le len key k.within
@@ -75,7 +76,7 @@ module _ {f users owners : List ℕ} {m : ℕ} {starts holders : List ℕ} {n : 
 
 -- the other heading is remembered now
 module _ (f users owners : List ℕ) (m : ℕ) (starts holders : List ℕ) (n : ℕ) {frame : List ℕ} {number o p : ℕ} (a : HeadAt frame number o p) (c : number ≡ clear) where
-  pub turned : (key key' on' : List ℕ) → n ≤ length on' → key' ≡ put key 0 (take p frame) → (set : ℕ)
+  pub turned : (key key' : List ℕ) (on' : List Bool) → n ≤ length on' → key' ≡ put key 0 (take p frame) → (set : ℕ)
       → set ≡ set_in (part frame 2 o) f users owners m 0 0
       → Applying f starts holders n set (part frame 2 o) (get_or frame 0 0) (part frame (o + 1) p) on'
       → Headed f users owners m starts holders n frame key' on' p

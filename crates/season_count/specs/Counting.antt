@@ -1,5 +1,5 @@
 -- What counting the lines of a log answers, and leaves in the arrays.
-use Rattle.std.specs.Prelude.{ℕ, ◌+◌, ◌≤◌, ◌<◌, ◌≡◌, ◌⊎◌, List, [], ◌∷◌, ◌++◌, length, drop}
+use Rattle.std.specs.Prelude.{Bool, ℕ, ◌+◌, ◌≤◌, ◌<◌, ◌≡◌, ◌⊎◌, List, [], ◌∷◌, ◌++◌, length, drop}
 use Rattle.std.proofs.Math.Option.{none, some}
 use Rattle.limits.specs.Limits.{max_log_lines}
 use Rattle.limits.specs.Sizes.{max_log_line}
@@ -40,11 +40,11 @@ module _ (f users owners : List ℕ) (m : ℕ) (starts holders : List ℕ) (n : 
   abbrev IsTable : Table → Type 0
   IsTable t = Is f users owners m starts holders n t
 
-  abbrev Remembers : List ℕ → ℕ → List ℕ → Type 0
+  abbrev Remembers : List ℕ → ℕ → List Bool → Type 0
   Remembers key len on = Remembered f users owners m starts holders n key len on
 
   -- it was counted, and the next line starts at `next`
-  pub record CountedLine (text : Str) (from : ℕ) (counts : List ℕ) (cells : List (List ℕ)) (next : ℕ) (key : List ℕ) (len : ℕ) (on : List ℕ)
+  pub record CountedLine (text : Str) (from : ℕ) (counts : List ℕ) (cells : List (List ℕ)) (next : ℕ) (key : List ℕ) (len : ℕ) (on : List Bool)
       (counts' : List ℕ) (cells' : List (List ℕ)) : Type 0 where
     pub line : Str
     pub request : Request
@@ -55,12 +55,12 @@ module _ (f users owners : List ℕ) (m : ℕ) (starts holders : List ℕ) (n : 
     pub kept : Remembers key len on
     pub counts_are : (t : Table) → IsTable t → (qs : List Request) → CountsOf t qs counts cells → CountsOf t (qs ++ (request ∷ [])) counts' cells'
 
-  unfoldable pub Counts-line : Str → ℕ → List ℕ → List (List ℕ) → List ℕ → List ℕ → List ℕ → List (List ℕ) → Step → Type 0
+  unfoldable pub Counts-line : Str → ℕ → List ℕ → List (List ℕ) → List ℕ → List Bool → List ℕ → List (List ℕ) → Step → Type 0
   Counts-line text from counts cells key on counts' cells' (step.To next len) = CountedLine text from counts cells next key len on counts' cells'
   Counts-line text from counts cells key on counts' cells' step.Bad = BadLine text from
 
   -- all lines of the text were counted, after `before` lines, and there are `all` now
-  pub record CountedLines (text : Str) (before : ℕ) (counts : List ℕ) (cells : List (List ℕ)) (all : ℕ) (key : List ℕ) (len : ℕ) (on : List ℕ)
+  pub record CountedLines (text : Str) (before : ℕ) (counts : List ℕ) (cells : List (List ℕ)) (all : ℕ) (key : List ℕ) (len : ℕ) (on : List Bool)
       (counts' : List ℕ) (cells' : List (List ℕ)) : Type 0 where
     pub accepted : judge_log (before + 1) (lines text) ≡ checked.Accepted
     pub all_lines : all ≡ before + length (lines text)
@@ -69,6 +69,6 @@ module _ (f users owners : List ℕ) (m : ℕ) (starts holders : List ℕ) (n : 
     pub kept : Remembers key len on
     pub counts_are : (t : Table) → IsTable t → (qs : List Request) → CountsOf t qs counts cells → CountsOf t (qs ++ requests_of (lines text)) counts' cells'
 
-  unfoldable pub Counts-lines : Str → ℕ → List ℕ → List (List ℕ) → List ℕ → List ℕ → List ℕ → List (List ℕ) → Ended → Type 0
+  unfoldable pub Counts-lines : Str → ℕ → List ℕ → List (List ℕ) → List ℕ → List Bool → List ℕ → List (List ℕ) → Ended → Type 0
   Counts-lines text before counts cells key on counts' cells' (ended.Lines all len) = CountedLines text before counts cells all key len on counts' cells'
   Counts-lines text before counts cells key on counts' cells' (ended.Refused number line) = judge_log (before + 1) (lines text) ≡ checked.Refused number line

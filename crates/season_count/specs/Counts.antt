@@ -1,8 +1,8 @@
 -- What counting one answer does to the arrays of a report.
 use Rattle.std.specs.Prelude.{ℕ, ◌+◌, ◌-◌, ◌≤◌, ◌<◌, List, [], get_or, set}
 use Rattle.limits.specs.Limits.{max_rules}
-use Rattle.verdict_request.specs.declared.PathAnswer.{PathAnswer}
-use Rattle.verdict_request.specs.declared.PathAnswer.TheVariants.{Permit, Deny, Default, Refused}
+use Rattle.verdict_request.specs.PathAnswer.{PathAnswer}
+use Rattle.verdict_request.specs.PathAnswer.{Permit, Deny, Default, Refused}
 
 -- one place raised
 abbrev pub raised : List ℕ → ℕ → List ℕ

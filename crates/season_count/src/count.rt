@@ -2,6 +2,7 @@
 ghost use Rattle.std.specs.Prelude.{◌≡◌, get_or};
 ghost use Prim.Native.Nat.{◌≤◌, ◌<◌};
 ghost use Rattle.limits.specs.Limits.{max_rules, max_log_lines};
+ghost use Rattle.verdict_request.specs.Answers.{on_path};
 ghost use Rattle.season_count.specs.Counts.{raised, cell_of, raised_by, column_of, cell_raised_by, Placed};
 
 use table::RuleNumber;
@@ -18,36 +19,30 @@ fn raise(counts: &mut [u64; limits::MAX_RULES], rule: RuleNumber)
 
 // The place of the rule that decided is raised, if one did.
 pub fn count_rule(counts: &mut [u64; limits::MAX_RULES], a: PathAnswer)
-    requires { Placed a × ((i : Prim.Native.Nat.ℕ) → get_or counts.old i 0 ≤ max_log_lines) }
-    ensures { counts.new ≡ raised_by counts.old a }
+    requires { Placed (on_path a) × ((i : Prim.Native.Nat.ℕ) → get_or counts.old i 0 ≤ max_log_lines) }
+    ensures { counts.new ≡ raised_by counts.old (on_path a) }
 {
     match a {
-        PathAnswer::Permit(rule) => {
-            raise(counts, rule);
-        }
-        PathAnswer::Deny(rule) => {
-            raise(counts, rule);
-        }
+        PathAnswer::Permit(rule) => raise(counts, rule),
+        PathAnswer::Deny(rule) => raise(counts, rule),
         PathAnswer::Default => {}
-        PathAnswer::Refused { number, line } => {}
     }
 }
 
 fn column(a: PathAnswer) -> usize
-    ensures { result ≡ column_of a }
+    ensures { result ≡ column_of (on_path a) }
 {
     match a {
         PathAnswer::Permit(rule) => 0,
         PathAnswer::Deny(rule) => 1,
         PathAnswer::Default => 2,
-        PathAnswer::Refused { number, line } => 2,
     }
 }
 
 // One cell is raised, in the row of the mode.
 pub fn count_cell(grid: &mut [[u64; 3]; 2], mode: u8, a: PathAnswer)
     requires { (1 ≤ mode) × (mode ≤ 2) × ((r c : Prim.Native.Nat.ℕ) → cell_of grid.old r c ≤ max_log_lines) }
-    ensures { grid.new ≡ cell_raised_by grid.old mode a }
+    ensures { grid.new ≡ cell_raised_by grid.old mode (on_path a) }
 {
     let row = mode as usize - 1;
     let place = column(a);

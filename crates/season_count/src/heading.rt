@@ -6,7 +6,9 @@ ghost use Rattle.text.specs.Test.{◌and◌};
 ghost use Rattle.text_affix.specs.Affix.{begins};
 ghost use Rattle.season_count.specs.Loaded.{Sound, Remembered, Headed, Judges};
 
-use request_log::Heading;
+use verdict_compare::place::Elements;
+use verdict_concern::Asker;
+use verdict_judge::rules::Rules;
 use verdict_request::PathAnswer;
 
 #[derive(Clone, Copy)]
@@ -39,7 +41,7 @@ fn turn_to(
     frame: &[u8],
     key: &mut [u8],
     len: usize,
-    on: &mut [u8],
+    on: &mut [bool],
 ) -> usize
     requires { Sound f.now users.now owners.now m starts.now holders.now n
         × Remembered f.now users.now owners.now m starts.now holders.now n key.old len on.old × (max_heading ≤ length key.old) }
@@ -50,32 +52,29 @@ fn turn_to(
     if is_remembered(frame, &key[..len]) {
         return len;
     }
-    let h = request_log::read_heading(frame);
-    let Heading::At {
-        number,
-        origin,
-        path,
-    } = h
-    else {
+    let Some(heading) = request_log::read_heading(frame) else {
         return 0;
     };
-    if number != limits::CLEAR {
+    if heading.refusal.is_err() {
         return 0;
     }
+    let origin = heading.origin;
+    let path = heading.path;
     let start = origin + 1;
     let user = &frame[2..origin];
-    let set = table_membership::memberships(f, users, owners, m, user);
-    verdict_concern::mark(
-        f,
+    let asker = Asker {
+        user,
+        set: table_membership::memberships(f, users, owners, m, user),
+        mode: frame[0] as u32,
+        origin: &frame[start..path],
+    };
+    let rules = Rules {
+        bytes: f,
         starts,
         holders,
-        n,
-        set,
-        user,
-        frame[0] as u32,
-        &frame[start..path],
-        on,
-    );
+        count: n,
+    };
+    asker.mark(rules, on);
     text::fill::copy(&frame[..path], key, 0);
     path
 }
@@ -92,7 +91,7 @@ pub fn judge(
     frame: &[u8],
     key: &mut [u8],
     len: usize,
-    on: &mut [u8],
+    on: &mut [bool],
 ) -> Judged
     requires { Sound f.now users.now owners.now m starts.now holders.now n
         × Remembered f.now users.now owners.now m starts.now holders.now n key.old len on.old × (max_heading ≤ length key.old) }
@@ -107,11 +106,15 @@ pub fn judge(
     if !path_frame::is_path_from(frame, path) {
         return Judged::Bad;
     }
-    let k = frame[path] as usize;
-    let b = verdict_judge::decide::decide(f, starts, on, n, frame, path + 1, k);
-    let answer = verdict_request::answer::decided(f, b);
+    let rules = Rules {
+        bytes: f,
+        starts,
+        holders,
+        count: n,
+    };
+    let found = verdict_judge::decide::decide(rules, on, Elements::read(frame, path));
     Judged::Answer {
         len: path,
-        answer: answer,
+        answer: verdict_request::answer::decided(found),
     }
 }

@@ -49,7 +49,7 @@ fn count_line(
     line: &mut [u8],
     key: &mut [u8],
     len: usize,
-    on: &mut [u8],
+    on: &mut [bool],
     counts: &mut [u64; limits::MAX_RULES],
     grid: &mut [[u64; 3]; 2],
 ) -> Step
@@ -61,8 +61,7 @@ fn count_line(
     ensures key_len_unchanged { (length key.new ≡ length key.old) × (length line.new ≡ length line.old) }
 {
     let to = reach(from, text.len());
-    let l = table_line::read_line(&text[..to], from, line, 0);
-    let Line::Frame { len: size, next } = l else {
+    let Some(Line { len: size, next }) = table_line::read_line(&text[..to], from, line, 0) else {
         return Step::Bad;
     };
     let j = crate::heading::judge(
@@ -103,7 +102,7 @@ pub fn count_lines(
     line: &mut [u8],
     key: &mut [u8],
     len: usize,
-    on: &mut [u8],
+    on: &mut [bool],
     counts: &mut [u64; limits::MAX_RULES],
     grid: &mut [[u64; 3]; 2],
 ) -> Ended

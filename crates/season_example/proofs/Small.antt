@@ -10,7 +10,7 @@ use Rattle.limits.specs.Limits.{max_log_lines}
 use Rattle.text.specs.Test.{all}
 use Rattle.text.proofs.Tests.{and_l, and_r}
 use Rattle.cli_season_rules.specs.Steps.{Few}
-use Rattle.cli_season.specs.Steps.{FewCells}
+use Rattle.season_parts.specs.Grid.{FewCells}
 
 pub few : (l : List ℕ) → all (λ n. leb n max_log_lines) l ≡ true → Few l
 unfolding all

@@ -1,4 +1,3 @@
-pub mod Repeated
-pub mod Lengths
 pub mod Tops
 pub mod Ranks
+pub mod Quotients

@@ -1,5 +1,6 @@
 -- The grid of modes and outcomes.
-use Rattle.std.specs.Prelude.{ℕ, ◌+◌, ◌≤◌, ◌++◌}
+use Rattle.std.specs.Prelude.{ℕ, ◌+◌, ◌≤◌, List, [], ◌++◌, get_or}
+use Rattle.limits.specs.Limits.{max_log_lines}
 use Rattle.text.specs.String.{Str, bytes}
 use Rattle.season_parts.specs.Columns.{column}
 
@@ -15,14 +16,18 @@ grid_lines a b c x y z =
 
 -- ---- for programs
 
+-- row r, column c
+abbrev pub cell : List (List ℕ) → ℕ → ℕ → ℕ
+cell grid r c = get_or (get_or grid r []) c 0
+
+-- no cell of the grid is more than a log has lines
+abbrev pub FewCells : List (List ℕ) → Type 0
+FewCells grid = (r c : ℕ) → cell grid r c ≤ max_log_lines
+
+-- the lines of a grid of two rows
+abbrev pub lines_of : List (List ℕ) → Str
+lines_of g = grid_lines (cell g 0 0) (cell g 0 1) (cell g 0 2) (cell g 1 0) (cell g 1 1) (cell g 1 2)
+
 -- the longest grid
 abbrev pub max_grid : ℕ
 max_grid = 322
-
-pub record AtMost (k a b c x y z : ℕ) : Type 0 where
-  pub a_small : a ≤ k
-  pub b_small : b ≤ k
-  pub c_small : c ≤ k
-  pub x_small : x ≤ k
-  pub y_small : y ≤ k
-  pub z_small : z ≤ k

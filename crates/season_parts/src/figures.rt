@@ -1,57 +1,47 @@
-// A count's share and its bar, made in a buffer.
-ghost use Rattle.std.specs.Prelude.{◌≡◌, ◌+◌, ◌≤◌, length};
+// A count's share and its bar.
+ghost use Rattle.std.specs.Prelude.{◌≡◌, ◌+◌, ◌++◌, ◌≤◌, length};
 ghost use Rattle.limits.specs.Limits.{max_log_lines};
-ghost use Rattle.text_make.specs.Added.{AddedUpTo};
-ghost use Rattle.season_parts.specs.Figures.{bar_columns, bar_length, between as Figures·between};
-ghost use Rattle.season_parts.specs.Figures.{tenths as Figures·tenths, share as Figures·share, bar as Figures·bar};
+ghost use Rattle.season_parts.specs.Figures.{bar_columns, tenths, share, bar_length, bar};
+
+use crate::columns;
+use text_make::Text;
 
 const BAR_COLUMNS: usize = 40;
 
 fn tenths(n: u64, all: u64) -> u64
     requires { n ≤ max_log_lines }
-    ensures { result ≡ Figures·tenths n all }
+    ensures { result ≡ tenths n all }
 {
-    if all == 0 { 0 } else { n * 1000 / all }
+    (n * 1000).checked_div(all).unwrap_or(0)
 }
 
-pub fn share(n: u64, all: u64, out: &mut [u8], at: usize) -> usize
-    requires { (n ≤ max_log_lines) × (at + 42 ≤ length out.old) }
-    ensures { AddedUpTo 42 out.old at (Figures·share n all) out.new result }
+pub fn add_share<const N: usize>(n: u64, all: u64, text: &mut Text<N>)
+    requires { (n ≤ max_log_lines) × (length text.old + 42 ≤ N) }
+    ensures added { text.new ≡ text.old ++ share n all }
+    ensures short { length text.new ≤ length text.old + 42 }
 {
     let t = tenths(n, all);
-    let point = crate::columns::column(5, t / 10, out, at);
-    let last = text_make::string(b".", out, point);
-    let sign = text_make::decimal(t % 10, out, last);
-    text_make::string(b"%", out, sign)
+    columns::add_column(5, t / 10, text);
+    text.push_str(b".");
+    text.push_decimal(t % 10);
+    text.push_str(b"%");
 }
 
-fn between(low: u64, high: u64, n: u64) -> u64
-    ensures { result ≡ Figures·between low high n }
-{
-    if n < low {
-        low
-    } else if high < n {
-        high
-    } else {
-        n
-    }
-}
-
-fn bar_length(n: u64, most: u64) -> u64
+fn bar_length(n: u64, most: u64) -> usize
     requires { n ≤ max_log_lines }
-    ensures { result ≡ bar_length n most }
+    ensures value { result ≡ bar_length n most }
+    ensures short { result ≤ bar_columns }
 {
-    if most == 0 {
-        return between(1, BAR_COLUMNS as u64, 0);
-    }
-    between(1, BAR_COLUMNS as u64, n * BAR_COLUMNS as u64 / most)
+    let columns = (n * BAR_COLUMNS as u64).checked_div(most).unwrap_or(0);
+    columns.clamp(1, BAR_COLUMNS as u64) as usize
 }
 
-pub fn bar(n: u64, most: u64, out: &mut [u8], at: usize) -> usize
-    requires { (n ≤ max_log_lines) × (at + bar_columns ≤ length out.old) }
-    ensures { AddedUpTo bar_columns out.old at (Figures·bar n most) out.new result }
+pub fn add_bar<const N: usize>(n: u64, most: u64, text: &mut Text<N>)
+    requires { (n ≤ max_log_lines) × (length text.old + bar_columns ≤ N) }
+    ensures added { text.new ≡ text.old ++ bar n most }
+    ensures short { length text.new ≤ length text.old + bar_columns }
 {
-    let k = bar_length(n, most) as usize;
-    let blank = crate::columns::repeat(b'#', k, out, at);
-    crate::columns::repeat(b' ', BAR_COLUMNS - k, out, blank)
+    let marks = bar_length(n, most);
+    text.push_times(b'#', marks);
+    text.push_times(b' ', BAR_COLUMNS - marks);
 }

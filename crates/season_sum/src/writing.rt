@@ -1,21 +1,22 @@
-// Figures written as a report, made in a buffer.
-ghost use Rattle.std.specs.Prelude.{◌*◌, ◌≤◌, length};
-ghost use Rattle.text_make.specs.Added.{Added};
+// Figures written as a report.
+ghost use Rattle.std.specs.Prelude.{◌≡◌, ◌+◌, ◌*◌, ◌++◌, ◌≤◌, length};
 ghost use Rattle.season_sum.specs.Figures.{report_text, max_figure_line};
+
+use text_make::Text;
 
 // Room for a line: 20 digits, which 64 bits have at most, and its LF.
 pub const MAX_FIGURE_LINE: usize = 21;
 
+// Room for a report.
+pub const MAX_REPORT: usize = limits::REPORT_LINES * MAX_FIGURE_LINE;
+
 // A line for each figure.
-pub fn write(figures: &[u64], out: &mut [u8]) -> usize
-    requires { length figures.now * max_figure_line ≤ length out.old }
-    ensures { Added out.old 0 (report_text figures.now) out.new result }
+pub fn add_lines<const N: usize>(figures: &[u64], text: &mut Text<N>)
+    requires { length text.old + length figures.now * max_figure_line ≤ N }
+    ensures added { text.new ≡ text.old ++ report_text figures.now }
+    ensures short { length text.new ≤ length text.old + length figures.now * max_figure_line }
 {
-    let mut at = 0;
-    let mut i = 0;
-    while i < figures.len() {
-        at = text_make::fact(b"", figures[i], out, at);
-        i += 1;
+    for figure in figures {
+        text.push_fact(b"", *figure);
     }
-    at
 }

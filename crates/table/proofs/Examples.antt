@@ -15,8 +15,7 @@ use Rattle.table.specs.Text.{unless, judge, check, all_told, table, table_of}
 use Rattle.table.specs.Group.{lists, numbered, memberships, groups_of, counted, bad_user, count_for, group_count}
 use Rattle.table.specs.declared.Checked.{Checked}
 use Rattle.table.specs.declared.Checked.TheVariants.{Accepted, Refused}
-use Rattle.table.specs.declared.Counted.{Counted}
-use Rattle.table.specs.declared.Counted.TheVariants.{Count, NoGroup, Declined}
+use Rattle.table.specs.Counted.{Counted, Count, NoGroup, Declined}
 
 -- answers as numbers, to compare them in lists
 unfoldable check_word : Checked → ℕ

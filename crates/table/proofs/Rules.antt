@@ -12,12 +12,9 @@ use Rattle.text.specs.String.{Str}
 use Rattle.text.specs.Frame.{got, unread, ◌>>=◌, ret, part, string}
 use Rattle.text.proofs.Tests.{by, clash, and_left, and_right, or_is}
 use Rattle.text.specs.Steps.{end_of}
-use Rattle.text.specs.declared.frame.End.{End}
-use Rattle.text.specs.declared.frame.End.TheVariants as ends
+use Rattle.std.specs.Prelude.{Option, Some, None}
 use Rattle.text.proofs.Frames.{byte_got, byte_unread, string_ends, string_misses}
 use Rattle.path_frame.specs.Walked.{walked}
-use Rattle.path_frame.specs.declared.Walk.{Walk}
-use Rattle.path_frame.specs.declared.Walk.TheVariants as walks
 use Rattle.path_frame.proofs.Walks.{walked_to, walked_not}
 use Rattle.path.specs.Path.{Path}
 use Rattle.path.specs.Bytes.{path}
@@ -26,7 +23,6 @@ use Rattle.table.specs.Table.{Rule}
 use Rattle.table.specs.Frame.{unknown, code, rule_body, entry_of}
 use Rattle.table.specs.Walk.{RuleAt, RuleRead}
 use Rattle.table.specs.declared.frame.RuleFrame.{RuleFrame}
-use Rattle.table.specs.declared.frame.RuleFrame.TheVariants.{Is, Unread}
 use Rattle.table.proofs.Frames.{rule_none, rule_off}
 
 -- ---- a code byte
@@ -132,48 +128,48 @@ module _ (f : Str) where
 -- ---- each way out of read_rule
 
 module _ (f : Str) (pre : (0 < length f) × (get_or f 0 0 ≡ 4)) where
-  unread_is : rule_body f 1 ≡ unread → RuleRead f Unread
+  unread_is : rule_body f 1 ≡ unread → RuleRead f None
   unfolding RuleRead
   unread_is e = rule_none f pre.0 pre.1 e
 
-  pub read_short : length f < 4 → RuleRead f Unread
+  pub read_short : length f < 4 → RuleRead f None
   read_short h = unread_is (codes_short f h)
 
   module _ (h : 4 ≤ length f) where
-    pub read_wrong : known f ≡ false → RuleRead f Unread
+    pub read_wrong : known f ≡ false → RuleRead f None
     read_wrong k = unread_is (codes_wrong f h k)
 
-    module _ (k : known f ≡ true) (q : End) (a : q ≡ end_of (string f 4)) where
-      pub read_subjectless : q ≡ ends.Unread → RuleRead f Unread
+    module _ (k : known f ≡ true) (q : Option ℕ) (a : q ≡ end_of (string f 4)) where
+      pub read_subjectless : q ≡ None → RuleRead f None
       read_subjectless e = unread_is (subject_unread f h k (string_misses f 4 q a e))
 
-      module _ (s : ℕ) (b : q ≡ ends.At s) (u : End) (c : u ≡ end_of (string f s)) where
-        pub read_idless : u ≡ ends.Unread → RuleRead f Unread
+      module _ (s : ℕ) (b : q ≡ Some s) (u : Option ℕ) (c : u ≡ end_of (string f s)) where
+        pub read_idless : u ≡ None → RuleRead f None
         read_idless e = unread_is (id_unread f h k _ s (string_ends f 4 q a s b).0 (string_misses f s u c e))
 
-        module _ (i : ℕ) (d : u ≡ ends.At i) (v : End) (g : v ≡ end_of (string f i)) where
-          pub read_originless : v ≡ ends.Unread → RuleRead f Unread
+        module _ (i : ℕ) (d : u ≡ Some i) (v : Option ℕ) (g : v ≡ end_of (string f i)) where
+          pub read_originless : v ≡ None → RuleRead f None
           read_originless e = unread_is (origin_unread f h k _ s (string_ends f 4 q a s b).0 _ i (string_ends f s u c i d).0 (string_misses f i v g e))
 
-          module _ (o : ℕ) (j : v ≡ ends.At o) (w : Walk) (m : w ≡ walked path_refusal (path f o)) where
-            pub read_pathless : w ≡ walks.Unread → RuleRead f Unread
+          module _ (o : ℕ) (j : v ≡ Some o) where
+            pub read_pathless : unread ≡ walked path_refusal (path f o) → RuleRead f None
             read_pathless e =
-                unread_is (path_unread f h k _ s (string_ends f 4 q a s b).0 _ i (string_ends f s u c i d).0 _ o (string_ends f i v g o j).0 (walked_not path_refusal (path f o) (sym e ∙ m)))
+                unread_is (path_unread f h k _ s (string_ends f 4 q a s b).0 _ i (string_ends f s u c i d).0 _ o (string_ends f i v g o j).0 (walked_not path_refusal (path f o) e))
 
-            module _ (p t : ℕ) (e : w ≡ walks.To p t) where
+            module _ (p t : ℕ) (e : got p t ≡ walked path_refusal (path f o)) where
               abbrev rule_of : Path → Rule
               rule_of x = record { permit = eqb (get_or f 1 0) 1; mode = get_or f 2 0; by_group = eqb (get_or f 3 0) 1; subject = part f 5 s; id = part f (s + 1) i; origin = part f (i + 1) o; path = x }
 
               got_it : (x : Path) × (rule_body f 1 ≡ got (rule_of x) t) × (p ≡ path_refusal x)
               got_it =
-                  let z = walked_to path_refusal (path f o) p t (sym e ∙ m) in
+                  let z = walked_to path_refusal (path f o) p t e in
                   (z.0, rule_got f h k _ s (string_ends f 4 q a s b).0 _ i (string_ends f s u c i d).0 _ o (string_ends f i v g o j).0 z.0 t z.1, z.2)
 
-              pub read_off : (t ≡ length f → ⊥) → RuleRead f Unread
+              pub read_off : (t ≡ length f → ⊥) → RuleRead f None
               unfolding RuleRead
               read_off n = rule_off f pre.0 pre.1 _ t got_it.1 n
 
-              pub read_rule : t ≡ length f → RuleRead f (Is s i o p)
+              pub read_rule : t ≡ length f → RuleRead f (Some (record { subject = s; id = i; origin = o; fault = p }))
               unfolding RuleRead
               read_rule n =
                   let z = got_it in
@@ -190,11 +186,11 @@ module _ (f : Str) (pre : (0 < length f) × (get_or f 0 0 ≡ 4)) where
                   }
 
 -- what an answer of read_rule tells
-module _ (f : Str) (r : RuleFrame) (h : RuleRead f r) where
-  pub rule_told : (s i o p : ℕ) → r ≡ Is s i o p → RuleAt f s i o p
+module _ (f : Str) (r : Option RuleFrame) (h : RuleRead f r) where
+  pub rule_told : (s : RuleFrame) → r ≡ Some s → RuleAt f s.subject s.id s.origin s.fault
   unfolding RuleRead
-  rule_told s i o p e = subst (RuleRead f) e h
+  rule_told s e = subst (RuleRead f) e h
 
-  pub rule_untold : r ≡ Unread → entry_of f ≡ none
+  pub rule_untold : r ≡ None → entry_of f ≡ none
   unfolding RuleRead
   rule_untold e = subst (RuleRead f) e h

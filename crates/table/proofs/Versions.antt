@@ -9,8 +9,7 @@ use Rattle.text.specs.Byte.{is_print}
 use Rattle.text.specs.String.{Str}
 use Rattle.text.specs.Frame.{string, part}
 use Rattle.text.specs.Steps.{end_of}
-use Rattle.text.specs.declared.frame.End.{End}
-use Rattle.text.specs.declared.frame.End.TheVariants.{At, Unread}
+use Rattle.std.specs.Prelude.{Option, Some, None}
 use Rattle.text.specs.Refusal.{clear}
 use Rattle.limits.specs.Limits.{max_short_string}
 use Rattle.text.proofs.Frames.{string_ends, string_misses}
@@ -30,11 +29,11 @@ pub refused_read : (b : Earlier) (f : Str) (e : Entry) (n : ℕ) → entry_of f 
 unfolding framed
 refused_read b f e n i h = rw i h
 
-module _ (f : Str) (pre : (0 < length f) × (get_or f 0 0 ≡ 1)) (r : End) (i : r ≡ end_of (string f 1)) (b : Earlier) (last : ℕ) (w : b.kind ≡ last) where
-  pub version_short : r ≡ Unread → 3 ≡ refusal b (framed (entry_of f))
+module _ (f : Str) (pre : (0 < length f) × (get_or f 0 0 ≡ 1)) (r : Option ℕ) (i : r ≡ end_of (string f 1)) (b : Earlier) (last : ℕ) (w : b.kind ≡ last) where
+  pub version_short : r ≡ None → 3 ≡ refusal b (framed (entry_of f))
   version_short g = refused_unread b f (version_unread f pre.0 pre.1 (string_misses f 1 r i g))
 
-  module _ (t : ℕ) (g : r ≡ At t) where
+  module _ (t : ℕ) (g : r ≡ Some t) where
     pub version_long : (length f - t ≡ 8 → ⊥) → 3 ≡ refusal b (framed (entry_of f))
     version_long n = let e = string_ends f 1 r i t g in refused_unread b f (version_off f pre.0 pre.1 _ t e.0 e.2 n)
 

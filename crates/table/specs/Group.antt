@@ -8,8 +8,7 @@ use Rattle.table.specs.Refusal.{stray, same_member}
 use Rattle.table.specs.Text.{check, table_of}
 use Rattle.table.specs.declared.Checked.{Checked}
 use Rattle.table.specs.declared.Checked.TheVariants.{Accepted, Refused}
-use Rattle.table.specs.declared.Counted.{Counted}
-use Rattle.table.specs.declared.Counted.TheVariants.{Count, NoGroup, Declined}
+use Rattle.table.specs.Counted.{Counted, Count, NoGroup, Declined}
 
 -- a member line has that group and that user
 unfoldable pub lists : List Member → Str → Str → Bool

@@ -5,3 +5,4 @@ pub mod Text
 pub mod Group
 pub mod Layout
 pub mod Walk
+pub mod Counted

@@ -1,5 +1,5 @@
 -- The answers of the programs over a frame, said of what is read there.
-use Rattle.std.specs.Prelude.{ℕ, ◌+◌, ◌≤◌, ◌<◌, ◌≡◌, Bool, ◌||◌, eqb, ltb, length, get_or}
+use Rattle.std.specs.Prelude.{ℕ, ◌+◌, ◌≤◌, ◌<◌, ◌≡◌, Bool, ◌||◌, eqb, ltb, length, get_or, Option, Some, None}
 use Rattle.std.proofs.Math.Option.{none}
 use Rattle.text.specs.String.{Str}
 use Rattle.text.specs.Refusal.{◌when◌else◌, clear}
@@ -9,7 +9,6 @@ use Rattle.table.specs.Table.{Rule}
 use Rattle.table.specs.Layout.{after_kind, frame_subject_kind, frame_subject_name}
 use Rattle.table.specs.Frame.{rule_body, entry_of}
 use Rattle.table.specs.declared.frame.RuleFrame.{RuleFrame}
-use Rattle.table.specs.declared.frame.RuleFrame.TheVariants.{Is, Unread}
 
 -- a frame of that kind
 abbrev pub OfKind : ℕ → Str → Type 0
@@ -42,6 +41,6 @@ pub record RuleAt (f : Str) (s i o p : ℕ) : Type 0 where
   pub long : (frame_subject_name ≤ s) × (s + 1 ≤ i) × (i + 1 ≤ o) × (o ≤ length f)
 
 -- what the answer of `read_rule` says of the frame
-unfoldable pub RuleRead : Str → RuleFrame → Type 0
-RuleRead f (Is s i o p) = RuleAt f s i o p
-RuleRead f Unread = entry_of f ≡ none
+unfoldable pub RuleRead : Str → Option RuleFrame → Type 0
+RuleRead f (Some r) = RuleAt f r.subject r.id r.origin r.fault
+RuleRead f None = entry_of f ≡ none

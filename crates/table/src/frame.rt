@@ -3,13 +3,13 @@ ghost use Rattle.std.specs.Prelude.{◌≡◌};
 ghost use Rattle.std.proofs.Math.Option.{some};
 ghost use Rattle.text.specs.String.{Str};
 ghost use Rattle.text.specs.Refusal.{clear};
+ghost use Rattle.refusal.specs.Refusal.{code};
 ghost use Rattle.table.specs.Layout.{kind_version, kind_rule};
 ghost use Rattle.table.specs.Frame.{version, entry_of};
 ghost use Rattle.table.specs.Refusal.{Earlier, framed, out_of_order, refusal};
 ghost use Rattle.table.specs.Walk.{OfKind, merged, unsized_by, RuleRead};
 
-use path_frame::Walk;
-use text::frame::End;
+use refusal::Refusal;
 
 // The order of kinds is broken: `last` is the kind of the line before, 0 on the first line.
 pub fn is_out_of_order(last: u8, kind: u8) -> bool
@@ -21,26 +21,26 @@ pub fn is_out_of_order(last: u8, kind: u8) -> bool
     (kind == crate::KIND_VERSION) | (kind < last)
 }
 
-// The smallest number from 5 on whose flag is set, or CLEAR. p is the number of the frame's path.
-pub fn number(p: u8, five: bool, six: bool, eight: bool, nine: bool) -> u8
-    ensures { result ≡ merged p five six eight nine }
+// The first refusal from 5 on whose flag is set. p is the number of the frame's path.
+pub fn number(p: u8, five: bool, six: bool, eight: bool, nine: bool) -> Result<(), Refusal>
+    ensures { code result ≡ merged p five six eight nine }
 {
     if five | (p == 5) {
-        return 5;
+        return Err(Refusal::LimitPassed);
     }
     if six | (p == 6) {
-        return 6;
+        return Err(Refusal::StrayByte);
     }
     if p == 7 {
-        return 7;
+        return Err(Refusal::MisplacedWildcard);
     }
     if eight | (p == 8) {
-        return 8;
+        return Err(Refusal::Repeated);
     }
     if nine {
-        return 9;
+        return Err(Refusal::UnlistedGroup);
     }
-    limits::CLEAR
+    Ok(())
 }
 
 // The length of a string that may not be empty is 0 or over the limit.
@@ -50,21 +50,20 @@ pub fn is_unsized(limit: usize, n: usize) -> bool
     (n == 0) | (limit < n)
 }
 
-// The number of a version's frame; `last` is the kind of the line before.
-pub fn version_number(f: &[u8], last: u8) -> u8
+// What refuses a version's frame; `last` is the kind of the line before.
+pub fn version_number(f: &[u8], last: u8) -> Result<(), Refusal>
     requires { OfKind kind_version f.now }
-    ensures value { (b : Earlier) → b.kind ≡ last → result ≡ refusal b (framed (entry_of f.now)) }
-    ensures f_value { result ≡ clear → (v : Str) × (t : Str) × (entry_of f.now ≡ some (version v t)) }
+    ensures value { (b : Earlier) → b.kind ≡ last → code result ≡ refusal b (framed (entry_of f.now)) }
+    ensures f_value { code result ≡ clear → (v : Str) × (t : Str) × (entry_of f.now ≡ some (version v t)) }
 {
-    let v = text::frame::string_end(f, crate::AFTER_KIND);
-    let End::At(end) = v else {
-        return 3;
+    let Some(end) = text::frame::string_end(f, crate::AFTER_KIND) else {
+        return Err(Refusal::BadFrame);
     };
     if f.len() - end != 8 {
-        return 3;
+        return Err(Refusal::BadFrame);
     }
     if is_out_of_order(last, crate::KIND_VERSION) {
-        return 4;
+        return Err(Refusal::OutOfOrder);
     }
     let start = crate::FIRST_NAME;
     let version = &f[start..end];
@@ -73,25 +72,32 @@ pub fn version_number(f: &[u8], last: u8) -> u8
     number(limits::CLEAR, five, six, false, false)
 }
 
-// Where the strings of a rule end, and the number of its path.
-#[derive(Clone, Copy)]
-pub enum RuleFrame {
-    Is {
-        subject: usize,
-        id: usize,
-        origin: usize,
-        fault: u8,
-    },
-    Unread,
+// The number that a check answers with, or CLEAR.
+fn code_of(r: Result<(), Refusal>) -> u8
+    ensures { result ≡ code r }
+{
+    match r {
+        Ok(()) => limits::CLEAR,
+        Err(refusal) => refusal.number(),
+    }
 }
 
-// Reads the frame of a rule.
-pub fn read_rule(f: &[u8]) -> RuleFrame
+// Where the strings of a rule end, and the number of its path.
+#[derive(Clone, Copy)]
+pub struct RuleFrame {
+    pub subject: usize,
+    pub id: usize,
+    pub origin: usize,
+    pub fault: u8,
+}
+
+// Reads the frame of a rule, if it is one.
+pub fn read_rule(f: &[u8]) -> Option<RuleFrame>
     requires { OfKind kind_rule f.now }
     ensures { RuleRead f.now result }
 {
     if f.len() < crate::FRAME_SUBJECT {
-        return RuleFrame::Unread;
+        return None;
     }
     let action = f[crate::FRAME_ACTION];
     let mode = f[crate::FRAME_MODE];
@@ -100,35 +106,21 @@ pub fn read_rule(f: &[u8]) -> RuleFrame
         & ((mode == crate::MODE_READ) | (mode == crate::MODE_WRITE))
         & ((kind == crate::SUBJECT_USER) | (kind == crate::SUBJECT_GROUP));
     if !known {
-        return RuleFrame::Unread;
+        return None;
     }
-    let s = text::frame::string_end(f, crate::FRAME_SUBJECT);
-    let End::At(subject) = s else {
-        return RuleFrame::Unread;
+    let subject = text::frame::string_end(f, crate::FRAME_SUBJECT)?;
+    let id = text::frame::string_end(f, subject)?;
+    let origin = text::frame::string_end(f, id)?;
+    let Some(path) = path_frame::read_path(f, origin) else {
+        return None;
     };
-    let i = text::frame::string_end(f, subject);
-    let End::At(id) = i else {
-        return RuleFrame::Unread;
-    };
-    let o = text::frame::string_end(f, id);
-    let End::At(origin) = o else {
-        return RuleFrame::Unread;
-    };
-    let p = path_frame::read_path(f, origin);
-    let Walk::To {
-        refusal: fault,
-        next,
-    } = p
-    else {
-        return RuleFrame::Unread;
-    };
-    if next != f.len() {
-        return RuleFrame::Unread;
+    if path.next != f.len() {
+        return None;
     }
-    RuleFrame::Is {
-        subject: subject,
-        id: id,
-        origin: origin,
-        fault: fault,
-    }
+    Some(RuleFrame {
+        subject,
+        id,
+        origin,
+        fault: code_of(path.refusal),
+    })
 }

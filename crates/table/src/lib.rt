@@ -78,10 +78,9 @@ pub enum Checked {
     Refused { number: u8, line: usize },
 }
 
-// The answer of a count of a user's groups. Declined: the table's refusal, or 20 with line 0 for the user.
+// How many groups a user has, at least one, and the first of them.
 #[derive(Clone, Copy)]
-pub enum Counted {
-    Count { count: u8, first: GroupNumber },
-    NoGroup,
-    Declined { number: u8, line: usize },
+pub struct Groups {
+    pub count: u8,
+    pub first: GroupNumber,
 }

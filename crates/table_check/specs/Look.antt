@@ -1,5 +1,5 @@
 -- What a look at a table text tells.
-use Rattle.std.specs.Prelude.{ℕ, ◌≤◌, ◌≡◌, length}
+use Rattle.std.specs.Prelude.{ℕ, ◌≤◌, ◌≡◌, length, Result, Ok, Err}
 use Rattle.limits.specs.Limits.{max_groups}
 use Rattle.text.specs.String.{Str}
 use Rattle.table.specs.Text.{check, table_of}
@@ -8,7 +8,8 @@ use Rattle.table.specs.declared.Checked.TheVariants as checked
 use Rattle.table_load.specs.declared.row.Counts.{Counts}
 use Rattle.table_membership.specs.Set.{UserGroups, count_in}
 use Rattle.table_check.specs.declared.Seen.{Seen}
-use Rattle.table_check.specs.declared.Seen.TheVariants.{Table, Refused}
+use Rattle.refusal.specs.Refusal.{number}
+use Rattle.refusal.specs.declared.fault.Fault.{Fault}
 
 -- of an accepted text: how many rows of each kind it has, which groups list the user, and what the group count answers
 pub record TableTold (text user : Str) (c : Counts) (set : ℕ) : Type 0 where
@@ -21,6 +22,6 @@ pub record TableTold (text user : Str) (c : Counts) (set : ℕ) : Type 0 where
   pub count : count_in user set ≡ group_count text user
 
 -- what the answer says of the text
-unfoldable pub Looked : Str → Str → Seen → Type 0
-Looked text user (Table c set) = TableTold text user c set
-Looked text user (Refused n l) = check text ≡ checked.Refused n l
+unfoldable pub Looked : Str → Str → Result Seen Fault → Type 0
+Looked text user (Ok s) = TableTold text user s.counts s.set
+Looked text user (Err f) = check text ≡ checked.Refused (number f.refusal) f.line

@@ -1,20 +1,15 @@
 // The count of a user's groups.
 ghost use Rattle.std.specs.Prelude.{◌≡◌};
+ghost use Rattle.table.specs.Counted.{counted_as};
 ghost use Rattle.table.specs.Group.{group_count};
 
-use crate::Seen;
-use table::Counted;
+use refusal::Fault;
+use table::Groups;
 
-// How many groups the user belongs to, and the first of them.
-pub fn count_groups(text: &[u8], user: &[u8]) -> Counted
-    ensures { result ≡ group_count text.now user.now }
+// How many groups the user belongs to, and the first of them, if there is one.
+pub fn count_groups(text: &[u8], user: &[u8]) -> Result<Option<Groups>, Fault>
+    ensures { counted_as result ≡ group_count text.now user.now }
 {
-    let l = crate::look(text, user);
-    match l {
-        Seen::Table { counts, set } => table_membership::count_of(set, user),
-        Seen::Refused { number, line } => Counted::Declined {
-            number: number,
-            line: line,
-        },
-    }
+    let seen = crate::look(text, user)?;
+    table_membership::count_of(seen.set, user)
 }

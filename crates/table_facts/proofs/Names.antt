@@ -22,9 +22,9 @@ use Rattle.table.specs.Table as table
 use Rattle.table.specs.Text.{check, table_of}
 use Rattle.table.specs.declared.GroupNumber.{GroupNumber}
 use Rattle.table.specs.declared.RuleNumber.{RuleNumber}
-use Rattle.table_load.specs.declared.row.Counts.{Counts}
+use Rattle.table_load.specs.declared.loaded.Table.{Table as Loaded}
 use Rattle.table_load.specs.Held.{RulesAt}
-use Rattle.table_load.specs.Loaded.{Kept}
+use Rattle.table_load.specs.Loaded.{Kept, bytes}
 use Rattle.table_facts.specs.declared.Row.TheVariants.{Group, Rule}
 use Rattle.table_facts.specs.Facts.{name_of, stored_of, ids_in, Identified}
 
@@ -93,20 +93,20 @@ module _ (f starts : List ℕ) (n k : ℕ) where
 
 -- ---- of a loaded table
 
-module _ {text buf : List ℕ} {u : ℕ} {c : Counts} {groups users owners starts holders : List ℕ} (K : Kept text buf u c groups users owners starts holders) where
-  pub group_name : (g : GroupNumber) → get_or (strings_in (take u buf) groups c.groups 0) g.0 [] ≡ name_of (check text) (table_of text) (Group g)
+module _ {text : List ℕ} {t : Loaded} (K : Kept text t) where
+  pub group_name : (g : GroupNumber) → get_or (strings_in (bytes t) t.groups t.counts.groups 0) g.0 [] ≡ name_of (check text) (table_of text) (Group g)
   unfolding name_of
   group_name g = rw K.accepts (ap (λ (l : List Str). get_or l g.0 []) (sym K.holds.groups_are))
 
-  rules_long : length (table_of text).rules ≡ c.rules
+  rules_long : length (table_of text).rules ≡ t.counts.rules
   rules_long = K.holds.rules_count
 
-  pub identified : Identified (take u buf) starts c.rules
+  pub identified : Identified (bytes t) t.starts t.counts.rules
   identified = record {
-    laid = λ i h. let z : 0 + i ≡ i = omega arith in rw z at (ids_laid (take u buf) starts (table_of text).rules 0 K.holds.rules_are i (omega (arith, rules_long)));
+    laid = λ i h. let z : 0 + i ≡ i = omega arith in rw z at (ids_laid (bytes t) t.starts (table_of text).rules 0 K.holds.rules_are i (omega (arith, rules_long)));
     room = omega (arith, K.holds.long.of_starts, K.holds.few.2);
   }
 
-  pub rule_id : (k : RuleNumber) → get_or (ids_in (take u buf) starts c.rules) k.0 [] ≡ name_of (check text) (table_of text) (Rule k)
+  pub rule_id : (k : RuleNumber) → get_or (ids_in (bytes t) t.starts t.counts.rules) k.0 [] ≡ name_of (check text) (table_of text) (Rule k)
   unfolding name_of ids_in
-  rule_id k = rw K.accepts (ap (λ (l : List Str). get_or l k.0 []) (rw rules_long at (ids_read (take u buf) starts (table_of text).rules 0 K.holds.rules_are)))
+  rule_id k = rw K.accepts (ap (λ (l : List Str). get_or l k.0 []) (rw rules_long at (ids_read (bytes t) t.starts (table_of text).rules 0 K.holds.rules_are)))

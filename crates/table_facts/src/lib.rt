@@ -9,7 +9,7 @@ ghost use Rattle.table.specs.Text.{check, table_of};
 ghost use Rattle.table_facts.specs.Facts.{name_of, stored_of, ids_in, Identified};
 
 use table::{GroupNumber, RuleNumber};
-use table_load::Loaded;
+use table_load::Table;
 
 // A row that has a name: a rule's is its id.
 #[derive(Clone, Copy)]
@@ -70,27 +70,13 @@ pub fn name_of(text: &[u8], row: Row, out: &mut [u8]) -> usize
         (stored_of out.old (name_of (check text.now) (table_of text.now) row))
         out.new result }
 {
-    let mut buf = [0u8; limits::MAX_TABLE_BYTES];
-    let mut groups = [0u16; limits::MAX_GROUPS];
-    let mut users = [0u16; limits::MAX_MEMBERS];
-    let mut owners = [0u8; limits::MAX_MEMBERS];
-    let mut starts = [0u16; limits::MAX_RULES];
-    let mut holders = [0u8; limits::MAX_RULES];
-    let l = table_load::load(
-        text,
-        &mut buf,
-        &mut groups,
-        &mut users,
-        &mut owners,
-        &mut starts,
-        &mut holders,
-    );
-    let Loaded::Table { used, counts } = l else {
+    let mut table = Table::new();
+    let Ok(()) = table_load::load(text, &mut table) else {
         return 0;
     };
-    let f = &buf[..used];
+    let f = table.bytes();
     match row {
-        Row::Group(g) => copy_name(f, &groups, counts.groups, g, out),
-        Row::Rule(rule) => copy_id(f, &starts, counts.rules, rule, out),
+        Row::Group(g) => copy_name(f, &table.groups, table.counts.groups, g, out),
+        Row::Rule(rule) => copy_id(f, &table.starts, table.counts.rules, rule, out),
     }
 }

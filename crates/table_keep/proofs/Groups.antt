@@ -16,8 +16,7 @@ use Rattle.text.specs.String.{Str, same}
 use Rattle.text.specs.Refusal.{clear}
 use Rattle.text.specs.Frame.{got, string, part}
 use Rattle.text.specs.Steps.{end_of}
-use Rattle.text.specs.declared.frame.End.{End}
-use Rattle.text.specs.declared.frame.End.TheVariants.{At, Unread}
+use Rattle.std.specs.Prelude.{Option, Some, None}
 use Rattle.text.proofs.Tests.{or_false_r, or_is}
 use Rattle.text.proofs.Frames.{string_ends, string_misses}
 use Rattle.path.specs.Refusal.{unsized}
@@ -39,11 +38,11 @@ use Rattle.table_keep.proofs.Names.{new_span, new_inside, named_grows}
 pub below : (p limit n m : ℕ) (u v six eight nine : Bool) → u ≡ v → m ≡ merged p (u || leb limit n) six eight nine → m ≡ clear → n < limit
 below p limit n m u v six eight nine x e h = leb-false limit n (or_false_r u _ (sym (or_is u (leb limit n)) ∙ (merged_clear p (u || leb limit n) six eight nine (sym e ∙ h)).0))
 
-module _ (f : Str) (pre : OfKind kind_group f) (r : End) (i' : r ≡ end_of (string f 1)) (b : Earlier) (last : ℕ) (w : b.kind ≡ last) where
-  pub group_short : r ≡ Unread → 3 ≡ refusal b (framed (entry_of f))
+module _ (f : Str) (pre : OfKind kind_group f) (r : Option ℕ) (i' : r ≡ end_of (string f 1)) (b : Earlier) (last : ℕ) (w : b.kind ≡ last) where
+  pub group_short : r ≡ None → 3 ≡ refusal b (framed (entry_of f))
   group_short g = refused_unread b f (group_unread f pre.0 pre.1 (string_misses f 1 r i' g))
 
-  module _ (t : ℕ) (g : r ≡ At t) where
+  module _ (t : ℕ) (g : r ≡ Some t) where
     pub group_long : (t ≡ length f → ⊥) → 3 ≡ refusal b (framed (entry_of f))
     group_long n = refused_unread b f (group_off f pre.0 pre.1 _ t (string_ends f 1 r i' t g).0 n)
 

@@ -16,8 +16,7 @@ use Rattle.text.specs.String.{Str, same}
 use Rattle.text.specs.Refusal.{clear}
 use Rattle.text.specs.Frame.{got, string, string_bytes, part}
 use Rattle.text.specs.Steps.{end_of}
-use Rattle.text.specs.declared.frame.End.{End}
-use Rattle.text.specs.declared.frame.End.TheVariants.{Unread}
+use Rattle.std.specs.Prelude.{Option, Some, None}
 use Rattle.text.proofs.Tests.{by, bool_ext, and_l, and_r, both, same→≡, ≡→same, or_false_r, or_is}
 use Rattle.text.proofs.Frames.{string_misses}
 use Rattle.text.proofs.Codec.{Took, took_both, string_took, string_gives}
@@ -113,11 +112,11 @@ place_small name f starts n p e = omega (arith, place_le name (strings_in f star
 -- ---- the frame does not read
 
 module _ (f : Str) (kind : OfKind kind_member f) (b : Earlier) where
-  pub member_short : {r : End} → r ≡ end_of (string f 1) → r ≡ Unread → 3 ≡ refusal b (framed (entry_of f))
+  pub member_short : {r : Option ℕ} → r ≡ end_of (string f 1) → r ≡ None → 3 ≡ refusal b (framed (entry_of f))
   member_short i g = refused_unread b f (member_unread f kind.0 kind.1 (string_misses f 1 _ i g))
 
   module _ {m : ℕ} (group : StringAt f 1 m) where
-    pub member_half : {r : End} → r ≡ end_of (string f m) → r ≡ Unread → 3 ≡ refusal b (framed (entry_of f))
+    pub member_half : {r : Option ℕ} → r ≡ end_of (string f m) → r ≡ None → 3 ≡ refusal b (framed (entry_of f))
     member_half i g = refused_unread b f (member_userless f kind.0 kind.1 _ m group.0 (string_misses f m _ i g))
 
     pub member_long : {t : ℕ} → StringAt f m t → (t ≡ length f → ⊥) → 3 ≡ refusal b (framed (entry_of f))
@@ -142,6 +141,26 @@ pub record Read : Type 0 where
   pub group : StringAt f 1 middle
   pub user : StringAt f middle end
   pub whole : end ≡ length f
+
+abbrev pub reading : {old f starts names users owners keys : List ℕ} {count n middle end : ℕ} → MemberReady old f starts names count users owners keys n
+    → StringAt f 1 middle → StringAt f middle end → end ≡ length f → Read
+reading {old} {f} {starts} {names} {users} {owners} {keys} {count} {n} {middle} {end} ready group user whole = record {
+  old = old;
+  f = f;
+  starts = starts;
+  names = names;
+  count = count;
+  users = users;
+  owners = owners;
+  keys = keys;
+  n = n;
+  ready = ready;
+  middle = middle;
+  end = end;
+  group = group;
+  user = user;
+  whole = whole;
+}
 
 module _ (R : Read) where
   abbrev name : Str
@@ -215,6 +234,26 @@ pub record Judged : Type 0 where
   pub found_is : Met read.old read.keys max_members (first_member_place + hash % member_places) (key read) found
   pub number : ℕ
   pub number_is : number ≡ merged clear (five read read.n) (six read) found.again (eqb owner read.count)
+
+abbrev pub judging : (R : Read) (last : ℕ) {o : Bool} → o ≡ out_of_order last kind_member → o ≡ false
+    → {owner : ℕ} → owner ≡ place (name R) (groups R) → {hash : ℕ} → hash ≡ hash_of (key R)
+    → {found : Found} → Met R.old R.keys max_members (first_member_place + hash % member_places) (key R) found
+    → {u v x y : Bool} → u ≡ unsized_by max_string (length (name R)) → v ≡ unsized_by max_string (length (user R))
+    → x ≡ all is_print (name R) → y ≡ all is_print (user R)
+    → {number : ℕ} → number ≡ merged clear ((u || v) || leb max_members R.n) (not x || not y) found.again (eqb owner R.count) → Judged
+judging R last {o} p q {owner} owned {hash} hashed {found} met uu vv xx yy {number} e = record {
+  read = R;
+  last = last;
+  ordered = sym p ∙ q;
+  owner = owner;
+  owner_is = owned;
+  hash = hash;
+  hash_is = hashed;
+  found = found;
+  found_is = met;
+  number = number;
+  number_is = number_told R _ _ _ _ number owner found uu vv xx yy e;
+}
 
 module _ (J : Judged) where
   abbrev R : Read

@@ -7,14 +7,15 @@ ghost use Rattle.limits.specs.Limits.{max_groups};
 ghost use Rattle.text.specs.Test.{◌and◌};
 ghost use Rattle.text.specs.String.{same};
 ghost use Rattle.text.specs.Refusal.{clear};
+ghost use Rattle.refusal.specs.Refusal.{code};
 ghost use Rattle.table_place.specs.Place.{str_in};
 ghost use Rattle.table_rows.specs.Strings.{strings_in, Listed, place};
 ghost use Rattle.table.specs.Frame.{entry_of};
 ghost use Rattle.table.specs.Refusal.{Earlier, framed, refusal};
 ghost use Rattle.table_keep.specs.Held.{hint_places, Groups, members_in, GroupReady, MemberReady, GroupKept, MemberKept};
 
+use refusal::Refusal;
 use table::GroupNumber;
-use text::frame::End;
 
 // Where a name's hash says which group to try first.
 pub const HINT_PLACES: usize = 16 * limits::MAX_GROUPS;
@@ -26,7 +27,7 @@ const FIRST_MEMBER_PLACE: usize = limits::MAX_MEMBERS + 1;
 
 pub const MEMBER_KEYS: usize = FIRST_MEMBER_PLACE + MEMBER_PLACES;
 
-// The number of a group's frame. Where that is CLEAR, the group is kept, and `hints` has its number at its name's hash.
+// What refuses a group's frame. Where nothing does, the group is kept, and `hints` has its number at its name's hash.
 pub fn take_group(
     old: &[u8],
     f: &[u8],
@@ -35,39 +36,35 @@ pub fn take_group(
     n: usize,
     hints: &mut [u8; HINT_PLACES],
     names: &mut [u32; limits::MAX_GROUPS],
-) -> u8
+) -> Result<(), Refusal>
     requires { GroupReady old.now f.now starts.old names.old n }
     ensures value { (b : Earlier) → b.kind ≡ last
         → b.groups ≡ strings_in old.now starts.old n 0
-        → result ≡ refusal b (framed (entry_of f.now)) }
-    ensures group_kept { result ≡ clear → GroupKept old.now f.now starts.old n starts.new names.new }
+        → code result ≡ refusal b (framed (entry_of f.now)) }
+    ensures group_kept { code result ≡ clear → GroupKept old.now f.now starts.old n starts.new names.new }
 {
-    let e = text::frame::string_end(f, table::AFTER_KIND);
-    let End::At(end) = e else {
-        return 3;
+    let Some(end) = text::frame::string_end(f, table::AFTER_KIND) else {
+        return Err(Refusal::BadFrame);
     };
     if end != f.len() {
-        return 3;
+        return Err(Refusal::BadFrame);
     }
     if table::frame::is_out_of_order(last, table::KIND_GROUP) {
-        return 4;
+        return Err(Refusal::OutOfOrder);
     }
     let start = table::FIRST_NAME;
     let name = &f[start..end];
     let five = table::frame::is_unsized(limits::MAX_STRING, name.len()) | (limits::MAX_GROUPS <= n);
     let six = !text::string::all_print(name);
     let s = text_sorted::find(old, names, n, name);
-    let number = table::frame::number(limits::CLEAR, five, six, s.again, false);
-    if number != limits::CLEAR {
-        return number;
-    }
+    table::frame::number(limits::CLEAR, five, six, s.again, false)?;
     let from = old.len() + start;
     let to = old.len() + end;
     text_sorted::insert(names, n, s.at, from, to);
     starts[n] = (old.len() + table::AFTER_KIND) as u16;
     let h = table_rows::hash(name) % HINT_PLACES;
     hints[h] = n as u8;
-    limits::CLEAR
+    Ok(())
 }
 
 // Whether group g is one of the first `count`, and has that name.
@@ -146,7 +143,7 @@ pub fn number_of(
     number_by_name(old, groups, count, names, name)
 }
 
-// The number of a member's frame. Where that is CLEAR, the member is kept.
+// What refuses a member's frame. Where nothing does, the member is kept.
 pub fn take_member(
     old: &[u8],
     f: &[u8],
@@ -159,29 +156,27 @@ pub fn take_member(
     owners: &mut [u8; limits::MAX_MEMBERS],
     n: usize,
     keys: &mut [u32; MEMBER_KEYS],
-) -> u8
+) -> Result<(), Refusal>
     requires { MemberReady old.now f.now groups.now names.now count users.old owners.old keys.old n }
     ensures value { (b : Earlier) → b.kind ≡ last
         → b.groups ≡ strings_in old.now groups.now count 0
         → b.members ≡ members_in b.groups owners.old old.now users.old n
-        → result ≡ refusal b (framed (entry_of f.now)) }
-    ensures member_kept { result ≡ clear
+        → code result ≡ refusal b (framed (entry_of f.now)) }
+    ensures member_kept { code result ≡ clear
         → MemberKept (strings_in old.now groups.now count 0) old.now f.now
         users.old owners.old n users.new owners.new keys.new }
 {
-    let a = text::frame::string_end(f, table::AFTER_KIND);
-    let End::At(middle) = a else {
-        return 3;
+    let Some(middle) = text::frame::string_end(f, table::AFTER_KIND) else {
+        return Err(Refusal::BadFrame);
     };
-    let z = text::frame::string_end(f, middle);
-    let End::At(end) = z else {
-        return 3;
+    let Some(end) = text::frame::string_end(f, middle) else {
+        return Err(Refusal::BadFrame);
     };
     if end != f.len() {
-        return 3;
+        return Err(Refusal::BadFrame);
     }
     if table::frame::is_out_of_order(last, table::KIND_MEMBER) {
-        return 4;
+        return Err(Refusal::OutOfOrder);
     }
     let start = table::FIRST_NAME;
     let from = middle + 1;
@@ -196,14 +191,11 @@ pub fn take_member(
         | table::frame::is_unsized(limits::MAX_STRING, user.len())
         | (limits::MAX_MEMBERS <= n);
     let six = !text::string::all_print(group) | !text::string::all_print(user);
-    let number = table::frame::number(limits::CLEAR, five, six, s.again, g.0 as usize == count);
-    if number != limits::CLEAR {
-        return number;
-    }
+    table::frame::number(limits::CLEAR, five, six, s.again, g.0 as usize == count)?;
     users[n] = (old.len() + middle) as u16;
     owners[n] = g.0;
     let begin = old.len() + after;
     let to = old.len() + end;
     text_set::add(keys, limits::MAX_MEMBERS, p, s.at, begin, to);
-    limits::CLEAR
+    Ok(())
 }

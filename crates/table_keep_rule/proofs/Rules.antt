@@ -28,7 +28,7 @@ use Rattle.table.specs.Frame.{rule, entry_of}
 use Rattle.table.specs.Refusal.{Earlier, reads, framed, out_of_order, kind_of, unsized_short, past_limit, strays, stray, same_id, repeats, listed, unlisted, refusal}
 use Rattle.table.specs.Walk.{merged, unsized_by, RuleAt, RuleRead}
 use Rattle.table.specs.declared.frame.RuleFrame.{RuleFrame}
-use Rattle.table.specs.declared.frame.RuleFrame.TheVariants.{Unread}
+use Rattle.std.specs.Prelude.{Option, Some, None}
 use Rattle.table.proofs.Numbers.{long_is, short_is, stray_is, number_four, number_rule, merged_clear}
 use Rattle.table.proofs.Frames.{rule_read}
 use Rattle.table.proofs.Rules.{rule_untold}
@@ -112,7 +112,7 @@ nine_is r bg name groups l g count x y z e c = rw (x, y, z) (holder_is bg name g
 
 -- ---- the frame does not read
 
-pub rule_short : (f : Str) (r : RuleFrame) → RuleRead f r → (b : Earlier) → r ≡ Unread → 3 ≡ refusal b (framed (entry_of f))
+pub rule_short : (f : Str) (r : Option RuleFrame) → RuleRead f r → (b : Earlier) → r ≡ None → 3 ≡ refusal b (framed (entry_of f))
 rule_short f r read b e = refused_unread b f (rule_untold f r read e)
 
 -- ---- the frame reads
@@ -132,6 +132,24 @@ pub record Read : Type 0 where
   pub origin_end : ℕ
   pub path_refusal_lem : ℕ
   pub at : RuleAt f subject_end id_end origin_end path_refusal_lem
+
+abbrev pub told_so_far : {old f starts names keys : List ℕ} {count n : ℕ} → RuleReady old f starts names count keys n
+    → {subject_end id_end origin_end path_refusal_lem : ℕ} → RuleAt f subject_end id_end origin_end path_refusal_lem → Read
+told_so_far {old} {f} {starts} {names} {keys} {count} {n} ready {subject_end} {id_end} {origin_end} {path_refusal_lem} at = record {
+  old = old;
+  f = f;
+  starts = starts;
+  names = names;
+  count = count;
+  keys = keys;
+  n = n;
+  ready = ready;
+  subject_end = subject_end;
+  id_end = id_end;
+  origin_end = origin_end;
+  path_refusal_lem = path_refusal_lem;
+  at = at;
+}
 
 module _ (R : Read) where
   abbrev subject : Str
@@ -186,6 +204,28 @@ pub record Judged : Type 0 where
   pub found_is : Met read.old read.keys max_rules (first_id_place + hash % id_places) (id read) found
   pub number : ℕ
   pub number_is : number ≡ merged read.path_refusal_lem (five read.at.rule read.n) (six read.at.rule) found.again (by_group read && eqb holder read.count)
+
+abbrev pub judging : (R : Read) (last : ℕ) {o : Bool} → o ≡ out_of_order last kind_rule → o ≡ false
+    → {holder : ℕ} → holder ≡ (whether by_group R then place (subject R) (groups R) else 0)
+    → {hash : ℕ} → hash ≡ hash_of (id R)
+    → {found : Found} → Met R.old R.keys max_rules (first_id_place + hash % id_places) (id R) found
+    → {u v x y z : Bool} → u ≡ unsized_by max_string (length (subject R)) → v ≡ unsized_by max_short_string (length (id R))
+    → x ≡ all is_print (subject R) → y ≡ all is_print (id R) → z ≡ all is_print (origin R)
+    → {number : ℕ} → number ≡ merged R.path_refusal_lem ((u || v) || (ltb max_short_string (length (origin R)) || leb max_rules R.n)) (not x || (not y || not z)) found.again (by_group R && eqb holder R.count)
+    → Judged
+judging R last {o} p q {holder} held {hash} hashed {found} met uu vv xx yy zz {number} e = record {
+  read = R;
+  last = last;
+  ordered = sym p ∙ q;
+  holder = holder;
+  holder_told = held;
+  hash = hash;
+  hash_is = hashed;
+  found = found;
+  found_is = met;
+  number = number;
+  number_is = number_told R _ _ _ _ _ number holder found uu vv xx yy zz e;
+}
 
 module _ (J : Judged) where
   abbrev R : Read

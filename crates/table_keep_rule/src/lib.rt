@@ -6,13 +6,14 @@ ghost use Rattle.std.specs.Prelude.{◌≡◌, ◌≤◌, ◌<◌, length, set};
 ghost use Rattle.limits.specs.Limits.{max_rules};
 ghost use Rattle.text.specs.Test.{whether◌then◌else◌};
 ghost use Rattle.text.specs.Refusal.{clear};
+ghost use Rattle.refusal.specs.Refusal.{code};
 ghost use Rattle.table_rows.specs.Strings.{strings_in, place};
 ghost use Rattle.table.specs.Frame.{entry_of};
 ghost use Rattle.table.specs.Refusal.{Earlier, framed, refusal};
 ghost use Rattle.table_keep.specs.Held.{hint_places, Groups};
 ghost use Rattle.table_keep_rule.specs.Kept.{ids_of, Ids, RuleReady, RuleKept};
 
-use table::frame::RuleFrame;
+use refusal::Refusal;
 use table::{GroupNumber, RuleNumber};
 
 // The set of ids: sorted keys, their count, and a place for each hash.
@@ -58,7 +59,7 @@ fn store(
     holders[k] = g.0;
 }
 
-// The number of a rule's frame. Where that is CLEAR, the rule is kept.
+// What refuses a rule's frame. Where nothing does, the rule is kept.
 pub fn take_rule(
     old: &[u8],
     f: &[u8],
@@ -71,35 +72,28 @@ pub fn take_rule(
     holders: &mut [u8; limits::MAX_RULES],
     n: usize,
     keys: &mut [u32; ID_KEYS],
-) -> u8
+) -> Result<(), Refusal>
     requires { RuleReady old.now f.now groups.now names.now count keys.old n }
     ensures value { (b : Earlier) → b.kind ≡ last
         → b.groups ≡ strings_in old.now groups.now count 0
         → Ids old.now keys.old n (ids_of b.rules)
-        → result ≡ refusal b (framed (entry_of f.now)) }
-    ensures rule_kept { result ≡ clear
+        → code result ≡ refusal b (framed (entry_of f.now)) }
+    ensures rule_kept { code result ≡ clear
         → RuleKept (strings_in old.now groups.now count 0) old.now f.now
         starts.old holders.old keys.old n starts.new holders.new keys.new }
 {
-    let r = table::frame::read_rule(f);
-    let RuleFrame::Is {
-        subject: s,
-        id: i,
-        origin: o,
-        fault: path_refusal,
-    } = r
-    else {
-        return 3;
+    let Some(r) = table::frame::read_rule(f) else {
+        return Err(Refusal::BadFrame);
     };
     if table::frame::is_out_of_order(last, table::KIND_RULE) {
-        return 4;
+        return Err(Refusal::OutOfOrder);
     }
     let start = table::FRAME_SUBJECT_NAME;
-    let from = s + 1;
-    let then = i + 1;
-    let subject = &f[start..s];
-    let id = &f[from..i];
-    let origin = &f[then..o];
+    let from = r.subject + 1;
+    let then = r.id + 1;
+    let subject = &f[start..r.subject];
+    let id = &f[from..r.id];
+    let origin = &f[then..r.origin];
     let by_group = f[table::FRAME_SUBJECT_KIND] == table::SUBJECT_GROUP;
     let g = holder_of(old, groups, count, hints, names, by_group, subject);
     let p = FIRST_ID_PLACE + table_rows::hash(id) % ID_PLACES;
@@ -110,10 +104,7 @@ pub fn take_rule(
     let six = !text::string::all_print(subject)
         | (!text::string::all_print(id) | !text::string::all_print(origin));
     let nine = by_group & (g.0 as usize == count);
-    let number = table::frame::number(path_refusal, five, six, t.again, nine);
-    if number != limits::CLEAR {
-        return number;
-    }
+    table::frame::number(r.fault, five, six, t.again, nine)?;
     store(
         starts,
         holders,
@@ -122,7 +113,7 @@ pub fn take_rule(
         g,
     );
     let begin = old.len() + from;
-    let to = old.len() + i;
+    let to = old.len() + r.id;
     text_set::add(keys, limits::MAX_RULES, p, t.at, begin, to);
-    limits::CLEAR
+    Ok(())
 }

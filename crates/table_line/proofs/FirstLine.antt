@@ -2,7 +2,9 @@
 use mathlib.Core.Path.{◌≡◌, refl, sym, ap, ◌∙◌}
 use mathlib.Core.Bool.{Bool, true, false}
 use mathlib.Core.List.{List, [], ◌∷◌}
-use mathlib.Core.Option.{Option, none, some}
+use Rattle.std.specs.Prelude.{Option, None, Some}
+use mathlib.Core.Option.{none, some}
+use mathlib.Core.Option as frames
 use Prim.Native.Nat.{ℕ, suc, ◌+◌, ◌-◌, ◌*◌, ◌≤◌, ◌<◌}
 use native.Mathlib.Omega.{arith}
 use borrow.Author.Tests.{eqb-true, eqb-false, eq-eqb, ne_eqb, ltb-true, ltb-false}
@@ -16,7 +18,6 @@ use Rattle.text.proofs.Tests.{by, and_l, and_r, clash}
 use Rattle.table_line.specs.Lines.{onto, lines, pair, pairs, nonempty, frame}
 use Rattle.table_line.specs.Decoding.{digits, taken, first_line}
 use Rattle.table_line.specs.declared.Line.{Line}
-use Rattle.table_line.specs.declared.Line.TheVariants.{Frame, Bad}
 use Rattle.table_line.proofs.Digits.{digits_half}
 
 -- a digit is no LF
@@ -146,7 +147,7 @@ unfolding lines
 lines_cons [] h = absurd (omega arith)
 lines_cons (x ∷ s) h = onto_cons (eqb x 10) x (lines s)
 
-first_bad : (from : ℕ) (ls : List Str) → frame (head ls) ≡ none → first_line from ls ≡ Bad
+first_bad : (from : ℕ) (ls : List Str) → frame (head ls) ≡ none → first_line from ls ≡ None
 unfolding first_line head taken
 first_bad from [] e = refl
 first_bad from (l ∷ ls) e = rw e
@@ -166,15 +167,15 @@ frame_empty l [] e h = rw e
 frame_empty l (x ∷ b) e h = absurd (omega arith)
 
 module _ (s : Str) (from n : ℕ) (e : n ≡ length (digits s)) where
-  pub line_bad : (2 * n < length s → get_or s (2 * n) 0 ≡ 10 → ⊥) → Bad ≡ first_line from (lines s)
+  pub line_bad : (2 * n < length s → get_or s (2 * n) 0 ≡ 10 → ⊥) → None ≡ first_line from (lines s)
   line_bad k = sym (first_bad from (lines s) (frame_bad _ (unended s n e k)))
 
   module _ (h : 2 * n < length s) (k : get_or s (2 * n) 0 ≡ 10) where
-    pub line_empty : n ≡ 0 → Bad ≡ first_line from (lines s)
+    pub line_empty : n ≡ 0 → None ≡ first_line from (lines s)
     unfolding first_line taken
     line_empty z = let g = ended s n e h k in rw (g.first, frame_empty g.line (digits s) g.bytes (sym e ∙ z))
 
-    pub line_good : 0 < n → Frame n (from + 2 * n + 1) ≡ first_line from (lines s)
+    pub line_good : 0 < n → Some (record { len = n; next = from + 2 * n + 1 }) ≡ first_line from (lines s)
     unfolding first_line taken
     line_good z =
         let g = ended s n e h k in
@@ -187,17 +188,17 @@ module _ (text : Str) (from n : ℕ) (e : n ≡ length (digits (drop from text))
   pub room : from ≤ length text → from + 2 * n ≤ length text
   room h = omega (arith, digits_half (drop from text), length-drop from text)
 
-  pub at_end_lem : length text ≤ from + 2 * n → Bad ≡ first_line from (lines (drop from text))
+  pub at_end_lem : length text ≤ from + 2 * n → None ≡ first_line from (lines (drop from text))
   at_end_lem h = line_bad (drop from text) from n e (λ l k. omega (arith, length-drop from text))
 
-  pub at_other : (get_or text (from + 2 * n) 0 ≡ 10 → ⊥) → Bad ≡ first_line from (lines (drop from text))
+  pub at_other : (get_or text (from + 2 * n) 0 ≡ 10 → ⊥) → None ≡ first_line from (lines (drop from text))
   at_other h = line_bad (drop from text) from n e (λ l k. h (sym (get_or-drop from text (2 * n) 0) ∙ k))
 
   module _ (h : from + 2 * n < length text) (k : get_or text (from + 2 * n) 0 ≡ 10) where
-    pub at_empty : n ≡ 0 → Bad ≡ first_line from (lines (drop from text))
+    pub at_empty : n ≡ 0 → None ≡ first_line from (lines (drop from text))
     at_empty z = line_empty (drop from text) from n e (omega (arith, length-drop from text)) (get_or-drop from text (2 * n) 0 ∙ k) z
 
-    pub at_LF : (n ≡ 0 → ⊥) → Frame n (from + 2 * n + 1) ≡ first_line from (lines (drop from text))
+    pub at_LF : (n ≡ 0 → ⊥) → Some (record { len = n; next = from + 2 * n + 1 }) ≡ first_line from (lines (drop from text))
     at_LF z = line_good (drop from text) from n e (omega (arith, length-drop from text)) (get_or-drop from text (2 * n) 0 ∙ k) (omega arith)
 
 -- what an answer of read_line tells
@@ -210,12 +211,14 @@ pub record Read (text : Str) (from len next : ℕ) : Type 0 where
   pub some' : 0 < len
   pub ends : next ≤ length text
 
-never : {X : Type 0} {len next : ℕ} → Bad ≡ Frame len next → X
+never : {X : Type 0} {l : Line} → None ≡ Some l → X
 never e = let z : ◌≡◌ {A = ℕ} 0 1 = cc in absurd (omega arith)
 
-module _ (text : Str) (from : ℕ) (r : Line) (i : r ≡ first_line from (lines (drop from text))) where
-  pub line_read : from ≤ length text → (len next : ℕ) → r ≡ Frame len next → Read text from len next
-  line_read f len next g =
+module _ (text : Str) (from : ℕ) (r : Option Line) (i : r ≡ first_line from (lines (drop from text))) where
+  pub line_read : from ≤ length text → (l : Line) → r ≡ Some l → Read text from l.len l.next
+  line_read f got g =
+      let len = got.len in
+      let next = got.next in
       let n = length (digits (drop from text)) in
       by (ltb (from + 2 * n) (length text))
       (λ a.
@@ -227,9 +230,11 @@ module _ (text : Str) (from : ℕ) (r : Line) (i : r ≡ first_line from (lines 
       (λ c. never (at_empty text from n refl h k (eqb-true _ _ c) ∙ sym i ∙ g))
       (λ c.
       let z : n ≡ 0 → ⊥ = eqb-false _ _ c in
-      let q : Frame n (from + 2 * n + 1) ≡ Frame len next = at_LF text from n refl h k z ∙ sym i ∙ g in
-      let x : len ≡ n = cc in
-      let y : next ≡ from + 2 * n + 1 = cc in
+      let q : Some (record { len = n; next = from + 2 * n + 1 }) ≡ Some got = at_LF text from n refl h k z ∙ sym i ∙ g in
+      let w : Line = record { len = n; next = from + 2 * n + 1 } in
+      let o : w ≡ got = cc in
+      let x : len ≡ n = sym (ap (λ (l : Line). l.len) o) in
+      let y : next ≡ from + 2 * n + 1 = sym (ap (λ (l : Line). l.next) o) in
       let m = ended (drop from text) n refl (omega (arith, length-drop from text)) (get_or-drop from text (2 * n) 0 ∙ k) in
       let j : from + (2 * n + 1) ≡ next = omega arith in
       let d : drop (2 * n + 1) (drop from text) ≡ drop next text = drop-drop (2 * n + 1) from text ∙ ap (λ (o : ℕ). drop o text) j in
@@ -252,12 +257,12 @@ pub record Unhex (text : Str) (from : ℕ) : Type 0 where
   pub first : lines (drop from text) ≡ line ∷ others
   pub is : frame line ≡ none
 
-bad_frame : (from : ℕ) (l : Str) (ls : List Str) (x : Option Str) → frame l ≡ x → Bad ≡ first_line from (l ∷ ls) → frame l ≡ none
+bad_frame : (from : ℕ) (l : Str) (ls : List Str) (x : frames.Option Str) → frame l ≡ x → None ≡ first_line from (l ∷ ls) → frame l ≡ none
 unfolding first_line taken
 bad_frame from l ls none e g = e
-bad_frame from l ls (some f) e g = let h : Bad ≡ Frame (length f) (from + length l) = g ∙ rw e in never h
+bad_frame from l ls (some f) e g = let h : None ≡ Some (record { len = length f; next = from + length l }) = g ∙ rw e in never h
 
-pub line_unhex : (text : Str) (from : ℕ) (r : Line) → r ≡ first_line from (lines (drop from text)) → from < length text → r ≡ Bad → Unhex text from
+pub line_unhex : (text : Str) (from : ℕ) (r : Option Line) → r ≡ first_line from (lines (drop from text)) → from < length text → r ≡ None → Unhex text from
 line_unhex text from r i h g =
     let c = lines_cons (drop from text) (omega (arith, length-drop from text)) in
     record { line = c.0; others = c.1; first = c.2; is = bad_frame from c.0 c.1 (frame c.0) refl (sym g ∙ i ∙ ap (first_line from) c.2) }

@@ -6,12 +6,11 @@ ghost use Rattle.text.specs.Fill.{put};
 ghost use Rattle.table_line.specs.Lines.{lines};
 ghost use Rattle.table_line.specs.Decoding.{digits, first_line};
 
+// A hex line: how long its frame is, and where the next line starts.
 #[derive(Clone, Copy)]
-pub enum Line {
-    // A frame of len bytes; the next line starts at next.
-    Frame { len: usize, next: usize },
-    // Not a hex line.
-    Bad,
+pub struct Line {
+    pub len: usize,
+    pub next: usize,
 }
 
 // Decodes the pairs of digits from `from` on into out from `at` on, and answers how many they are.
@@ -35,25 +34,16 @@ fn decode(text: &[u8], from: usize, out: &mut [u8], at: usize) -> usize
     k - at
 }
 
-// The line that starts at `from`. Its digits are decoded into out from `at` on.
-pub fn read_line(text: &[u8], from: usize, out: &mut [u8], at: usize) -> Line
+// The line that starts at `from`, if it is a hex line. Its digits are decoded into out from `at` on.
+pub fn read_line(text: &[u8], from: usize, out: &mut [u8], at: usize) -> Option<Line>
     requires { (from ≤ length text.now) × (at + (length text.now - from) / 2 ≤ length out.old) }
     ensures value { result ≡ first_line from (lines (drop from text.now)) }
     ensures out_after { out.new ≡ put out.old at (digits (drop from text.now)) }
 {
     let len = decode(text, from, out, at);
     let end = from + 2 * len;
-    if text.len() <= end {
-        return Line::Bad;
+    if text.len() <= end || text[end] != b'\n' || len == 0 {
+        return None;
     }
-    if text[end] != b'\n' {
-        return Line::Bad;
-    }
-    if len == 0 {
-        return Line::Bad;
-    }
-    Line::Frame {
-        len: len,
-        next: end + 1,
-    }
+    Some(Line { len, next: end + 1 })
 }

@@ -17,8 +17,8 @@ use Rattle.text.specs.Fill.{put}
 use Rattle.text.proofs.Filling.{put_length}
 use Rattle.table_line.specs.Lines.{lines, frame}
 use Rattle.table_line.specs.Decoding.{digits, first_line}
+use Rattle.std.specs.Prelude.{Option, Some, None}
 use Rattle.table_line.specs.declared.Line as lined
-use Rattle.table_line.specs.declared.Line.TheVariants as hexed
 use Rattle.table_line.proofs.FirstLine.{Read, line_read, line_unhex}
 use Rattle.table.specs.Frame.{Entry, entry_of}
 use Rattle.table.specs.Refusal.{Line, not_hex, reads, framed, decoded, line_of, Earlier, first, with, after, refusal}
@@ -26,14 +26,13 @@ use Rattle.table.specs.Text.{unless, judge, check, all_told, table, table_of}
 use Rattle.table.specs.declared.Checked.{Checked}
 use Rattle.table.specs.declared.Checked.TheVariants as checked
 use Rattle.table_load.specs.declared.row.Counts.{Counts}
-use Rattle.table_load.specs.declared.Loaded.TheVariants.{Table, Refused}
 use Rattle.table_rows.specs.Strings.{rows_of, strings_in}
 use Rattle.text_sorted.proofs.Growing.{none as none-sorted, none_there as no_name}
 use Rattle.text_set.proofs.Sets.{holds_none}
 use Rattle.table_keep.specs.Held.{member_keys, members_in, bytes_of, member_place}
 use Rattle.table_keep_rule.specs.Kept.{ids_of, id_keys, id_place}
-use Rattle.table_load.specs.Held.{RulesAt, HoldersAt, Long, Held, counts_after}
-use Rattle.table_load.specs.Loaded.{Grown, Outcome}
+use Rattle.table_load.specs.Held.{RulesAt, HoldersAt, Long, Holds, Held, counts_after}
+use Rattle.table_load.specs.Loaded.{Grown}
 
 -- ---- stored bytes
 
@@ -146,20 +145,17 @@ module _ {text buf : List ℕ} {c : Counts} {groups users owners starts holders 
   pub number_room : number ≤ max_table_text + 1
   number_room = omega (arith, G.paced, G.within)
 
-  pub load_end : length text ≤ from → Outcome text (Table used c) buf groups users owners starts holders
-  unfolding Outcome judge lines all_told table table_of
+  pub load_end : length text ≤ from → (check text ≡ checked.Accepted) × ((used ≤ length buf) × (used ≤ max_table_bytes))
+      × Holds (table_of text).groups (table_of text).members (table_of text).rules (take used buf) c groups users owners starts holders
+  unfolding judge lines all_told table table_of
   load_end h =
       let n : drop from text ≡ [] = drop_of_length-le text h in
-      let t : all_told first (lines text) ≡ G.b = G.told_left ∙ rw n in
-      record {
-        accepts = G.judged ∙ rw n;
-        within = (omega (arith, G.paced, G.within), omega (arith, G.paced, G.within));
-        holds = rw t G.held.holds;
-      }
+      let told : all_told first (lines text) ≡ G.b = G.told_left ∙ rw n in
+      (G.judged ∙ rw n, (omega (arith, G.paced, G.within), omega (arith, G.paced, G.within)), rw told G.held.holds)
 
   -- ---- a line that is no hex line
 
-  pub load_bad : from < length text → (r : lined.Line) → r ≡ first_line from (lines (drop from text)) → r ≡ hexed.Bad → check text ≡ checked.Refused 2 number
+  pub load_bad : from < length text → (r : Option lined.Line) → r ≡ first_line from (lines (drop from text)) → r ≡ None → check text ≡ checked.Refused 2 number
   unfolding refusal
   load_bad h r i e =
       let u = line_unhex text from r i h e in
@@ -167,9 +163,15 @@ module _ {text buf : List ℕ} {c : Counts} {groups users owners starts holders 
 
   -- ---- a hex line
 
-  module _ (r : lined.Line) (i : r ≡ first_line from (lines (drop from text))) (len next : ℕ) (e : r ≡ hexed.Frame len next) (buf' : List ℕ) (o : buf' ≡ put buf used (digits (drop from text))) where
+  module _ (r : Option lined.Line) (i : r ≡ first_line from (lines (drop from text))) (l : lined.Line) (e : r ≡ Some l) (buf' : List ℕ) (o : buf' ≡ put buf used (digits (drop from text))) where
+    abbrev len : ℕ
+    len = l.len
+
+    abbrev next : ℕ
+    next = l.next
+
     R : Read text from len next
-    R = line_read text from r i G.within.0 len next e
+    R = line_read text from r i G.within.0 l e
 
     abbrev f : List ℕ
     f = digits (drop from text)

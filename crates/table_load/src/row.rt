@@ -3,11 +3,14 @@ ghost use Rattle.std.specs.Prelude.{◌≡◌, ◌≤◌, ◌<◌, length, take}
 ghost use Rattle.limits.specs.Limits.{max_groups, max_members, max_rules};
 ghost use Rattle.limits.specs.Sizes.{max_table_bytes};
 ghost use Rattle.text.specs.Refusal.{clear};
+ghost use Rattle.refusal.specs.Refusal.{code};
 ghost use Rattle.text.specs.Frame.{part};
 ghost use Rattle.table.specs.Frame.{entry_of};
 ghost use Rattle.table.specs.Refusal.{Earlier, framed, refusal};
 ghost use Rattle.table_load.specs.Held.{Held, counts_after};
 ghost use Rattle.table_load.specs.Loaded.{Grown};
+
+use refusal::Refusal;
 
 // What the rows so far are: the kind of the last, and how many groups, members and rules.
 #[derive(Clone, Copy)]
@@ -23,39 +26,27 @@ pub fn after(c: Counts, kind: u8) -> Counts
     requires { (c.groups ≤ max_groups) × (c.members ≤ max_members) × (c.rules ≤ max_rules) }
     ensures { result ≡ counts_after c kind }
 {
-    if kind == table::KIND_GROUP {
-        return Counts {
-            kind: table::KIND_GROUP,
+    match kind {
+        table::KIND_GROUP => Counts {
+            kind,
             groups: c.groups + 1,
-            members: c.members,
-            rules: c.rules,
-        };
-    }
-    if kind == table::KIND_MEMBER {
-        return Counts {
-            kind: table::KIND_MEMBER,
-            groups: c.groups,
+            ..c
+        },
+        table::KIND_MEMBER => Counts {
+            kind,
             members: c.members + 1,
-            rules: c.rules,
-        };
-    }
-    if kind == table::KIND_RULE {
-        return Counts {
-            kind: table::KIND_RULE,
-            groups: c.groups,
-            members: c.members,
+            ..c
+        },
+        table::KIND_RULE => Counts {
+            kind,
             rules: c.rules + 1,
-        };
-    }
-    Counts {
-        kind: kind,
-        groups: c.groups,
-        members: c.members,
-        rules: c.rules,
+            ..c
+        },
+        _ => Counts { kind, ..c },
     }
 }
 
-// The number of the frame that stands from `used` to `end`, after the rows before it. It is kept where that is CLEAR.
+// What refuses the frame that stands from `used` to `end`, after the rows before it. It is kept where nothing does.
 pub fn take_row(
     buf: &[u8],
     used: usize,
@@ -70,7 +61,7 @@ pub fn take_row(
     names: &mut [u32; limits::MAX_GROUPS],
     memberkeys: &mut [u32; table_keep::MEMBER_KEYS],
     idkeys: &mut [u32; table_keep_rule::ID_KEYS],
-) -> u8
+) -> Result<(), Refusal>
     requires used_lt_end { (used < end) × (end ≤ length buf.now) × (end ≤ max_table_bytes) }
     requires held { (b : Earlier)
         × Held b (take used buf.now) c groups.old users.old owners.old starts.old holders.old
@@ -78,8 +69,8 @@ pub fn take_row(
     ensures { (b : Earlier)
         → Held b (take used buf.now) c groups.old users.old owners.old starts.old holders.old
         names.old memberkeys.old idkeys.old
-        → (result ≡ refusal b (framed (entry_of (part buf.now used end))))
-        × (result ≡ clear
+        → (code result ≡ refusal b (framed (entry_of (part buf.now used end))))
+        × (code result ≡ clear
         → Grown b (take used buf.now) (part buf.now used end) c
         groups.new users.new owners.new starts.new holders.new
         names.new memberkeys.new idkeys.new) }
@@ -103,5 +94,5 @@ pub fn take_row(
             old, f, c.kind, groups, c.groups, hints, names, starts, holders, c.rules, idkeys,
         );
     }
-    3
+    Err(Refusal::BadFrame)
 }

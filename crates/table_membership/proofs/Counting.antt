@@ -8,7 +8,7 @@ use Rattle.limits.specs.Limits.{max_groups}
 use Rattle.text.specs.Test.{whether◌then◌else◌}
 use Rattle.text.specs.String.{Str}
 use Rattle.table.specs.Group.{bad_user}
-use Rattle.table.specs.declared.Counted.TheVariants.{Count, NoGroup, Declined}
+use Rattle.table.specs.Counted.{Count, NoGroup, Declined}
 use Rattle.table_membership.specs.Set.{count_in}
 
 module _ (user : Str) (set : ℕ) (bad : Bool) (x : bad ≡ bad_user user) where

@@ -10,8 +10,7 @@ use Rattle.table_rows.specs.Strings.{Listed}
 use Rattle.table_keep.specs.Held.{Owned}
 use Rattle.table.specs.Table.{Table}
 use Rattle.table.specs.Group.{lists, numbered, bad_user}
-use Rattle.table.specs.declared.Counted.{Counted}
-use Rattle.table.specs.declared.Counted.TheVariants.{Count, NoGroup, Declined}
+use Rattle.table.specs.Counted.{Counted, Count, NoGroup, Declined}
 use Rattle.table.specs.declared.GroupNumber.{GroupNumber}
 use Rattle.table.specs.declared.RuleNumber.{RuleNumber}
 

@@ -6,9 +6,11 @@ ghost use Rattle.limits.specs.Limits.{max_groups};
 ghost use Rattle.text.specs.Test.{whether◌then◌else◌};
 ghost use Rattle.text.specs.String.{same};
 ghost use Rattle.table_place.specs.Place.{str_end, str_in};
+ghost use Rattle.table.specs.Counted.{counted_as};
 ghost use Rattle.table_membership.specs.Set.{insert_of, has_of, Members, set_in, group_of, count_in};
 
-use table::{Counted, GroupNumber, RuleNumber};
+use refusal::{Fault, Refusal};
+use table::{GroupNumber, Groups, RuleNumber};
 
 // The set with group g.
 fn insert(set: u64, g: GroupNumber) -> u64
@@ -64,21 +66,18 @@ pub fn memberships(f: &[u8], users: &[u16], owners: &[u8], n: usize, user: &[u8]
 }
 
 // The count of the user's groups, which the set has.
-pub fn count_of(set: u64, user: &[u8]) -> Counted
-    ensures { result ≡ count_in user.now set }
+pub fn count_of(set: u64, user: &[u8]) -> Result<Option<Groups>, Fault>
+    ensures { counted_as result ≡ count_in user.now set }
 {
     if table::is_bad_user(user) {
-        return Counted::Declined {
-            number: 20,
-            line: 0,
-        };
+        return Err(Fault::at(Refusal::BadUserOrMode, 0));
     }
     let count = u64::count_ones(set);
     if count == 0 {
-        return Counted::NoGroup;
+        return Ok(None);
     }
-    Counted::Count {
+    Ok(Some(Groups {
         count: count as u8,
         first: GroupNumber(u64::trailing_zeros(set) as u8),
-    }
+    }))
 }

@@ -1,5 +1,5 @@
 -- The tests of bytes that programs make: hex digits, found by subtraction modulo 256, and the bytes of names.
-use Rattle.std.proofs.Common.{◌≡◌, ℕ, zero, suc, ◌+◌, ◌-◌, ◌%◌, ◌<◌, ◌≤◌, Bool, true, false, not, ◌&&◌, ◌||◌, eqb, leb, refl, ap, ◌∙◌, arith, eqb-true, le-leb, leb-true}
+use Rattle.std.proofs.Common.{◌≡◌, ℕ, zero, suc, ◌+◌, ◌%◌, ◌<◌, ◌≤◌, Bool, true, false, not, ◌&&◌, ◌||◌, eqb, leb, refl, ap, ◌∙◌, arith, eqb-true, le-leb, leb-true}
 use mathlib.Core.Bool.{xor}
 use borrow.Author.Tests.{eqb-false}
 use lib.Bits.{bit_or}

@@ -1,13 +1,11 @@
 -- Reading strings and runs of things in a frame, one step at a time.
-use Rattle.std.proofs.Common.{◌≡◌, ℕ, zero, suc, ◌+◌, ◌-◌, ◌<◌, ◌≤◌, ltb, leb, List, [], ◌∷◌, ◌++◌, length, get_or, drop, sym, refl, ap, ◌∙◌, arith, length-drop, ltb-false, ltb-true, le-ltb, lt-ltb, le-leb, leb-false, leb-true}
+use Rattle.std.proofs.Common.{◌≡◌, ℕ, Option, Some, None, zero, suc, ◌+◌, ◌-◌, ◌<◌, ◌≤◌, ltb, leb, List, [], ◌∷◌, ◌++◌, length, get_or, drop, sym, refl, ap, ◌∙◌, arith, length-drop, ltb-false, ltb-true, le-ltb, lt-ltb, le-leb, leb-false, leb-true}
 use borrow.Author.Tests.{lt-leb}
 use lib.Seq.{take-append-le, drop-append-le}
 use Rattle.text.specs.Test.{whether◌then◌else◌}
 use Rattle.text.specs.String.{Str}
 use Rattle.text.specs.Frame.{Parsed, got, unread, and_then, Reader, ◌>>=◌, ret, byte, part, run, string, times}
 use Rattle.text.specs.Steps.{end_of}
-use Rattle.text.specs.declared.frame.End.{End}
-use Rattle.text.specs.declared.frame.End.TheVariants.{At, Unread}
 use Rattle.text.proofs.Tests.{by}
 
 module _ (f : List ℕ) (at : ℕ) where
@@ -32,6 +30,19 @@ module _ (f : List ℕ) (at : ℕ) where
   unfolding string ◌>>=◌ run whether◌then◌else◌
   string_unread h k = rw (byte_got h, lt-leb _ _ k)
 
+-- where it ends
+pub ends_at : (f : List ℕ) (at : ℕ) → at < length f → get_or f at 0 ≤ length f - (at + 1) → end_of (string f at) ≡ Some (at + 1 + get_or f at 0)
+unfolding end_of
+ends_at f at h k = rw (string_got f at h k)
+
+pub ends_past : (f : List ℕ) (at : ℕ) → at < length f → length f - (at + 1) < get_or f at 0 → end_of (string f at) ≡ None
+unfolding end_of
+ends_past f at h k = rw (string_unread f at h k)
+
+pub ends_none : (f : List ℕ) (at : ℕ) → length f ≤ at → end_of (string f at) ≡ None
+unfolding end_of
+ends_none f at h = rw (string_none f at h)
+
 -- no bytes
 pub no_part : (f : List ℕ) (a : ℕ) → part f a a ≡ []
 no_part f a = let q : a - a ≡ 0 = omega arith in rw q
@@ -54,23 +65,37 @@ told f at =
     (λ v. rw (string_unread f at a (leb-false _ _ v)) tt))
     (λ u. rw (string_none f at (ltb-false _ _ u)) tt)
 
-ended : (f : List ℕ) (at : ℕ) (x : Parsed Str) (t : ℕ) → At t ≡ end_of x → Told f at x → (x ≡ got (part f (at + 1) t) t) × (at + 1 ≤ t) × (t ≤ length f)
+ended : (f : List ℕ) (at : ℕ) (x : Parsed Str) (t : ℕ) → Some t ≡ end_of x → Told f at x → (x ≡ got (part f (at + 1) t) t) × (at + 1 ≤ t) × (t ≤ length f)
 unfolding end_of
 ended f at (got s e) t g h = let i : t ≡ e = cc in rw i (ap (λ (z : Str). got z e) h.0, h.1, h.2)
 ended f at unread t g h = let x : ◌≡◌ {A = ℕ} 0 1 = cc in absurd (omega arith)
 
-missed : {A : Type 0} (x : Parsed A) → Unread ≡ end_of x → x ≡ unread
+missed : {A : Type 0} (x : Parsed A) → None ≡ end_of x → x ≡ unread
 unfolding end_of
 missed (got a t) g = let x : ◌≡◌ {A = ℕ} 0 1 = cc in absurd (omega arith)
 missed unread g = refl
 
 -- what an answer r of string_end tells
-module _ (f : List ℕ) (at : ℕ) (r : End) (e : r ≡ end_of (string f at)) where
-  pub string_ends : (t : ℕ) → r ≡ At t → (string f at ≡ got (part f (at + 1) t) t) × (at + 1 ≤ t) × (t ≤ length f)
+module _ (f : List ℕ) (at : ℕ) (r : Option ℕ) (e : r ≡ end_of (string f at)) where
+  pub string_ends : (t : ℕ) → r ≡ Some t → (string f at ≡ got (part f (at + 1) t) t) × (at + 1 ≤ t) × (t ≤ length f)
   string_ends t g = ended f at (string f at) t (sym g ∙ e) (told f at)
 
-  pub string_misses : r ≡ Unread → string f at ≡ unread
+  pub string_misses : r ≡ None → string f at ≡ unread
   string_misses g = missed (string f at) (sym g ∙ e)
+
+-- the same, for `using(..)`
+module _ (f : List ℕ) (at : ℕ) where
+  pub ends_after : (t : ℕ) → end_of (string f at) ≡ Some t → at + 1 ≤ t
+  ends_after t g = (string_ends f at (Some t) (sym g) t refl).1
+
+  pub ends_within : (t : ℕ) → end_of (string f at) ≡ Some t → t ≤ length f
+  ends_within t g = (string_ends f at (Some t) (sym g) t refl).2
+
+  pub string_at : (t : ℕ) → end_of (string f at) ≡ Some t → string f at ≡ got (part f (at + 1) t) t
+  string_at t g = (string_ends f at (Some t) (sym g) t refl).0
+
+  pub string_unfit : end_of (string f at) ≡ None → string f at ≡ unread
+  string_unfit g = string_misses f at None (sym g) refl
 
 -- n readings, the first of which is known
 module _ {A : Type 0} (r : Reader A) (f : List ℕ) (p : ℕ) where

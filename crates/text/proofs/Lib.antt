@@ -7,3 +7,5 @@ pub mod Frames
 pub mod Filling
 pub mod Codec
 pub mod Stores
+pub mod Library
+pub mod Choices

@@ -7,9 +7,8 @@ pub fn copy(s: &[u8], out: &mut [u8], at: usize)
     requires { at + length s.now ≤ length out.old }
     ensures { out.new ≡ put out.old at s.now }
 {
-    let mut i = 0;
-    while i < s.len() {
+    // `copy_from_slice` is compiled to a call of memmove, which the library does not take
+    for i in 0..s.len() {
         out[at + i] = s[i];
-        i += 1;
     }
 }

@@ -18,15 +18,11 @@ pub fn absorb(s: Seed, f: &[u8]) -> Seed
 {
     let mut x = s.first;
     let mut y = s.second;
-    let mut k = 0;
-    let mut left = f.len() / 8;
-    while 0 < left {
-        let u = factor((x + crate::word::at(f, k)) * y);
-        let v = factor((y + crate::word::at(f, k + 1)) * x);
+    for i in 0..f.len() / 8 {
+        let u = factor((x + crate::word::at(f, 2 * i)) * y);
+        let v = factor((y + crate::word::at(f, 2 * i + 1)) * x);
         x = u;
         y = v;
-        k += 2;
-        left -= 1;
     }
     Seed {
         first: x,

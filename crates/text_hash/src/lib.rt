@@ -28,14 +28,10 @@ pub fn mix(s: Seed, h: usize, t: &[u8]) -> usize
 {
     let mut x = 0;
     let mut y = h;
-    let mut k = 0;
-    let mut left = crate::word::count(t.len());
-    while 0 < left {
+    for k in 0..crate::word::count(t.len()) {
         let w = crate::word::at(t, k);
         x = middle((x + w) * s.first);
         y = middle((y + x) * s.second);
-        k += 1;
-        left -= 1;
     }
     y
 }

@@ -1,2 +1,4 @@
 pub mod Adding
 pub mod Spelling
+pub mod Decimals
+pub mod Pieces

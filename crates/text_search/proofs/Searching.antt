@@ -7,6 +7,8 @@ use native.Mathlib.Numerals.{add-one}
 use native.Mathlib.Omega.{arith}
 use lib.ListN.{length, drop, get_or, length-drop, drop_of_length-le}
 use lib.Seq.{drop-cons}
+use Rattle.std.proofs.Common.{Option, Some, None, refl, sym, ◌∙◌, cond, ltb, ltb-false}
+use Rattle.std.specs.List.{position_or_len}
 use Rattle.text.specs.Test.{whether◌then◌else◌}
 use Rattle.text.specs.Byte.{is_print}
 use Rattle.text.specs.String.{Str}
@@ -31,6 +33,25 @@ module _ (p : ℕ → Bool) (s : Str) (i : ℕ) where
   pub ran_out : length s ≤ i → until p (drop i s) ≡ 0
   unfolding until
   ran_out h = rw (drop_of_length-le s h)
+
+-- the library's `position`
+until_is : (p : ℕ → Bool) (s : Str) → until p s ≡ position_or_len p s
+unfolding until whether◌then◌else◌
+until_is p [] = refl
+until_is p (x ∷ s) = by (p x) (λ u. rw u) (λ u. rw (u, until_is p s) (omega arith))
+
+module _ (p : ℕ → Bool) (s : Str) (r : Option ℕ) (h : r ≡ cond (ltb (position_or_len p s) (length s)) (Some (position_or_len p s)) None) where
+  pub position_some : (n : ℕ) → r ≡ Some n → n ≡ until p s
+  position_some n e =
+      by (ltb (position_or_len p s) (length s))
+      (λ u. let k : r ≡ Some (position_or_len p s) = rw u at h in let j : n ≡ position_or_len p s = cc in j ∙ sym (until_is p s))
+      (λ u. let k : r ≡ None = rw u at h in let z : ◌≡◌ {A = ℕ} 0 1 = cc in absurd (omega arith))
+
+  pub position_none : r ≡ None → length s ≡ until p s
+  position_none e =
+      by (ltb (position_or_len p s) (length s))
+      (λ u. let k : r ≡ Some (position_or_len p s) = rw u at h in let z : ◌≡◌ {A = ℕ} 0 1 = cc in absurd (omega arith))
+      (λ u. omega (arith, ltb-false _ _ u, until_is p s, until_fits p s))
 
 -- the search from `at` on answers r
 module _ (p : ℕ → Bool) (s : Str) (at r : ℕ) (h : at ≤ length s) (e : r ≡ at + until p (drop at s)) where

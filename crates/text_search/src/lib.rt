@@ -9,14 +9,10 @@ pub fn find(text: &[u8], at: usize, b: u8) -> usize
     requires { at ≤ length text.now }
     ensures { result ≡ at + until (is b) (drop at text.now) }
 {
-    let mut i = at;
-    while i < text.len() {
-        if text[i] == b {
-            return i;
-        }
-        i += 1;
+    match text[at..].iter().position(|x| *x == b) {
+        Some(n) => at + n,
+        None => text.len(),
     }
-    i
 }
 
 // Where the first byte from `at` on stands that does not print; the end where there is none.
@@ -24,12 +20,8 @@ pub fn print_end(text: &[u8], at: usize) -> usize
     requires { at ≤ length text.now }
     ensures { result ≡ at + until unprinted (drop at text.now) }
 {
-    let mut i = at;
-    while i < text.len() {
-        if !text::byte::is_print(text[i]) {
-            return i;
-        }
-        i += 1;
+    match text[at..].iter().position(|x| !text::byte::is_print(*x)) {
+        Some(n) => at + n,
+        None => text.len(),
     }
-    i
 }

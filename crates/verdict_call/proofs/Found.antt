@@ -12,14 +12,14 @@ use Rattle.path.specs.Path.{Path}
 use Rattle.path.specs.Refusal.{key_twice}
 use Rattle.table.specs.Table.{Rule, Table}
 use Rattle.table.specs.Group.{lists}
-use Rattle.verdict.specs.Order.{better, earlier, choose}
+use Rattle.verdict.specs.Order.{better, earlier, Numbered, choose}
 use Rattle.verdict.specs.Verdict.{Request, concerns, applies, decider, action, permits, opposes, answer, tree}
 use Rattle.table_rows.specs.Rules.{rule_in, rules_in}
 use Rattle.verdict_judge.specs.Rules.{Marked}
-use Rattle.verdict_judge.specs.Best.{held, matching}
-use Rattle.verdict_judge.specs.declared.best.Best.{Best}
+use mathlib.Core.Option.{Option}
+use Rattle.verdict_judge.specs.Best.{matching}
 use Rattle.verdict_judge.proofs.Verdict.{decided}
-use Rattle.verdict_tree.specs.Tree.{opposing, fitting, Weights}
+use Rattle.verdict_tree.specs.Tree.{opposing, fitting}
 use Rattle.verdict_tree.proofs.Verdict.{opposed}
 use Rattle.verdict_concern.specs.Concern.{concerns_by, applies_by, Applying}
 use Rattle.verdict_request.specs.Calls.{asked}
@@ -42,36 +42,34 @@ module _ (t : Table) (f starts holders : List ℕ) (n : ℕ) (holding : Holding 
   applied mode origin p i l =
       ap (λ (b : Bool). eqb (rule_in f (get_or starts i 0)).mode mode and same (rule_in f (get_or starts i 0)).origin origin and b) (concerned i l)
 
-  module _ (mode : ℕ) (origin : Str) (p : Path) (on : List ℕ) (a : Applying f starts holders n set user mode origin on) where
+  module _ (mode : ℕ) (origin : Str) (p : Path) (on : List Bool) (a : Applying f starts holders n set user mode origin on) where
     pub marks : Marked (applies t (asked user mode origin p)) f starts on n
     marks i l = a i l ∙ applied mode origin p i l
 
     -- the deciding rule
-    pub found : (b : Best) → ((app : Rule → Bool) → Marked app f starts on n → held f b ≡ choose better (matching app p) 0 (rules_in f starts n 0))
-        → held f b ≡ decider t (asked user mode origin p)
-    found b h =
+    pub found : (x : Option Numbered) → ((app : Rule → Bool) → Marked app f starts on n → x ≡ choose better (matching app p) 0 (rules_in f starts n 0))
+        → x ≡ decider t (asked user mode origin p)
+    found x h =
         h (applies t (asked user mode origin p)) marks
         ∙ ap (λ (rs : List Rule). choose better (matching (applies t (asked user mode origin p)) p) 0 rs) holding.rules
         ∙ decided t (asked user mode origin p)
 
-    pub verdict_is : (b : Best) (v : Bool) → ((app : Rule → Bool) → Marked app f starts on n → held f b ≡ choose better (matching app p) 0 (rules_in f starts n 0))
-        → v ≡ action (held f b) → v ≡ permits t (asked user mode origin p)
+    pub verdict_is : (x : Option Numbered) (v : Bool)
+        → ((app : Rule → Bool) → Marked app f starts on n → x ≡ choose better (matching app p) 0 (rules_in f starts n 0))
+        → v ≡ action x → v ≡ permits t (asked user mode origin p)
     unfolding permits
-    verdict_is b v h e = e ∙ ap action (found b h)
+    verdict_is x v h e = e ∙ ap action (found x h)
 
     -- the opposing rule
-    module _ (weights : List ℕ) (w : (app : Rule → Bool) → Marked app f starts on n → Weights (fitting app p) f starts weights n) where
-      module _ (v : Bool) (b : Best) (h : (test : Rule → Bool) → Weights test f starts weights n → held f b ≡ choose earlier (opposing test (rules_in f starts n 0) p v) 0 (rules_in f starts n 0)) where
-        opposer : held f b ≡ choose earlier (opposing (fitting (applies t (asked user mode origin p)) p) (rules_in f starts n 0) p v) 0 (rules_in f starts n 0)
-        opposer = h (fitting (applies t (asked user mode origin p)) p) (w (applies t (asked user mode origin p)) marks)
-
-        pub spread_is : key_twice p ≡ false → v ≡ permits t (asked user mode origin p) → answer v (held f b) ≡ tree t (asked user mode origin p)
-        unfolding tree
-        spread_is k e =
-            let q : Request = asked user mode origin p in
-            let o : held f b ≡ choose earlier (opposes t q) 0 t.rules =
-            opposer
-            ∙ ap (λ (rs : List Rule). choose earlier (opposing (fitting (applies t q) p) rs p v) 0 rs) holding.rules
-            ∙ ap (λ (x : Bool). choose earlier (opposing (fitting (applies t q) p) t.rules p x) 0 t.rules) e
-            ∙ opposed t q holding.orderly k in
-            rw (o, e)
+    module _ (v : Bool) (x : Option Numbered)
+        (h : (app : Rule → Bool) → Marked app f starts on n → x ≡ choose earlier (opposing (fitting app p) (rules_in f starts n 0) p v) 0 (rules_in f starts n 0)) where
+      pub spread_is : key_twice p ≡ false → v ≡ permits t (asked user mode origin p) → answer v x ≡ tree t (asked user mode origin p)
+      unfolding tree
+      spread_is k e =
+          let q : Request = asked user mode origin p in
+          let o : x ≡ choose earlier (opposes t q) 0 t.rules =
+          h (applies t q) marks
+          ∙ ap (λ (rs : List Rule). choose earlier (opposing (fitting (applies t q) p) rs p v) 0 rs) holding.rules
+          ∙ ap (λ (w : Bool). choose earlier (opposing (fitting (applies t q) p) t.rules p w) 0 t.rules) e
+          ∙ opposed t q holding.orderly k in
+          rw (o, e)

@@ -2,3 +2,4 @@ pub mod Found
 pub mod Spelled
 pub mod RuleBytes
 pub mod Holding
+pub mod Errors

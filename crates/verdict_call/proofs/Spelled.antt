@@ -1,11 +1,11 @@
 -- The path text of a request, and the answers by what refuses the request.
-use mathlib.Core.Path.{◌≡◌, refl, sym, ap₂, ◌∙◌}
+use mathlib.Core.Path.{◌≡◌, refl, sym, ◌∙◌}
 use mathlib.Core.Bool.{Bool, true, false}
 use mathlib.Core.List.{List}
 use mathlib.Core.Option.{Option, none, some}
 use Prim.Native.Nat.{ℕ, ◌≤◌}
 use native.Mathlib.Omega.{arith}
-use borrow.Author.Tests.{ne_eqb, le-leb}
+use borrow.Author.Tests.{eq-eqb, ne_eqb, le-leb}
 use lib.Dec.{leb}
 use lib.ListN.{length, take, length-append}
 use lib.Seq.{take_at}
@@ -20,9 +20,9 @@ use Rattle.path.specs.Bytes.{path, path_bytes}
 use Rattle.path.specs.Refusal.{key_twice, good_path}
 use Rattle.path.proofs.Bytes.{bytes_whole}
 use Rattle.path_read.specs.TextReader.{read_text}
-use Rattle.path_read.specs.Calls.{bytes_for, answer, lent}
-use Rattle.path_read.specs.declared.Filled.{Filled}
-use Rattle.path_read.specs.declared.Filled.TheVariants as filled
+use Rattle.path_read.specs.Calls.{bytes_for, filled_of, answer, lent}
+use Rattle.path_read.specs.Filled.{Filled}
+use Rattle.path_read.specs.Filled as filled
 use Rattle.path_read.proofs.RoundTrip.{no_key_twice, text_reader}
 use Rattle.path_read.proofs.Longest.{bytes_length}
 use Rattle.table.specs.Group.{bad_user}
@@ -31,20 +31,17 @@ use Rattle.verdict.specs.Order.{Numbered}
 use Rattle.verdict.specs.Verdict.{Tree}
 use Rattle.table_place.specs.Place.{path_end, path_in}
 use Rattle.table_place.proofs.Reading.{path_read}
-use Rattle.verdict_request.specs.Either.{one_of, refused_as}
-use Rattle.verdict_request.specs.Calls.{bad_mode, bad_origin, request_refusal, decided_by, path_answer, spread, tree_answer}
-use Rattle.verdict_request.specs.declared.PathAnswer.TheVariants as answers
-use Rattle.verdict_request.specs.declared.TreeAnswer.TheVariants as trees
+use Rattle.verdict_call.specs.Holding.{Read, Fetched}
+use Rattle.verdict_concern.specs.declared.asker.Asker.{Asker}
+use Rattle.std.specs.Prelude.{Result, Ok, Err}
+use Rattle.refusal.specs.Refusal.{number}
+use Rattle.refusal.specs.declared.Refusal.{Refusal}
+use Rattle.refusal.proofs.Numbers.{never_clear}
+use Rattle.verdict_request.specs.Calls.{bad_mode, bad_origin, refusal_or, request_refusal, decided_by, path_answer, spread, tree_answer}
+use Rattle.verdict_request.specs.PathAnswer as answers
+use Rattle.verdict_request.specs.TreeAnswer as trees
 
 -- ---- the path text
-
--- what was read: the path, and its bytes at the start of the buffer
-pub record Read (s : Str) (len : ℕ) (out : List ℕ) : Type 0 where
-  pub path : Path
-  pub reads : read_text s ≡ some path
-  pub once : key_twice path ≡ false
-  pub bytes : take len out ≡ path_bytes path
-  pub fits : len ≤ length out
 
 module _ (s : Str) (out out' : List ℕ) (l : max_path_bytes ≤ length out) where
   put_length : (b : Str) → length b ≤ length out → length b ≤ length (put out 0 b)
@@ -68,7 +65,7 @@ module _ (s : Str) (out out' : List ℕ) (l : max_path_bytes ≤ length out) whe
         path = p;
         reads = e;
         once = no_key_twice p g;
-        bytes = rw (o', n) (put_take (path_bytes p));
+        read = rw (o', n) (put_take (path_bytes p));
         fits = rw (o', n) (put_length (path_bytes p) (omega arith));
       }
 
@@ -122,54 +119,64 @@ module _ (user : Str) (mode : ℕ) (origin : Str) (text : Str) (m : ℕ) (h : m 
       (λ u. let z : m ≡ 20 = rw u at h in absurd (omega arith))
       (λ u. by (bad_origin origin) (λ o. let z : m ≡ 21 = rw (u, o) at h in absurd (omega arith)) (λ o. rw (u, o)))
 
-  unread_22 : m ≡ clear → read_text text ≡ none → request_refusal user mode origin text ≡ 22
+  pub not_asked : (m ≡ clear → ⊥) → request_refusal user mode origin text ≡ m
+  not_asked n = early n
+
+  pub unread : m ≡ clear → read_text text ≡ none → request_refusal user mode origin text ≡ 22
   unfolding absent whether◌then◌else◌
-  unread_22 e r = late e ∙ rw r
+  unread e r = late e ∙ rw r
 
-  read_clear : m ≡ clear → (p : Path) → read_text text ≡ some p → request_refusal user mode origin text ≡ clear
+  pub was_clear : m ≡ clear → (p : Path) → read_text text ≡ some p → request_refusal user mode origin text ≡ clear
   unfolding absent whether◌then◌else◌
-  read_clear e p r = late e ∙ rw r
+  was_clear e p r = late e ∙ rw r
 
-  -- ---- the answers
+-- ---- the answers
 
-  module _ (d : Option Numbered) where
-    path_early : (m ≡ clear → ⊥) → answers.Refused m 0 ≡ path_answer Accepted (request_refusal user mode origin text) d
-    unfolding path_answer whether◌then◌else◌
-    path_early n = rw (early n, ne_eqb m clear n)
+pub path_refused : (number : ℕ) (d : Option Numbered) → (number ≡ clear → ⊥) → answers.Refused number 0 ≡ path_answer Accepted number d
+unfolding path_answer whether◌then◌else◌
+path_refused number d n = rw (ne_eqb number clear n)
 
-    path_unread : m ≡ clear → read_text text ≡ none → answers.Refused 22 0 ≡ path_answer Accepted (request_refusal user mode origin text) d
-    unfolding path_answer whether◌then◌else◌
-    path_unread e r = rw (unread_22 e r)
+pub path_judged : (number : ℕ) (d : Option Numbered) → number ≡ clear → decided_by d ≡ path_answer Accepted number d
+unfolding path_answer whether◌then◌else◌
+path_judged number d e = rw (eq-eqb number clear e)
 
-    pub path_judged : m ≡ clear → (p : Path) → read_text text ≡ some p → decided_by d ≡ path_answer Accepted (request_refusal user mode origin text) d
-    unfolding path_answer whether◌then◌else◌
-    path_judged e p r = rw (read_clear e p r)
+pub tree_refused : (number : ℕ) (w : Tree) → (number ≡ clear → ⊥) → trees.Refused number 0 ≡ tree_answer Accepted number w
+unfolding tree_answer whether◌then◌else◌
+tree_refused number w n = rw (ne_eqb number clear n)
 
-  module _ (w : Tree) where
-    tree_early : (m ≡ clear → ⊥) → trees.Refused m 0 ≡ tree_answer Accepted (request_refusal user mode origin text) w
-    unfolding tree_answer whether◌then◌else◌
-    tree_early n = rw (early n, ne_eqb m clear n)
-
-    tree_unread : m ≡ clear → read_text text ≡ none → trees.Refused 22 0 ≡ tree_answer Accepted (request_refusal user mode origin text) w
-    unfolding tree_answer whether◌then◌else◌
-    tree_unread e r = rw (unread_22 e r)
-
-    pub tree_judged : m ≡ clear → (p : Path) → read_text text ≡ some p → spread w ≡ tree_answer Accepted (request_refusal user mode origin text) w
-    unfolding tree_answer whether◌then◌else◌
-    tree_judged e p r = rw (read_clear e p r)
-
-  -- either answer
-  module _ (d : Option Numbered) (w : Tree) (whole : Bool) where
-    pub either_early : (m ≡ clear → ⊥)
-        → refused_as whole m 0 ≡ one_of whole (path_answer Accepted (request_refusal user mode origin text) d) (tree_answer Accepted (request_refusal user mode origin text) w)
-    unfolding refused_as
-    either_early n = ap₂ (one_of whole) (path_early d n) (tree_early w n)
-
-    pub either_unread : m ≡ clear → read_text text ≡ none
-        → refused_as whole 22 0 ≡ one_of whole (path_answer Accepted (request_refusal user mode origin text) d) (tree_answer Accepted (request_refusal user mode origin text) w)
-    unfolding refused_as
-    either_unread e r = ap₂ (one_of whole) (path_unread d e r) (tree_unread w e r)
+pub tree_judged : (number : ℕ) (w : Tree) → number ≡ clear → spread w ≡ tree_answer Accepted number w
+unfolding tree_answer whether◌then◌else◌
+tree_judged number w e = rw (eq-eqb number clear e)
 
 pub spelled_is : (s : Str) (p : Path) → read_text s ≡ some p → or_nothing (read_text s) ≡ p
 unfolding or_nothing
 spelled_is s p e = rw e
+
+-- ---- what was fetched
+
+unnamed : (text : Str) (out : List ℕ) → read_text text ≡ none → (x : Refusal) → filled.Refused (number x) ≡ answer out (bytes_for text) → 22 ≡ number x
+unfolding answer bytes_for
+unnamed text out n x e = let e' = rw n at e in cc
+
+module _ (a : Asker) (text : Str) where
+  pub fetched : (out out' : List ℕ) → max_path_bytes ≤ length out → (r : Result ℕ Refusal) → clear ≡ refusal_or clear a.user.now a.mode a.origin.now
+      → filled_of r ≡ answer out (bytes_for text) → out' ≡ lent out (bytes_for text) → Fetched a text out' r
+  unfolding Fetched
+  fetched out out' l (Ok len) h e o =
+      let b = was_read text out out' l _ e o len refl in
+      (was_clear a.user.now a.mode a.origin.now text clear h refl b.path b.reads, b)
+  fetched out out' l (Err x) h e o =
+      let n = was_unread text out out' l _ e (number x) refl in
+      unread a.user.now a.mode a.origin.now text clear h refl n ∙ unnamed text out n x e
+
+  pub not_fetched : (x : Refusal) (out : List ℕ) → number x ≡ refusal_or clear a.user.now a.mode a.origin.now → Fetched a text out (Err x)
+  unfolding Fetched
+  not_fetched x out h = not_asked a.user.now a.mode a.origin.now text (number x) h (never_clear x)
+
+  pub refused_by : (x : Refusal) (out : List ℕ) → Fetched a text out (Err x) → request_refusal a.user.now a.mode a.origin.now text ≡ number x
+  unfolding Fetched
+  refused_by x out h = h
+
+  pub read_by : (len : ℕ) (out : List ℕ) → Fetched a text out (Ok len) → (request_refusal a.user.now a.mode a.origin.now text ≡ clear) × Read text len out
+  unfolding Fetched
+  read_by len out h = h

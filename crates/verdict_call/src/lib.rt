@@ -2,82 +2,85 @@
 
 // The single-path verdict and the tree verdict on a table text and a request, with every refusal.
 ghost use Rattle.std.specs.Prelude.{◌≡◌};
+ghost use Rattle.table_load.specs.Loaded.{bytes};
+ghost use Rattle.verdict_judge.specs.Rules.{Safe};
 ghost use Rattle.verdict_request.specs.Calls.{path_verdict, tree_verdict};
-ghost use Rattle.verdict_request.specs.Either.{one_of};
-ghost use Rattle.verdict_call.specs.Refused.{refused_by};
+ghost use Rattle.verdict_request.specs.Answers.{path_answer_of, tree_answer_of};
+ghost use Rattle.verdict_call.specs.Holding.{RulesOf};
 
-use table_load::Loaded;
-use verdict_request::{PathAnswer, TreeAnswer, Verdict};
+use refusal::Fault;
+use table_load::Table;
+use verdict_concern::Asker;
+use verdict_judge::rules::Rules;
+use verdict_request::{PathAnswer, TreeAnswer};
 
 pub mod loaded;
 
-// A table's own refusal.
-fn refused(l: Loaded, whole: bool) -> Verdict
-    ensures { result ≡ refused_by whole l }
+// The rules of a loaded table.
+pub fn rules_of(table: &Table) -> Rules
+    requires { Safe (bytes table.now) table.now.starts table.now.holders table.now.counts.rules }
+    ensures { RulesOf table.now result }
 {
-    let Loaded::Refused { number, line } = l else {
-        return verdict_request::answer::refused(0, 0, whole);
-    };
-    verdict_request::answer::refused(number, line, whole)
+    Rules {
+        bytes: table.bytes(),
+        starts: &table.starts,
+        holders: &table.holders,
+        count: table.counts.rules,
+    }
 }
 
-// The verdict for the whole tree, or for one path.
-pub fn verdict(
+// The action for one path, and the deciding rule.
+pub fn path_verdict(
     table: &[u8],
     user: &[u8],
     mode: u32,
     origin: &[u8],
     path: &[u8],
-    whole: bool,
-) -> Verdict
-    ensures { result ≡ one_of whole
-        (path_verdict table.now user.now mode origin.now path.now)
-        (tree_verdict table.now user.now mode origin.now path.now) }
+) -> Result<PathAnswer, Fault>
+    ensures { path_answer_of result ≡ path_verdict table.now user.now mode origin.now path.now }
 {
-    let mut buf = [0u8; limits::MAX_TABLE_BYTES];
-    let mut groups = [0u16; limits::MAX_GROUPS];
-    let mut users = [0u16; limits::MAX_MEMBERS];
-    let mut owners = [0u8; limits::MAX_MEMBERS];
-    let mut starts = [0u16; limits::MAX_RULES];
-    let mut holders = [0u8; limits::MAX_RULES];
-    let l = table_load::load(
-        table,
-        &mut buf,
-        &mut groups,
-        &mut users,
-        &mut owners,
-        &mut starts,
-        &mut holders,
-    );
-    let Loaded::Table { used, counts } = l else {
-        return refused(l, whole);
-    };
-    let f = &buf[..used];
-    let set = table_membership::memberships(f, &users, &owners, counts.members, user);
-    crate::loaded::call(
-        f,
-        &starts,
-        &holders,
-        counts.rules,
-        set,
+    let mut loaded = Table::new();
+    table_load::load(table, &mut loaded)?;
+    let set = table_membership::memberships(
+        loaded.bytes(),
+        &loaded.users,
+        &loaded.owners,
+        loaded.counts.members,
         user,
+    );
+    let asker = Asker {
+        user,
+        set,
         mode,
         origin,
-        path,
-        whole,
-    )
-}
-
-// The action for one path, and the deciding rule.
-pub fn path_verdict(table: &[u8], user: &[u8], mode: u32, origin: &[u8], path: &[u8]) -> PathAnswer
-    ensures { result ≡ path_verdict table.now user.now mode origin.now path.now }
-{
-    verdict_request::answer::path_of(verdict(table, user, mode, origin, path, false))
+    };
+    crate::loaded::path_answer(rules_of(&loaded), asker, path)
 }
 
 // ALL, NONE or MIXED for the paths at or beneath, and the rule that MIXED names.
-pub fn tree_verdict(table: &[u8], user: &[u8], mode: u32, origin: &[u8], path: &[u8]) -> TreeAnswer
-    ensures { result ≡ tree_verdict table.now user.now mode origin.now path.now }
+pub fn tree_verdict(
+    table: &[u8],
+    user: &[u8],
+    mode: u32,
+    origin: &[u8],
+    path: &[u8],
+) -> Result<TreeAnswer, Fault>
+    ensures { tree_answer_of result ≡ tree_verdict table.now user.now mode origin.now path.now }
 {
-    verdict_request::answer::tree_of(verdict(table, user, mode, origin, path, true))
+    let mut loaded = Table::new();
+    table_load::load(table, &mut loaded)?;
+    let set = table_membership::memberships(
+        loaded.bytes(),
+        &loaded.users,
+        &loaded.owners,
+        loaded.counts.members,
+        user,
+    );
+    let asker = Asker {
+        user,
+        set,
+        mode,
+        origin,
+    };
+    crate::loaded::tree_answer(rules_of(&loaded), asker, path)
 }

@@ -1,99 +1,55 @@
-// The verdicts on a loaded table. f are its decoded bytes, `starts` and `holders` the positions and the groups of its n rules, `set` the user's groups,
-// g the bytes of the path asked for. Required is only what keeps all reading within the arrays: so they serve arrays of any origin.
-ghost use Rattle.std.specs.Prelude.{◌≡◌, false, ◌≤◌, length};
-ghost use Rattle.path.specs.Refusal.{key_twice};
+// The verdicts on the rules of a loaded table. Required is only what keeps all reading within the arrays: so they serve rules of any origin.
+ghost use Rattle.std.specs.Prelude.{◌≡◌, ◌≤◌, length};
+ghost use Rattle.limits.specs.Sizes.{max_path_bytes};
+ghost use Rattle.table.specs.declared.Checked.TheVariants.{Accepted};
 ghost use Rattle.verdict.specs.Verdict.{decider, tree};
-ghost use Rattle.table_place.specs.Place.{path_end, path_in};
-ghost use Rattle.verdict_request.specs.Calls.{asked, decided_by, spread};
-ghost use Rattle.verdict_concern.specs.Concern.{Safe};
-ghost use Rattle.verdict_call.specs.Holding.{OfTable, answer_on};
+ghost use Rattle.verdict_request.specs.Calls.{request, request_refusal, path_answer, tree_answer};
+ghost use Rattle.verdict_request.specs.Answers.{path_answer_of, tree_answer_of};
+ghost use Rattle.verdict_call.specs.Holding.{OfRules, Fetched};
 
-use path_read::Filled;
-use verdict_request::{PathAnswer, TreeAnswer, Verdict};
+use refusal::{Fault, Refusal};
+use verdict_compare::place::Elements;
+use verdict_concern::Asker;
+use verdict_judge::rules::Rules;
+use verdict_request::{PathAnswer, TreeAnswer};
 
-// The single-path verdict on path bytes.
-fn path_answer(
-    f: &[u8],
-    starts: &[u16],
-    holders: &[u8],
-    n: usize,
-    set: u64,
-    user: &[u8],
-    mode: u32,
-    origin: &[u8],
-    g: &[u8],
-) -> PathAnswer
-    requires { Safe f.now starts.now holders.now n × (path_end g.now 0 ≤ length g.now) }
-    ensures { OfTable f.now starts.now holders.now n user.now set
-        (λ t. result ≡ decided_by (decider t (asked user.now mode origin.now (path_in g.now 0)))) }
+// The bytes of the path asked for, once user, mode and origin are judged; their count.
+fn fetch(asker: Asker, text: &[u8], out: &mut [u8]) -> Result<usize, Refusal>
+    requires { max_path_bytes ≤ length out.old }
+    ensures { Fetched asker.entry text.now out.new result }
 {
-    let mut on = [0u8; limits::MAX_RULES];
-    verdict_concern::mark(f, starts, holders, n, set, user, mode, origin, &mut on);
-    let k = g[0] as usize;
-    let b = verdict_judge::decide::decide(f, starts, &on, n, g, 1, k);
-    verdict_request::answer::decided(f, b)
+    verdict_request::request::check(asker.user, asker.mode, asker.origin)?;
+    path_read::reader::read_text(text, out)
 }
 
-// The tree verdict on path bytes.
-fn tree_answer(
-    f: &[u8],
-    starts: &[u16],
-    holders: &[u8],
-    n: usize,
-    set: u64,
-    user: &[u8],
-    mode: u32,
-    origin: &[u8],
-    g: &[u8],
-) -> TreeAnswer
-    requires { Safe f.now starts.now holders.now n × (path_end g.now 0 ≤ length g.now) }
-    ensures { OfTable f.now starts.now holders.now n user.now set
-        (λ t. key_twice (path_in g.now 0) ≡ false
-        → result ≡ spread (tree t (asked user.now mode origin.now (path_in g.now 0)))) }
+// The single-path verdict.
+pub fn path_answer(rules: Rules, asker: Asker, text: &[u8]) -> Result<PathAnswer, Fault>
+    ensures { OfRules rules.entry asker.entry (λ t. path_answer_of result ≡ path_answer Accepted
+        (request_refusal asker.entry.user.now asker.entry.mode asker.entry.origin.now text.now)
+        (decider t (request asker.entry.user.now asker.entry.mode asker.entry.origin.now text.now))) }
 {
-    let mut on = [0u8; limits::MAX_RULES];
-    verdict_concern::mark(f, starts, holders, n, set, user, mode, origin, &mut on);
-    let k = g[0] as usize;
-    let d = verdict_judge::decide::decide(f, starts, &on, n, g, 1, k);
-    let v = verdict_judge::best::permitted(f, d);
-    let mut weights = [0usize; limits::MAX_RULES];
-    let mut paths = [0u16; limits::MAX_RULES];
-    verdict_tree::weigh::weigh(f, starts, &on, n, g, 1, k, &mut weights, &mut paths);
-    let b = verdict_tree::witness::witness(f, starts, &weights, &paths, n, v, g, 1, k);
-    verdict_request::answer::spread_of(f, v, b)
-}
-
-// The answer of either call on a loaded table. The path text is read to bytes, and 22 is given where it does not read.
-pub fn call(
-    f: &[u8],
-    starts: &[u16],
-    holders: &[u8],
-    n: usize,
-    set: u64,
-    user: &[u8],
-    mode: u32,
-    origin: &[u8],
-    text: &[u8],
-    whole: bool,
-) -> Verdict
-    requires { Safe f.now starts.now holders.now n }
-    ensures { OfTable f.now starts.now holders.now n user.now set
-        (λ t. result ≡ answer_on t whole user.now mode origin.now text.now) }
-{
-    let number = verdict_request::request::number(user, mode, origin);
-    if number != limits::CLEAR {
-        return verdict_request::answer::refused(number, 0, whole);
-    }
     let mut bytes = [0u8; limits::MAX_PATH_BYTES];
-    let filled = path_read::reader::read_text(text, &mut bytes);
-    let Filled::Length(len) = filled else {
-        return verdict_request::answer::refused(22, 0, whole);
-    };
-    let g = &bytes[..len];
-    if whole {
-        let t = tree_answer(f, starts, holders, n, set, user, mode, origin, g);
-        return Verdict::Tree(t);
-    }
-    let p = path_answer(f, starts, holders, n, set, user, mode, origin, g);
-    Verdict::Path(p)
+    let len = fetch(asker, text, &mut bytes)?;
+    let asked = Elements::read(&bytes[..len], 0);
+    let mut on = [false; limits::MAX_RULES];
+    asker.mark(rules, &mut on);
+    let found = verdict_judge::decide::decide(rules, &on, asked);
+    Ok(verdict_request::answer::decided(found))
+}
+
+// The tree verdict.
+pub fn tree_answer(rules: Rules, asker: Asker, text: &[u8]) -> Result<TreeAnswer, Fault>
+    ensures { OfRules rules.entry asker.entry (λ t. tree_answer_of result ≡ tree_answer Accepted
+        (request_refusal asker.entry.user.now asker.entry.mode asker.entry.origin.now text.now)
+        (tree t (request asker.entry.user.now asker.entry.mode asker.entry.origin.now text.now))) }
+{
+    let mut bytes = [0u8; limits::MAX_PATH_BYTES];
+    let len = fetch(asker, text, &mut bytes)?;
+    let asked = Elements::read(&bytes[..len], 0);
+    let mut on = [false; limits::MAX_RULES];
+    asker.mark(rules, &mut on);
+    let found = verdict_judge::decide::decide(rules, &on, asked);
+    let v = verdict_judge::best::is_permitted(found);
+    let opposing = verdict_tree::witness::witness(rules, &on, asked, v);
+    Ok(verdict_request::answer::spread_of(v, opposing))
 }

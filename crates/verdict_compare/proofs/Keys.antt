@@ -42,18 +42,14 @@ module _ (f : List ℕ) (p : ℕ) (h : str_end f p ≤ length f) where
 
 -- ---- one of the keys
 
-module _ (t : Key → Bool) (g : List ℕ) (n q : ℕ) where
-  pub any_hit : 0 < n → t (key_in g q) ≡ true → any t (keys_in n g q) ≡ true
+module _ (t : Key → Bool) (k : Key) (ks : List Key) where
+  pub any_hit : t k ≡ true → any t (k ∷ ks) ≡ true
   unfolding any ◌or◌
-  any_hit z e = rw (keys_cons g n q z, e)
+  any_hit e = rw e
 
-  pub any_miss : 0 < n → t (key_in g q) ≡ false → (b : ℕ) → b ≡ key_end g q → any t (keys_in n g q) ≡ any t (keys_in (n - 1) g b)
+  pub any_miss : t k ≡ false → any t (k ∷ ks) ≡ any t ks
   unfolding any ◌or◌
-  any_miss z e b i = rw (keys_cons g n q z, e, i)
-
-  pub any_end : n ≤ 0 → any t (keys_in n g q) ≡ false
-  unfolding any
-  any_end z = rw (keys_nil g n q z)
+  any_miss e = rw e
 
 -- a definite key is one of the keys, or of the definite ones
 not_wild : (j k : Key) → wild k ≡ false → wild j ≡ true → same_key j k ≡ false
@@ -81,18 +77,14 @@ all_given : (t : Key → Bool) (j : Key) (ks : List Key) → all t (given (j ∷
 unfolding all only whether◌then◌else◌ ◌and◌ ◌or◌
 all_given t j ks = by (wild j) (λ e. rw e) (λ e. rw e)
 
-module _ (t : Key → Bool) (g : List ℕ) (n q : ℕ) where
-  pub all_pass : 0 < n → (wild (key_in g q) or t (key_in g q)) ≡ true → (b : ℕ) → b ≡ key_end g q → all t (given (keys_in n g q)) ≡ all t (given (keys_in (n - 1) g b))
+module _ (t : Key → Bool) (k : Key) (ks : List Key) where
+  pub all_pass : (wild k or t k) ≡ true → all t (given (k ∷ ks)) ≡ all t (given ks)
   unfolding ◌and◌
-  all_pass z e b i = rw (keys_cons g n q z, all_given, e, i)
+  all_pass e = rw (all_given t k ks, e)
 
-  pub all_fail : 0 < n → (wild (key_in g q) or t (key_in g q)) ≡ false → all t (given (keys_in n g q)) ≡ false
+  pub all_fail : (wild k or t k) ≡ false → all t (given (k ∷ ks)) ≡ false
   unfolding ◌and◌
-  all_fail z e = rw (keys_cons g n q z, all_given, e)
-
-  pub all_end : n ≤ 0 → all t (given (keys_in n g q)) ≡ true
-  unfolding all only
-  all_end z = rw (keys_nil g n q z)
+  all_fail e = rw (all_given t k ks, e)
 
 -- ---- one key against the others
 

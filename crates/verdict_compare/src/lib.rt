@@ -4,3 +4,5 @@
 pub mod element;
 pub mod key;
 pub mod paths;
+pub mod place;
+mod walk;

@@ -1,88 +1,83 @@
 // Two paths in step, and a path against two.
-ghost use Rattle.std.specs.Prelude.{◌≡◌, ◌≤◌, length};
+ghost use Rattle.std.specs.Prelude.{◌≡◌, ◌≤◌, ◌<◌, length};
+ghost use Rattle.table_place.specs.Place.{path_end, path_in};
 ghost use Rattle.verdict.specs.Cover.{covers};
 ghost use Rattle.verdict.specs.Join.{agree};
 ghost use Rattle.verdict.specs.Pair.{covers_both};
-ghost use Rattle.table_place.specs.Place.{elems_end, elems_in};
 ghost use Rattle.verdict_compare.specs.Compare.{path_passes};
+ghost use Rattle.verdict_compare.specs.Place.{elements};
 
-// The elements at s of f and at p of g in step, each pair by the test that `cover` says. Where the second path ends first, the first does not
-// cover it, and the two agree.
-fn in_step(cover: bool, f: &[u8], s: usize, k: usize, g: &[u8], p: usize, n: usize) -> bool
-    requires { (elems_end k f.now s ≤ length f.now) × (elems_end n g.now p ≤ length g.now) }
-    ensures { result ≡ path_passes cover (elems_in k f.now s) (elems_in n g.now p) }
-{
-    let mut a = s;
-    let mut b = p;
-    let mut left = k;
-    let mut more = n;
-    while 0 < left {
-        if more == 0 {
-            return !cover;
+use crate::place::Elements;
+
+impl<'a> Elements<'a> {
+    // The path at a position: a count, and so many elements.
+    pub fn read(bytes: &'a [u8], at: usize) -> Elements<'a>
+        requires { path_end bytes.now at ≤ length bytes.now }
+        ensures path { elements result ≡ path_in bytes.now at }
+        ensures few { result.count < 256 }
+    {
+        Elements {
+            bytes,
+            at: at + 1,
+            count: bytes[at] as usize,
         }
-        if !crate::element::elem_passes(cover, f, a, g, b) {
-            return false;
-        }
-        a = table_place::elem_end(f, a);
-        b = table_place::elem_end(g, b);
-        left -= 1;
-        more -= 1;
     }
-    true // the first path is no longer than the second
-}
 
-// Whether the path of n elements at p of g lies at or beneath that of k elements at s of f.
-pub fn covers_at(f: &[u8], s: usize, k: usize, g: &[u8], p: usize, n: usize) -> bool
-    requires { (elems_end k f.now s ≤ length f.now) × (elems_end n g.now p ≤ length g.now) }
-    ensures { result ≡ covers (elems_in k f.now s) (elems_in n g.now p) }
-{
-    in_step(true, f, s, k, g, p, n)
-}
-
-// Whether two paths agree as far as both go.
-pub fn agree_at(f: &[u8], r: usize, m: usize, g: &[u8], p: usize, n: usize) -> bool
-    requires { (elems_end m f.now r ≤ length f.now) × (elems_end n g.now p ≤ length g.now) }
-    ensures { result ≡ agree (elems_in m f.now r) (elems_in n g.now p) }
-{
-    in_step(false, f, r, m, g, p, n)
-}
-
-// Whether the joined path of the m elements at r of f and the n at p of g lies at or beneath that of the k at s of f. The joined path is not made.
-pub fn covers_both(
-    f: &[u8],
-    s: usize,
-    k: usize,
-    r: usize,
-    m: usize,
-    g: &[u8],
-    p: usize,
-    n: usize,
-) -> bool
-    requires { (elems_end k f.now s ≤ length f.now) × (elems_end m f.now r ≤ length f.now) × (elems_end n g.now p ≤ length g.now) }
-    ensures { result ≡ covers_both (elems_in k f.now s) (elems_in m f.now r) (elems_in n g.now p) }
-{
-    let mut a = s;
-    let mut b = r;
-    let mut c = p;
-    let mut left = k;
-    let mut mine = m;
-    let mut more = n;
-    while 0 < left {
-        if mine == 0 {
-            return covers_at(f, a, left, g, c, more);
+    // In step with the other path, each pair of elements by the test that `cover` says. Where the other ends first, this one does not cover it,
+    // and the two agree.
+    fn passes(self, cover: bool, other: Elements) -> bool
+        ensures { result ≡ path_passes cover (elements self.entry) (elements other.entry) }
+    {
+        let mut own = self;
+        let mut asked = other;
+        while let Some(a) = own.first() {
+            let Some(b) = asked.first() else {
+                return !cover;
+            };
+            if !a.passes(cover, b) {
+                return false;
+            }
+            own = own.rest();
+            asked = asked.rest();
         }
-        if more == 0 {
-            return covers_at(f, a, left, f, b, mine);
-        }
-        if !crate::element::meets_both(f, a, b, g, c) {
-            return false;
-        }
-        a = table_place::elem_end(f, a);
-        b = table_place::elem_end(f, b);
-        c = table_place::elem_end(g, c);
-        left -= 1;
-        mine -= 1;
-        more -= 1;
+        true // the first path is no longer than the second
     }
-    true
+
+    // Whether the other path lies at or beneath this one.
+    pub fn covers(self, other: Elements) -> bool
+        ensures { result ≡ covers (elements self.entry) (elements other.entry) }
+    {
+        self.passes(true, other)
+    }
+
+    // Whether the two agree as far as both go.
+    pub fn agrees(self, other: Elements) -> bool
+        ensures { result ≡ agree (elements self.entry) (elements other.entry) }
+    {
+        self.passes(false, other)
+    }
+
+    // Whether the joined path of two others, which agree, lies at or beneath this one. The joined path is not made.
+    pub fn covers_both(self, first: Elements, second: Elements) -> bool
+        ensures { result ≡ covers_both (elements self.entry) (elements first.entry) (elements second.entry) }
+    {
+        let mut own = self;
+        let mut left = first;
+        let mut right = second;
+        while let Some(a) = own.first() {
+            let Some(b) = left.first() else {
+                return own.covers(right);
+            };
+            let Some(c) = right.first() else {
+                return own.covers(left);
+            };
+            if !a.meets_both(b, c) {
+                return false;
+            }
+            own = own.rest();
+            left = left.rest();
+            right = right.rest();
+        }
+        true
+    }
 }

@@ -4,16 +4,18 @@
 
 ghost use Rattle.std.specs.Prelude.{◌≡◌, ◌+◌, ◌*◌, ◌≤◌, ◌<◌, length};
 ghost use Rattle.text_hash.specs.Mix.{Small, mix};
-ghost use Rattle.table_place.specs.Place.{str_end, str_in, key_end, key_in, keys_end, keys_in, elem_end, elem_in, elems_end, elems_in};
+ghost use Rattle.table_place.specs.Place.{str_end, str_in};
+ghost use Rattle.verdict_compare.specs.Place.{key, keys, element, elements};
 ghost use Rattle.verdict_filter.specs.Bloom.{none, digits, unite, depth_step, key_digits, keys_digits, elem_digits, path_digits, beyond};
 
 use text_hash::Seed;
+use verdict_compare::place::{Element, Elements, Key, Keys};
 
 // What the depth grows by from one element to the next.
 const DEPTH_STEP: usize = 256;
 
 // Four numbers, each with binary digits.
-#[derive(Clone, Copy)]
+#[derive(Clone, Copy, PartialEq, Eq)]
 pub struct Filter {
     pub a: u64,
     pub b: u64,
@@ -33,7 +35,7 @@ pub fn empty() -> Filter
 }
 
 // The digits of both.
-fn unite(x: Filter, y: Filter) -> Filter
+pub fn unite(x: Filter, y: Filter) -> Filter
     ensures { result ≡ unite x y }
 {
     Filter {
@@ -65,109 +67,70 @@ fn digits(h: usize) -> Filter
     }
 }
 
-// The key at `at` of f, unless it is a wildcard or one of the k keys at p of g.
-fn key_digits(s: Seed, d: usize, f: &[u8], at: usize, g: &[u8], p: usize, k: usize) -> Filter
-    requires { Small s × (d < 65536) × (key_end f.now at ≤ length f.now) × (keys_end k g.now p ≤ length g.now) }
-    ensures { result ≡ key_digits s d (keys_in k g.now p) (key_in f.now at) }
+// The key, unless it is a wildcard or one of the asked ones.
+fn key_digits(s: Seed, d: usize, own: Key, asked: Keys) -> Filter
+    requires { Small s × (d < 65536) }
+    ensures { result ≡ key_digits s d (keys asked.entry) (key own.entry) }
 {
-    let v = table_place::str_end(f, at);
-    if verdict_compare::key::is_star(f, v) {
+    if own.is_wild() || asked.give(own) {
         return empty();
     }
-    if verdict_compare::key::gives(g, p, k, f, at) {
-        return empty();
-    }
-    let h = hash_at(s, d, f, at);
-    digits(hash_at(s, h, f, v))
+    let Key { bytes, at } = own;
+    let h = hash_at(s, d, bytes, at);
+    digits(hash_at(s, h, bytes, table_place::str_end(bytes, at)))
 }
 
-// The n keys at `at` of f.
-fn keys_digits(
-    s: Seed,
-    d: usize,
-    f: &[u8],
-    at: usize,
-    n: usize,
-    g: &[u8],
-    p: usize,
-    k: usize,
-) -> Filter
-    requires { Small s × (d < 65536) × (keys_end n f.now at ≤ length f.now) × (keys_end k g.now p ≤ length g.now) }
-    ensures { result ≡ keys_digits s d (keys_in k g.now p) (keys_in n f.now at) }
+fn keys_digits(s: Seed, d: usize, own: Keys, asked: Keys) -> Filter
+    requires { Small s × (d < 65536) }
+    ensures { result ≡ keys_digits s d (keys asked.entry) (keys own.entry) }
 {
     let mut x = empty();
-    let mut q = at;
-    let mut left = n;
-    while 0 < left {
-        x = unite(x, key_digits(s, d, f, q, g, p, k));
-        q = table_place::key_end(f, q);
-        left -= 1;
+    for k in own {
+        x = unite(x, key_digits(s, d, k, asked));
     }
     x
 }
 
 // An element where nothing is asked.
-fn elem_digits(s: Seed, d: usize, f: &[u8], at: usize) -> Filter
-    requires { Small s × (d < 65536) × (elem_end f.now at ≤ length f.now) }
-    ensures { result ≡ elem_digits s d (elem_in f.now at) }
+fn elem_digits(s: Seed, d: usize, own: Element) -> Filter
+    requires { Small s × (d < 65536) }
+    ensures { result ≡ elem_digits s d (element own.entry) }
 {
-    let a = table_place::str_end(f, at);
-    let n = f[a] as usize;
-    let name = digits(hash_at(s, d, f, at));
-    unite(name, keys_digits(s, d, f, a + 1, n, f, 0, 0))
+    let name = digits(hash_at(s, d, own.bytes, own.at));
+    unite(name, keys_digits(s, d, own.keys(), own.no_keys()))
 }
 
-// The keys of the element at `at` of f, beyond those of the element at p of g.
-fn new_digits(s: Seed, d: usize, f: &[u8], at: usize, g: &[u8], p: usize) -> Filter
-    requires { Small s × (d < 65536) × (elem_end f.now at ≤ length f.now) × (elem_end g.now p ≤ length g.now) }
-    ensures { result ≡ keys_digits s d (elem_in g.now p).keys (elem_in f.now at).keys }
-{
-    let a = table_place::str_end(f, at);
-    let b = table_place::str_end(g, p);
-    let n = f[a] as usize;
-    let k = g[b] as usize;
-    keys_digits(s, d, f, a + 1, n, g, b + 1, k)
-}
-
-// n elements where nothing is asked, the first at depth d.
-fn path_digits(s: Seed, d: usize, f: &[u8], at: usize, n: usize) -> Filter
-    requires { Small s × (d + depth_step * n < 65536) × (elems_end n f.now at ≤ length f.now) }
-    ensures { result ≡ path_digits s d (elems_in n f.now at) }
+// Elements where nothing is asked, the first at depth d.
+fn path_digits(s: Seed, d: usize, own: Elements) -> Filter
+    requires { Small s × (d + depth_step * own.count < 65536) }
+    ensures { result ≡ path_digits s d (elements own.entry) }
 {
     let mut x = empty();
-    let mut e = d;
-    let mut q = at;
-    let mut left = n;
-    while 0 < left {
-        x = unite(x, elem_digits(s, e, f, q));
-        e += DEPTH_STEP;
-        q = table_place::elem_end(f, q);
-        left -= 1;
+    let mut depth = d;
+    for e in own {
+        x = unite(x, elem_digits(s, depth, e));
+        depth += DEPTH_STEP;
     }
     x
 }
 
-// What the n elements at `at` of f have beyond the k at p of g.
-pub fn beyond(s: Seed, f: &[u8], at: usize, n: usize, g: &[u8], p: usize, k: usize) -> Filter
-    requires { Small s × (n < 256) × (elems_end n f.now at ≤ length f.now) × (elems_end k g.now p ≤ length g.now) }
-    ensures { result ≡ beyond s 0 (elems_in n f.now at) (elems_in k g.now p) }
+// What a path has beyond the asked one.
+pub fn beyond(s: Seed, path: Elements, asked: Elements) -> Filter
+    requires { Small s × (path.count < 256) }
+    ensures { result ≡ beyond s 0 (elements path.entry) (elements asked.entry) }
 {
     let mut x = empty();
     let mut d = 0;
-    let mut q = at;
-    let mut left = n;
-    let mut c = p;
-    let mut more = k;
-    while 0 < left {
-        if more == 0 {
-            return unite(x, path_digits(s, d, f, q, left));
-        }
-        x = unite(x, new_digits(s, d, f, q, g, c));
+    let mut own = path;
+    let mut other = asked;
+    while let Some(e) = own.first() {
+        let Some(p) = other.first() else {
+            return unite(x, path_digits(s, d, own));
+        };
+        x = unite(x, keys_digits(s, d, e.keys(), p.keys()));
         d += DEPTH_STEP;
-        q = table_place::elem_end(f, q);
-        c = table_place::elem_end(g, c);
-        left -= 1;
-        more -= 1;
+        own = own.rest();
+        other = other.rest();
     }
     x
 }

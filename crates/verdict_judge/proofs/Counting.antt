@@ -11,26 +11,16 @@ use Rattle.verdict.specs.Cover.{wild, given, definite}
 use Rattle.verdict.specs.Order.{one_unless, definites}
 use Rattle.verdict.proofs.Order.{unless_small}
 use Rattle.table_place.specs.Place.{str_end, key_end, key_in, keys_end, keys_in, key_count, elem_end, elem_in, elems_end, elems_in}
-use Rattle.table_place.proofs.Cursor.{str_grows, keys_cons, keys_nil, elems_cons, elems_nil}
+use Rattle.table_place.proofs.Cursor.{str_grows}
+use Rattle.verdict_compare.specs.declared.place.Keys.{Keys}
+use Rattle.verdict_compare.specs.declared.place.Elements.{Elements}
+use Rattle.verdict_compare.specs.Place.{keys, elements}
 
-given_cons : (k : Key) (ks : List Key) → length (given (k ∷ ks)) ≡ one_unless (wild k) + length (given ks)
+pub given_cons : (k : Key) (ks : List Key) → length (given (k ∷ ks)) ≡ one_unless (wild k) + length (given ks)
 unfolding only whether◌then◌else◌
 given_cons k ks = by (wild k) (λ e. rw e (omega arith)) (λ e. rw e (omega arith))
 
 module _ (f : List ℕ) where
-  pub count_turn : (k q : ℕ) → 0 < k → (b c n t : ℕ) → b ≡ key_end f q → c ≡ one_unless (wild (key_in f q))
-      → t ≡ n + length (given (keys_in k f q)) → t ≡ n + c + length (given (keys_in (k - 1) f b))
-  count_turn k q z b c n t i j e =
-      let g : length (given (keys_in k f q)) ≡ one_unless (wild (key_in f q)) + length (given (keys_in (k - 1) f (key_end f q))) =
-      rw (keys_cons f k q z) (given_cons (key_in f q) (keys_in (k - 1) f (key_end f q))) in
-      rw i (omega arith)
-
-  pub count_end : (k q n t : ℕ) → k ≤ 0 → t ≡ n + length (given (keys_in k f q)) → t ≡ n
-  unfolding only
-  count_end k q n t z e =
-      let g : length (given (keys_in k f q)) ≡ 0 = rw (keys_nil f k q z) in
-      omega arith
-
   -- a key takes more room than it counts
   few : (k q : ℕ) → q + length (given (keys_in k f q)) ≤ keys_end k f q
   unfolding keys_in keys_end
@@ -56,17 +46,8 @@ module _ (f : List ℕ) where
       let b = few_in q (str_end f q) refl in
       omega arith
 
-  pub keys_turn : (k q : ℕ) → 0 < k → (a b c n t : ℕ) → a ≡ str_end f q → b ≡ elem_end f q → c ≡ length (given (keys_in (get_or f a 0) f (a + 1)))
-      → t ≡ n + definites (elems_in k f q) → t ≡ n + c + definites (elems_in (k - 1) f b)
-  unfolding definites definite elem_in
-  keys_turn k q z a b c n t i j e h =
-      let d : c ≡ length (given (keys_in (key_count f q) f (str_end f q + 1))) = rw (sym i) e in
-      let g : definites (elems_in k f q) ≡ length (given (keys_in (key_count f q) f (str_end f q + 1))) + definites (elems_in (k - 1) f (elem_end f q)) =
-      rw (elems_cons f k q z) in
-      rw j (omega arith)
+pub given_few : (own : Keys) → length (given (keys own)) ≤ length own.bytes.now
+given_few own = let e = few own.bytes.now own.count own.at in let i = own.inside in omega arith
 
-  pub keys_end_lem : (k q n t : ℕ) → k ≤ 0 → t ≡ n + definites (elems_in k f q) → t ≡ n
-  unfolding definites
-  keys_end_lem k q n t z e =
-      let g : definites (elems_in k f q) ≡ 0 = rw (elems_nil f k q z) in
-      omega arith
+pub definites_few : (own : Elements) → definites (elements own) ≤ length own.bytes.now
+definites_few own = let e = few_keys own.bytes.now own.count own.at in let i = own.inside in omega arith

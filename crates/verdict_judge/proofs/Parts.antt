@@ -21,8 +21,8 @@ use Rattle.table_place.specs.Place.{str_end, str_in, elems_end, elems_in, path_e
 use Rattle.table_place.proofs.Cursor.{str_grows, path_room, length_elems}
 use Rattle.table_rows.specs.Rules.{id_at, origin_at, path_at, rule_in, rule_end}
 use Rattle.verdict_judge.specs.Rules.{Short}
-use Rattle.verdict_judge.specs.Best.{lacks, Ranked, wins}
-use Rattle.verdict_judge.specs.declared.best.Best.{Best}
+use Rattle.verdict_judge.specs.Place.{rule}
+use Rattle.verdict_judge.specs.declared.rules.Rule as placed
 use Rattle.verdict_judge.proofs.Counting.{few_keys}
 
 module _ (f : List ℕ) where
@@ -43,6 +43,14 @@ module _ (f : List ℕ) where
   pub id_in : (p i e : ℕ) → i ≡ id_at f p → e ≡ str_end f i → take (e - (i + 1)) (drop (i + 1) f) ≡ (rule_in f p).id
   unfolding rule_in str_in
   id_in p i e h g = rw (g, h)
+
+  pub subject_in : (s d : ℕ) → d ≡ str_end f (s + 3) → take (d - (s + 4)) (drop (s + 4) f) ≡ (rule_in f s).subject
+  unfolding rule_in str_in
+  subject_in s d e = let i : s + 4 ≡ s + 3 + 1 = omega arith in rw (e, i)
+
+  pub origin_in : (s o d : ℕ) → o ≡ origin_at f s → d ≡ str_end f o → take (d - (o + 1)) (drop (o + 1) f) ≡ (rule_in f s).origin
+  unfolding rule_in str_in
+  origin_in s o d e h = rw (h, e)
 
   pub path_in_lem : (s a : ℕ) → a ≡ path_at f s → elems_in (get_or f a 0) f (a + 1) ≡ (rule_in f s).path
   unfolding rule_in
@@ -88,41 +96,15 @@ pub earlier_by : (r s : Rule) (x y : Str) → x ≡ r.id → y ≡ s.id → befo
 unfolding earlier
 earlier_by r s x y j k = rw (j, k)
 
--- weights that differ settle it, and else the ids do
-module _ (f : List ℕ) (s x : ℕ) (b : Best) (h : rule_end f s ≤ length f) (i : x ≡ suc (rank (rule_in f s))) (k : Ranked f b) (l : Short f) where
-  better_more : lacks b ≡ false → better (rule_in f s) (rule_in f b.at) ≡ more x b.weight (before (rule_in f s).id (rule_in f b.at).id)
-  better_more e =
-      let d = k e in
-      better_rank (rule_in f s) (rule_in f b.at) (keys_below f s h l) (keys_below f b.at d.0 l)
-      ∙ shift (rank (rule_in f s)) (rank (rule_in f b.at)) _ x b.weight i d.1
-    where
-      shift : (u v : ℕ) (tie : Bool) (y w : ℕ) → y ≡ suc u → w ≡ suc v → more u v tie ≡ more y w tie
-      shift u v tie y w p q =
-          by (eqb u v)
-          (λ e. let z : u ≡ v = eqb-true u v e in more_same u v tie z ∙ sym (more_same y w tie (omega arith)))
-          (λ e. let z : u ≡ v → ⊥ = eqb-false u v e in
-          by (ltb v u)
-          (λ t. more_other u v tie z ∙ t ∙ sym (more_other y w tie (omega arith) ∙ lt-ltb w y (omega (arith, ltb_t t))))
-          (λ t. more_other u v tie z ∙ t ∙ sym (more_other y w tie (omega arith) ∙ le-ltb w y (omega (arith, ltb_f t)))))
-        where
-          ltb_t : ltb v u ≡ true → v < u
-          ltb_t t = borrow.Author.Tests.ltb-true v u t
+-- ranks that differ settle it, and else the ids do
+module _ (r s : placed.Rule) where
+  better_more : better (rule r) (rule s) ≡ more (rank (rule r)) (rank (rule s)) (before (rule r).id (rule s).id)
+  better_more = better_rank (rule r) (rule s) (keys_below r.bytes.now r.at r.inside r.short) (keys_below s.bytes.now s.at s.inside s.short)
 
-          ltb_f : ltb v u ≡ false → u ≤ v
-          ltb_f t = borrow.Author.Tests.ltb-false v u t
+  module _ (x y : ℕ) (i : x ≡ rank (rule r)) (j : y ≡ rank (rule s)) where
+    pub better_other : (x ≡ y → ⊥) → ltb y x ≡ better (rule r) (rule s)
+    better_other n = rw (i, j) (sym (better_more ∙ more_other _ _ _ (rw (i, j) at n)))
 
-  pub wins_other : (x ≡ b.weight → ⊥) → ltb b.weight x ≡ wins better f s b
-  unfolding ◌or◌
-  wins_other n =
-      by (eqb b.weight 0)
-      (λ e. let z : b.weight ≡ 0 = eqb-true _ _ e in rw e (lt-ltb b.weight x (omega arith)))
-      (λ e. rw e (sym (better_more e ∙ more_other x b.weight _ n)))
-
-  pub wins_same : x ≡ b.weight → earlier (rule_in f s) (rule_in f b.at) ≡ wins better f s b
-  unfolding ◌or◌ earlier
-  wins_same e =
-      let n : lacks b ≡ false = ne_eqb b.weight 0 (omega arith) in
-      rw n (sym (better_more n ∙ more_same x b.weight _ e))
-
-  pub held_there : x ≡ b.weight → rule_end f b.at ≤ length f
-  held_there e = (k (ne_eqb b.weight 0 (omega arith))).0
+    pub better_same : x ≡ y → earlier (rule r) (rule s) ≡ better (rule r) (rule s)
+    unfolding earlier
+    better_same e = sym (better_more ∙ more_same _ _ _ (sym i ∙ e ∙ j))

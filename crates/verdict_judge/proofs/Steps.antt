@@ -16,8 +16,7 @@ use Rattle.verdict.specs.Order.{Numbered, prefer, candidate, choose}
 use Rattle.verdict.proofs.Order.{Order}
 use Rattle.verdict.proofs.Choose.{prefer_assoc}
 use Rattle.table_rows.specs.Rules.{rule_in, rules_in}
-use Rattle.verdict_judge.specs.Best.{lacks, held, wins}
-use Rattle.verdict_judge.specs.declared.best.Best.{Best}
+use Rattle.verdict_judge.specs.Best.{wins}
 
 module _ (over : Rule → Rule → Bool) where
   prefer_none : (x : Option Numbered) → prefer over x none ≡ x
@@ -27,39 +26,38 @@ module _ (over : Rule → Rule → Bool) where
 
   -- ---- one rule
 
-  module _ (f : List ℕ) (b : Best) (i s : ℕ) (app also : Rule → Bool) where
+  module _ (x : Option Numbered) (i : ℕ) (r : Rule) (app also : Rule → Bool) where
     abbrev After : Option Numbered
-    After = prefer over (held f b) (candidate (λ r. app r and also r) i (rule_in f s))
+    After = prefer over x (candidate (λ r. app r and also r) i r)
 
-    fails : (app (rule_in f s) and also (rule_in f s)) ≡ false → held f b ≡ After
+    fails : (app r and also r) ≡ false → x ≡ After
     unfolding candidate whether◌then◌else◌
-    fails e = rw e (sym (prefer_none (held f b)))
+    fails e = rw e (sym (prefer_none x))
 
-    pub step_off : app (rule_in f s) ≡ false → held f b ≡ After
+    pub step_off : app r ≡ false → x ≡ After
     step_off e = fails (and_first _ _ e)
 
-    pub step_miss : also (rule_in f s) ≡ false → held f b ≡ After
+    pub step_miss : also r ≡ false → x ≡ After
     step_miss e = fails (and_second _ _ e)
 
-    -- whatever the test says, so the cheaper test may come first
-    pub step_keep : wins over f s b ≡ false → held f b ≡ After
-    unfolding held candidate prefer whether◌then◌else◌ ◌or◌
-    step_keep e =
-        by (lacks b)
-        (λ h. clash refl (rw h at e))
-        (λ h. by (app (rule_in f s) and also (rule_in f s)) (λ t. rw (h, t) (rw (rw h at e))) (λ t. rw (h, t)))
+  -- whatever the test says, so the cheaper test may come first
+  pub step_keep : (x : Option Numbered) (i : ℕ) (r : Rule) (app also : Rule → Bool) → wins over r x ≡ false
+      → x ≡ prefer over x (candidate (λ r. app r and also r) i r)
+  unfolding candidate prefer whether◌then◌else◌ wins
+  step_keep none i r app also e = clash refl e
+  step_keep (some m) i r app also e = by (app r and also r) (λ t. rw t (rw e)) (λ t. rw t)
 
-    pub step_take : (x : ℕ) → (x ≡ 0 → ⊥) → app (rule_in f s) ≡ true → also (rule_in f s) ≡ true → wins over f s b ≡ true
-        → held f (record { weight = x; number = record { 0 = i }; at = s }) ≡ After
-    unfolding held candidate prefer whether◌then◌else◌ ◌or◌ ◌and◌
-    step_take x n e a w =
-        by (lacks b) (λ h. rw (h, ne_eqb x 0 n, e, a)) (λ h. rw (h, ne_eqb x 0 n, e, a) (rw (rw h at w)))
+  pub step_take : (x : Option Numbered) (i : ℕ) (r : Rule) (app also : Rule → Bool) → app r ≡ true → also r ≡ true → wins over r x ≡ true
+      → some (record { number = i; rule = r }) ≡ prefer over x (candidate (λ r. app r and also r) i r)
+  unfolding candidate prefer whether◌then◌else◌ ◌and◌ wins
+  step_take none i r app also e a w = rw (e, a)
+  step_take (some m) i r app also e a w = rw (e, a) (rw w)
 
   -- ---- the rules from number i on
 
   module _ (o : Order over) (test : Rule → Bool) (f starts : List ℕ) (n : ℕ) where
-    pub best_none : choose over test 0 (rules_in f starts n 0) ≡ prefer over (held f (record { weight = 0; number = record { 0 = 0 }; at = 0 })) (choose over test 0 (rules_in f starts (n - 0) 0))
-    unfolding held prefer whether◌then◌else◌
+    pub best_none : choose over test 0 (rules_in f starts n 0) ≡ prefer over none (choose over test 0 (rules_in f starts (n - 0) 0))
+    unfolding prefer
     best_none = let e : n - 0 ≡ n = omega arith in rw e
 
     rules_cons : (i : ℕ) → i < n → rules_in f starts (n - i) i ≡ rule_in f (get_or starts i 0) ∷ rules_in f starts (n - (i + 1)) (i + 1)
@@ -70,19 +68,19 @@ module _ (over : Rule → Rule → Bool) where
     unfolding rules_in rows_of
     rules_nil i h = let e : n - i ≡ 0 = omega arith in rw e
 
-    pub best_turn : (x : Option Numbered) (b c : Best) (i : ℕ) → i < n
-        → held f c ≡ prefer over (held f b) (candidate test i (rule_in f (get_or starts i 0)))
-        → x ≡ prefer over (held f b) (choose over test i (rules_in f starts (n - i) i))
-        → x ≡ prefer over (held f c) (choose over test (i + 1) (rules_in f starts (n - (i + 1)) (i + 1)))
+    pub best_turn : (x b c : Option Numbered) (i : ℕ) → i < n
+        → c ≡ prefer over b (candidate test i (rule_in f (get_or starts i 0)))
+        → x ≡ prefer over b (choose over test i (rules_in f starts (n - i) i))
+        → x ≡ prefer over (c) (choose over test (i + 1) (rules_in f starts (n - (i + 1)) (i + 1)))
     unfolding choose
     best_turn x b c i h e k =
         let u : suc i ≡ i + 1 = sym (add-one i) in
         let r : choose over test i (rules_in f starts (n - i) i) ≡ prefer over (candidate test i (rule_in f (get_or starts i 0))) (choose over test (i + 1) (rules_in f starts (n - (i + 1)) (i + 1))) =
         rw (rules_cons i h, u) in
-        k ∙ rw (r, e) (sym (prefer_assoc o (held f b) (candidate test i (rule_in f (get_or starts i 0))) (choose over test (i + 1) (rules_in f starts (n - (i + 1)) (i + 1)))))
+        k ∙ rw (r, e) (sym (prefer_assoc o b (candidate test i (rule_in f (get_or starts i 0))) (choose over test (i + 1) (rules_in f starts (n - (i + 1)) (i + 1)))))
 
-    pub best_end : (x : Option Numbered) (b : Best) (i : ℕ) → n ≤ i → x ≡ prefer over (held f b) (choose over test i (rules_in f starts (n - i) i)) → held f b ≡ x
+    pub best_end : (x b : Option Numbered) (i : ℕ) → n ≤ i → x ≡ prefer over b (choose over test i (rules_in f starts (n - i) i)) → b ≡ x
     unfolding choose
     best_end x b i h k =
         let r : choose over test i (rules_in f starts (n - i) i) ≡ none = rw (rules_nil i h) in
-        sym (k ∙ rw r (prefer_none (held f b)))
+        sym (k ∙ rw r (prefer_none b))

@@ -1,67 +1,41 @@
-// The best rule so far.
-ghost use Rattle.std.specs.Prelude.{◌≡◌, suc, ◌≤◌, length};
-ghost use Rattle.verdict.specs.Order.{better, earlier};
+// The best rule so far, and what the best of all decides.
+ghost use Rattle.std.specs.Prelude.{◌≡◌};
+ghost use Rattle.verdict.specs.Order.{better};
 ghost use Rattle.verdict.specs.Rank.{rank};
 ghost use Rattle.verdict.specs.Verdict.{action};
-ghost use Rattle.table_rows.specs.Rules.{rule_in, rule_end};
-ghost use Rattle.verdict_judge.specs.Rules.{Short};
-ghost use Rattle.verdict_judge.specs.Best.{held, Sound, Ranked, wins};
+ghost use Rattle.verdict_judge.specs.Place.{rule};
+ghost use Rattle.verdict_judge.specs.Best.{held, kept, wins};
 
-use table::RuleNumber;
+use crate::rules::{Best, Numbered, Rule};
 
-// Its number, and where its action byte stands. The weight is 0 where there is none yet; where the ranking decides, it is the rank + 1.
-#[derive(Clone, Copy)]
-pub struct Best {
-    pub weight: usize,
-    pub number: RuleNumber,
-    pub at: usize,
-}
-
-// Whether the id of the rule at s comes before that of the rule at t.
-fn earlier_at(f: &[u8], s: usize, t: usize) -> bool
-    requires { (rule_end f.now s ≤ length f.now) × (rule_end f.now t ≤ length f.now) }
-    ensures { result ≡ earlier (rule_in f.now s) (rule_in f.now t) }
+// Whether the rule, of that rank, is better than the best so far, if there is one. Ids are compared only where the ranks are equal.
+pub fn wins(best: Option<Best>, own: Rule, own_rank: usize) -> bool
+    requires { own_rank ≡ rank (rule own) }
+    ensures { result ≡ wins better (rule own.entry) (kept best.entry) }
 {
-    let i = crate::rule::id_at(f, s);
-    let j = crate::rule::id_at(f, t);
-    let a = i + 1;
-    let b = j + 1;
-    let d = table_place::str_end(f, i);
-    let e = table_place::str_end(f, j);
-    text::string::is_before(&f[a..d], &f[b..e])
-}
-
-// Whether the rule at s, of weight x, is better than the best so far. Ids are compared only where the weights are equal.
-pub fn wins_better(f: &[u8], s: usize, x: usize, b: Best) -> bool
-    requires { (rule_end f.now s ≤ length f.now) × (x ≡ suc (rank (rule_in f.now s))) × Ranked f.now b × Short f.now }
-    ensures { result ≡ wins better f.now s b }
-{
-    let w = b.weight;
-    if x != w {
-        return w < x;
-    }
-    earlier_at(f, s, b.at)
-}
-
-// Whether the id of the rule at s comes before that of the best so far.
-pub fn wins_earlier(f: &[u8], s: usize, b: Best) -> bool
-    requires { (rule_end f.now s ≤ length f.now) × Sound f.now b }
-    ensures { result ≡ wins earlier f.now s b }
-{
-    if b.weight == 0 {
+    let Some(other) = best else {
         return true;
+    };
+    if own_rank != other.weight {
+        return other.weight < own_rank;
     }
-    earlier_at(f, s, b.at)
+    own.is_earlier(other.found.rule)
+}
+
+impl<'a> Rule<'a> {
+    pub fn is_permit(self) -> bool
+        ensures { result ≡ (rule self.entry).permit }
+    {
+        self.bytes[self.at] == table::ACTION_PERMIT
+    }
 }
 
 // The action of the deciding rule. "With no match: deny".
-pub fn permitted(f: &[u8], b: Best) -> bool
-    requires { Sound f.now b }
-    ensures { result ≡ action (held f.now b) }
+pub fn is_permitted(found: Option<Numbered>) -> bool
+    ensures { result ≡ action (held found.entry) }
 {
-    if b.weight == 0 {
-        return false;
+    match found {
+        Some(n) => n.rule.is_permit(),
+        None => false,
     }
-    let at = b.at;
-    f[at] == 1
 }

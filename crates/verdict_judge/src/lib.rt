@@ -4,3 +4,4 @@
 pub mod best;
 pub mod decide;
 pub mod rule;
+pub mod rules;

@@ -1,84 +1,140 @@
 // The parts of a rule, and its rank.
-ghost use Rattle.std.specs.Prelude.{◌≡◌, ◌≤◌, length};
-ghost use Rattle.verdict.specs.Cover.{wild, given};
-ghost use Rattle.verdict.specs.Order.{one_unless, definites};
-ghost use Rattle.verdict.specs.Rank.{rank};
-ghost use Rattle.table_place.specs.Place.{key_end, key_in, keys_end, keys_in, elems_end, elems_in};
-ghost use Rattle.table_rows.specs.Rules.{id_at, path_at, rule_in, rule_end};
-ghost use Rattle.verdict_judge.specs.Rules.{Short};
+ghost use Rattle.std.specs.Prelude.{◌≡◌, ◌<◌, length};
+ghost use Rattle.verdict.specs.Cover.{given};
+ghost use Rattle.verdict.specs.Order.{definites, earlier};
+ghost use Rattle.verdict.specs.Rank.{rank, top_rank};
+ghost use Rattle.table_rows.specs.Rules.{id_at, origin_at, path_at};
+ghost use Rattle.verdict_compare.specs.Place.{keys, elements};
+ghost use Rattle.verdict_judge.specs.Place.{rule, nth};
 
-// 1 for a definite key, 0 for a wildcard.
-fn count_key(f: &[u8], at: usize) -> usize
-    requires { key_end f.now at ≤ length f.now }
-    ensures { result ≡ one_unless (wild (key_in f.now at)) }
-{
-    if verdict_compare::key::is_star(f, table_place::str_end(f, at)) {
-        return 0;
-    }
-    1
-}
+use crate::rules::{Rule, Rules};
+use verdict_compare::place::{Elements, Keys};
 
-// How many of k keys are definite.
-fn count_given(f: &[u8], at: usize, k: usize) -> usize
-    requires { keys_end k f.now at ≤ length f.now }
-    ensures { result ≡ length (given (keys_in k f.now at)) }
+// The first byte of a subject's name, from a rule's start on.
+const SUBJECT_NAME: usize = table::RULE_SUBJECT + 1;
+
+// How many of the keys are definite.
+fn count_given(own: Keys) -> usize
+    ensures { result ≡ length (given (keys own.entry)) }
 {
     let mut n = 0;
-    let mut q = at;
-    let mut left = k;
-    while 0 < left {
-        n += count_key(f, q);
-        q = table_place::key_end(f, q);
-        left -= 1;
+    for key in own {
+        if !key.is_wild() {
+            n += 1;
+        }
     }
     n
 }
 
-// How many definite keys k elements have.
-pub fn count_keys(f: &[u8], at: usize, k: usize) -> usize
-    requires { elems_end k f.now at ≤ length f.now }
-    ensures { result ≡ definites (elems_in k f.now at) }
+// How many definite keys a path has.
+pub fn count_keys(path: Elements) -> usize
+    ensures { result ≡ definites (elements path.entry) }
 {
     let mut n = 0;
-    let mut q = at;
-    let mut left = k;
-    while 0 < left {
-        let a = table_place::str_end(f, q);
-        let c = f[a] as usize;
-        n += count_given(f, a + 1, c);
-        q = table_place::elem_end(f, q);
-        left -= 1;
+    for element in path {
+        n += count_given(element.keys());
     }
     n
 }
 
-// Where the id of the rule at `at` stands.
-pub fn id_at(f: &[u8], at: usize) -> usize
-    requires { rule_end f.now at ≤ length f.now }
-    ensures { result ≡ id_at f.now at }
-{
-    table_place::str_end(f, at + table::RULE_SUBJECT)
+impl<'a> Rules<'a> {
+    // The rule with that number.
+    pub fn rule(self, number: usize) -> Rule<'a>
+        requires { number < self.count }
+        ensures { rule result ≡ nth self.entry number }
+    {
+        Rule {
+            bytes: self.bytes,
+            at: self.starts[number] as usize,
+        }
+    }
 }
 
-// Where the path of the rule at `at` stands.
-pub fn path_at(f: &[u8], at: usize) -> usize
-    requires { rule_end f.now at ≤ length f.now }
-    ensures { result ≡ path_at f.now at }
-{
-    table_place::str_end(f, table_place::str_end(f, id_at(f, at)))
-}
+impl<'a> Rule<'a> {
+    // Where its id stands.
+    pub fn id_at(self) -> usize
+        ensures { result ≡ id_at self.entry.bytes.now self.entry.at }
+    {
+        table_place::str_end(self.bytes, self.at + table::RULE_SUBJECT)
+    }
 
-// The rank of the rule at `at`, whose path is at a.
-pub fn rank_at(f: &[u8], at: usize, a: usize) -> usize
-    requires { (rule_end f.now at ≤ length f.now) × (a ≡ path_at f.now at) × Short f.now }
-    ensures { result ≡ rank (rule_in f.now at) }
-{
-    let n = f[a] as usize;
-    let k = count_keys(f, a + 1, n);
-    verdict::rank(
-        n,
-        k,
-        f[at + table::RULE_SUBJECT_KIND] == table::SUBJECT_GROUP,
-        f[at] == table::ACTION_PERMIT,
-    )
+    pub fn id(self) -> &'a [u8]
+        ensures { result.now ≡ (rule self.entry).id }
+    {
+        let i = self.id_at();
+        let start = i + 1;
+        let end = table_place::str_end(self.bytes, i);
+        &self.bytes[start..end]
+    }
+
+    pub fn mode(self) -> u8
+        ensures { result ≡ (rule self.entry).mode }
+    {
+        self.bytes[self.at + table::RULE_MODE]
+    }
+
+    // The user, or the group's name.
+    pub fn subject(self) -> &'a [u8]
+        ensures { result.now ≡ (rule self.entry).subject }
+    {
+        let start = self.at + SUBJECT_NAME;
+        let end = table_place::str_end(self.bytes, self.at + table::RULE_SUBJECT);
+        &self.bytes[start..end]
+    }
+
+    fn origin_at(self) -> usize
+        ensures { result ≡ origin_at self.entry.bytes.now self.entry.at }
+    {
+        table_place::str_end(self.bytes, self.id_at())
+    }
+
+    pub fn origin(self) -> &'a [u8]
+        ensures { result.now ≡ (rule self.entry).origin }
+    {
+        let o = self.origin_at();
+        let start = o + 1;
+        let end = table_place::str_end(self.bytes, o);
+        &self.bytes[start..end]
+    }
+
+    // Where its path stands.
+    pub fn path_at(self) -> usize
+        ensures { result ≡ path_at self.entry.bytes.now self.entry.at }
+    {
+        table_place::str_end(self.bytes, self.origin_at())
+    }
+
+    pub fn path(self) -> Elements<'a>
+        ensures path { elements result ≡ (rule self.entry).path }
+        ensures few { result.count < 256 }
+    {
+        Elements::read(self.bytes, self.path_at())
+    }
+
+    // Whether its subject is a group.
+    pub fn is_by_group(self) -> bool
+        ensures { result ≡ (rule self.entry).by_group }
+    {
+        self.bytes[self.at + table::RULE_SUBJECT_KIND] == table::SUBJECT_GROUP
+    }
+
+    pub fn rank(self) -> usize
+        ensures rank { result ≡ rank (rule self.entry) }
+        ensures below { result < top_rank }
+    {
+        let path = self.path();
+        verdict::rank(
+            path.count,
+            count_keys(path),
+            self.is_by_group(),
+            self.is_permit(),
+        )
+    }
+
+    // Whether its id comes before the other's.
+    pub fn is_earlier(self, other: Rule) -> bool
+        ensures { result ≡ earlier (rule self.entry) (rule other.entry) }
+    {
+        text::string::is_before(self.id(), other.id())
+    }
 }

@@ -3,7 +3,7 @@ use mathlib.Core.Path.{◌≡◌, ap}
 use mathlib.Core.Bool.{Bool, true, false, not, ◌||◌}
 use Prim.Native.Nat.{ℕ, ◌≤◌, ◌<◌}
 use borrow.Author.Tests.{lt-ltb, le-ltb}
-use lib.Dec.{eqb}
+use lib.Dec.{eqb, ltb}
 use lib.ListN.{length}
 use Rattle.limits.specs.Limits.{max_short_string}
 use Rattle.text.specs.Test.{◌or◌, whether◌then◌else◌, all}
@@ -15,17 +15,13 @@ use Rattle.table.specs.Refusal.{stray}
 use Rattle.verdict_request.specs.Calls.{bad_mode, bad_origin}
 
 module _ (s : Str) where
-  pub origin_long : max_short_string < length s → true ≡ bad_origin s
+  pub origin_long : max_short_string < length s → ltb max_short_string (length s) ≡ bad_origin s
   unfolding bad_origin ◌or◌
   origin_long h = rw (lt-ltb max_short_string (length s) h)
 
   pub origin_short : length s ≤ max_short_string → (b : Bool) → b ≡ all is_print s → not b ≡ bad_origin s
   unfolding bad_origin stray ◌or◌
   origin_short h b i = rw (le-ltb max_short_string (length s) h) (ap not i)
-
-pub mode_is : (m : ℕ) → not (eqb m 1 || eqb m 2) ≡ bad_mode m
-unfolding bad_mode
-mode_is m = ap not (or_is _ _)
 
 module _ (u m o : Bool) where
   pub number_user : u ≡ true → 20 ≡ (20 when (u or m) else 21 when o else clear)

@@ -14,10 +14,10 @@ use Rattle.table.specs.declared.Checked.{Checked}
 use Rattle.table.specs.declared.Checked.TheVariants as checked
 use Rattle.verdict.specs.Order.{Numbered}
 use Rattle.verdict.specs.Verdict.{Request, decider, Tree, ALL, NONE, MIXED, tree}
-use Rattle.verdict_request.specs.declared.PathAnswer.{PathAnswer}
-use Rattle.verdict_request.specs.declared.PathAnswer.TheVariants as path
-use Rattle.verdict_request.specs.declared.TreeAnswer.{TreeAnswer}
-use Rattle.verdict_request.specs.declared.TreeAnswer.TheVariants as trees
+use Rattle.verdict_request.specs.PathAnswer.{PathAnswer}
+use Rattle.verdict_request.specs.PathAnswer as path
+use Rattle.verdict_request.specs.TreeAnswer.{TreeAnswer}
+use Rattle.verdict_request.specs.TreeAnswer as trees
 
 -- ---- the request's refusal
 

@@ -1,2 +1,4 @@
+pub mod PathAnswer
+pub mod TreeAnswer
+pub mod Answers
 pub mod Calls
-pub mod Either

@@ -1,6 +1,6 @@
 #![tactic(auto)]
 
-// Requests and answers of the single-path verdict and the tree verdict.
+// Requests and answers of the single-path verdict and the tree verdict. What refuses a call is its error.
 pub mod answer;
 pub mod request;
 
@@ -13,7 +13,6 @@ pub enum PathAnswer {
     Deny(RuleNumber),
     // No rule matches: deny.
     Default,
-    Refused { number: u8, line: usize },
 }
 
 // The answer of the tree verdict.
@@ -22,12 +21,4 @@ pub enum TreeAnswer {
     All,
     None,
     Mixed(RuleNumber),
-    Refused { number: u8, line: usize },
-}
-
-// What one of the two calls answers.
-#[derive(Clone, Copy)]
-pub enum Verdict {
-    Path(PathAnswer),
-    Tree(TreeAnswer),
 }

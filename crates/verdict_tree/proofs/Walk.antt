@@ -11,7 +11,8 @@ use Rattle.limits.specs.Limits.{max_rules}
 use Rattle.text.proofs.Tests.{clash}
 use Rattle.path.specs.Path.{Path}
 use Rattle.verdict.specs.Pair.{covers_both}
-use Rattle.table_place.specs.Place.{path_in}
+use Rattle.verdict_judge.specs.Place.{nth}
+use Rattle.verdict_judge.specs.declared.rules.Rules.{Rules}
 use Rattle.verdict_tree.specs.Tree.{Packed, top_weight, Fits, Below, Heaviest}
 
 -- ---- the greatest below a limit
@@ -48,29 +49,29 @@ module _ (weights : List ℕ) (limit : ℕ) where
 
 -- ---- the walk
 
-module _ (weights : List ℕ) (n : ℕ) (packed : (i : ℕ) → i < n → Packed (get_or weights i 0) i) where
+module _ (R : Rules) (weights : List ℕ) (packed : (i : ℕ) → i < R.count → Packed (get_or weights i 0) i) where
   -- x is the weight of the rule whose number it has
   abbrev pub At : ℕ → Type 0
-  At x = 0 < x → (x % max_rules < n) × (get_or weights (x % max_rules) 0 ≡ x)
+  At x = 0 < x → (x % max_rules < R.count) × (get_or weights (x % max_rules) 0 ≡ x)
 
-  pub at_below : (limit x : ℕ) → Below weights n limit x → At x
+  pub at_below : (limit x : ℕ) → Below weights R.count limit x → At x
   at_below limit x b z =
       let q = b.there z in
       let e : x % max_rules ≡ q.0 = ap (λ (y : ℕ). y % max_rules) (sym q.2) ∙ (packed q.0 q.1).number in
       (rw e q.1, rw e q.2)
 
-  module _ (f paths : List ℕ) (p : Path) (i : ℕ) where
+  module _ (p : Path) (i : ℕ) where
     abbrev covering : ℕ → Bool
-    covering j = covers_both (path_in f (get_or paths j 0)) (path_in f (get_or paths i 0)) p
+    covering j = covers_both (nth R j).path (nth R i).path p
 
     -- none that is heavier than x covers
     abbrev pub Past : ℕ → Type 0
-    Past x = (j : ℕ) → j < n → x < get_or weights j 0 → covering j ≡ false
+    Past x = (j : ℕ) → j < R.count → x < get_or weights j 0 → covering j ≡ false
 
-    pub past_start : (x : ℕ) → Below weights n top_weight x → Past x
+    pub past_start : (x : ℕ) → Below weights R.count top_weight x → Past x
     past_start x b j l h = let q = b.top j l (packed j l).light in absurd (omega arith)
 
-    pub past_next : (x y : ℕ) → At x → 0 < x → Past x → covering (x % max_rules) ≡ false → Below weights n (get_or weights (x % max_rules) 0) y → Past y
+    pub past_next : (x y : ℕ) → At x → 0 < x → Past x → covering (x % max_rules) ≡ false → Below weights R.count (get_or weights (x % max_rules) 0) y → Past y
     past_next x y a z h e b j l k = go (dec_lt (get_or weights j 0) x) (dec_lt x (get_or weights j 0))
       where
         go : Dec (get_or weights j 0 < x) → Dec (x < get_or weights j 0) → covering j ≡ false
@@ -82,9 +83,9 @@ module _ (weights : List ℕ) (n : ℕ) (packed : (i : ℕ) → i < n → Packed
             ap covering (sym t) ∙ e
 
     -- the first that covers, or the last that may
-    pub found : (d x : ℕ) → d < n → Fits (get_or weights d 0) → covering d ≡ true → x / max_rules ≤ get_or weights d 0 / max_rules → Past x → Heaviest f weights paths n p i d
+    pub found : (d x : ℕ) → d < R.count → Fits (get_or weights d 0) → covering d ≡ true → x / max_rules ≤ get_or weights d 0 / max_rules → Past x → Heaviest R weights p i d
     found d x l h e k m = record { inside = l; fits = h; covering = e; unbeaten = λ j a c. go j a c (dec_lt (get_or weights d 0 / max_rules) (get_or weights j 0 / max_rules)) }
       where
-        go : (j : ℕ) → j < n → covering j ≡ true → Dec (get_or weights d 0 / max_rules < get_or weights j 0 / max_rules) → get_or weights j 0 / max_rules ≤ get_or weights d 0 / max_rules
+        go : (j : ℕ) → j < R.count → covering j ≡ true → Dec (get_or weights d 0 / max_rules < get_or weights j 0 / max_rules) → get_or weights j 0 / max_rules ≤ get_or weights d 0 / max_rules
         go j a c (yes q) = clash c (m j a (omega arith))
         go j a c (no q) = omega arith

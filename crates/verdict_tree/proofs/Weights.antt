@@ -1,6 +1,6 @@
 -- What a weight tells of its rule.
 use mathlib.Core.Path.{◌≡◌, refl, sym, ap, ◌∙◌}
-use mathlib.Core.Bool.{Bool, true, false, not, xor}
+use mathlib.Core.Bool.{Bool, true, false, xor, beq}
 use mathlib.Core.List.{List}
 use Prim.Native.Nat.{ℕ, suc, ◌+◌, ◌*◌, ◌/◌, ◌≤◌, ◌<◌}
 use native.Mathlib.Omega.{arith}
@@ -13,11 +13,7 @@ use Rattle.path.specs.Path.{Path}
 use Rattle.table.specs.Table.{Rule}
 use Rattle.verdict.specs.Join.{agree}
 use Rattle.verdict.specs.Rank.{top_rank, rank}
-use Rattle.table_place.specs.Place.{elems_in}
-use Rattle.table_rows.specs.Rules.{path_at, rule_in}
-use Rattle.verdict_judge.specs.Rules.{RulesLaid}
-use Rattle.verdict_judge.proofs.Parts.{path_in_lem, path_bounds}
-use Rattle.verdict_tree.specs.Tree.{weight, fitting, Packed, Fits, Paths, PathsLaid}
+use Rattle.verdict_tree.specs.Tree.{weight, fitting, Packed, Fits}
 
 -- ---- the weight of a rule
 
@@ -32,18 +28,6 @@ weight_apart app p r e = by (app r) (λ h. rw (h, e)) (λ h. rw h)
 pub weight_fit : (app : Rule → Bool) (p : Path) (r : Rule) (x : ℕ) → app r ≡ true → agree r.path p ≡ true → x ≡ rank r → x + 1 ≡ weight (fitting app p) r
 unfolding weight whether◌then◌else◌ ◌and◌
 weight_fit app p r x h e i = rw (h, e) (omega arith)
-
-pub agree_in : (f : List ℕ) (s a : ℕ) (p : Path) (t : Bool) → a ≡ path_at f s → t ≡ agree (elems_in (get_or f a 0) f (a + 1)) p → agree (rule_in f s).path p ≡ t
-agree_in f s a p t i e = ap (λ (q : Path). agree q p) (sym (path_in_lem f s a i)) ∙ sym e
-
--- ---- where the rules are
-
-pub permit_in : (f : List ℕ) (s : ℕ) → eqb (get_or f s 0) 1 ≡ (rule_in f s).permit
-unfolding rule_in
-permit_in f s = refl
-
-pub paths_laid : (f starts paths : List ℕ) (n : ℕ) → RulesLaid f starts n → Paths f starts paths n → PathsLaid f paths n
-paths_laid f starts paths n h k i l = (path_bounds f (get_or starts i 0) (get_or paths i 0) (h i l) (k i l)).1
 
 -- ---- the weight with the number
 
@@ -70,12 +54,16 @@ module _ (test : Rule → Bool) (r : Rule) (i x : ℕ) (l : i < max_rules) (h : 
 
 -- ---- opposite actions
 
-pub xor_true : (v : Bool) → not v ≡ xor true v
+pub same_actions : (x v : Bool) → beq x v ≡ true → xor x v ≡ false
 unfolding xor
-xor_true true = refl
-xor_true false = refl
+same_actions true true e = refl
+same_actions false false e = refl
+same_actions true false e = sym e
+same_actions false true e = sym e
 
-pub xor_false : (v : Bool) → v ≡ xor false v
+pub other_actions : (x v : Bool) → beq x v ≡ false → xor x v ≡ true
 unfolding xor
-xor_false true = refl
-xor_false false = refl
+other_actions true true e = sym e
+other_actions false false e = sym e
+other_actions true false e = refl
+other_actions false true e = refl

@@ -1,84 +1,48 @@
 -- What the functions of the tree verdict take and answer.
-use Rattle.std.specs.Prelude.{◌≡◌, ℕ, ◌+◌, ◌*◌, ◌≤◌, ◌<◌, Bool, List, eqb, length, get_or}
-use Rattle.limits.specs.Limits.{max_rules}
+use Rattle.std.specs.Prelude.{◌≡◌, ℕ, ◌<◌, ◌≤◌, Bool, List, length, get_or, Option}
 use Rattle.path.specs.Path.{Path}
 use Rattle.table.specs.Table.{Rule}
 use Rattle.verdict.specs.Order.{earlier, prefer, candidate, choose}
 use Rattle.verdict.specs.Rank.{top_rank}
-use Rattle.table_place.specs.Place.{elems_end, elems_in, path_end, path_in}
-use Rattle.text_hash.specs.Mix.{Small}
-use Rattle.text_hash.specs.declared.Seed.{Seed}
-use Rattle.verdict_filter.specs.declared.Filter.{Filter}
-use Rattle.verdict_filter.specs.Bloom.{beyond}
-use Rattle.table_rows.specs.Rules.{rule_in, rules_in}
-use Rattle.verdict_judge.specs.Rules.{Placed, Marked}
-use Rattle.verdict_judge.specs.Best.{held, Sound}
-use Rattle.verdict_judge.specs.declared.best.Best.{Best}
-use Rattle.verdict_tree.specs.Tree.{fitting, opposing, weight, Weights, Packed, Paths, PathsLaid, filter_of, Prepared}
+use Rattle.verdict_judge.specs.Place.{nth, of_rules, marked}
+use Rattle.verdict_judge.specs.Best.{held}
+use Rattle.verdict_judge.specs.declared.rules.Numbered.{Numbered}
+use Rattle.verdict_judge.specs.declared.rules.Rules.{Rules}
+use Rattle.verdict_tree.specs.Tree.{fitting, opposing, weight, Weights, Packed, Prepared}
+use Rattle.verdict_tree.specs.declared.search.Search.{Search}
+use Rattle.verdict_compare.specs.Place.{elements}
 
--- ---- filters
+-- ---- what is kept
 
--- the filter x is stored as that of rule i
-pub record Stored (x : Filter) (i : ℕ) (before after : List ℕ) : Type 0 where
-  pub long : length after ≡ length before
-  pub same : filter_of after i ≡ x
-  pub others : (j : ℕ) → j < i → filter_of after j ≡ filter_of before j
-
--- what `fill` takes
-pub record ForFill (s : Seed) (f weights paths : List ℕ) (n : ℕ) (g : List ℕ) (p k : ℕ) (filters : List ℕ) : Type 0 where
-  pub seed : Small s
-  pub few : n ≤ max_rules
-  pub laid : PathsLaid f paths n
-  pub each_weight : n ≤ length weights
-  pub each_path : n ≤ length paths
-  pub asked : elems_end k g p ≤ length g
-  pub each_filter : 4 * n ≤ length filters
-
--- what `covers_joined` takes: the paths of the rules j and i, at a and r, and their filters
-pub record ForCovers (f : List ℕ) (a j r i : ℕ) (filters g : List ℕ) (p k : ℕ) : Type 0 where
-  pub path : path_end f a ≤ length f
-  pub other : path_end f r ≤ length f
-  pub asked : elems_end k g p ≤ length g
-  pub filter : 4 * j + 4 ≤ length filters
-  pub other_filter : 4 * i + 4 ≤ length filters
-  pub filtered : (s : Seed) × (filter_of filters j ≡ beyond s 0 (path_in f a) (elems_in k g p))
-      × (filter_of filters i ≡ beyond s 0 (path_in f r) (elems_in k g p))
+abbrev pub Ready : Search → Type 0
+Ready s = Prepared s.rules s.weights.now s.next.now s.filters.now s.first (elements s.asked)
 
 -- ---- weights
 
--- x is the weight of the rule at s
-pub record Weighs (f : List ℕ) (s mark : ℕ) (p : Path) (x : ℕ) : Type 0 where
+-- x is the weight of the rule, which is marked or not
+pub record Weighs (r : Rule) (on : Bool) (p : Path) (x : ℕ) : Type 0 where
   pub light : x ≤ top_rank
-  pub weighs : (app : Rule → Bool) → eqb mark 1 ≡ app (rule_in f s) → x ≡ weight (fitting app p) (rule_in f s)
-
--- n rules were weighed
-pub record Weighed (f starts weights paths : List ℕ) (n : ℕ) : Type 0 where
-  pub each_weight : n ≤ length weights
-  pub each_path : n ≤ length paths
-  pub paths_are : Paths f starts paths n
-  pub packed : (i : ℕ) → i < n → Packed (get_or weights i 0) i
+  pub weighs : (app : Rule → Bool) → on ≡ app r → x ≡ weight (fitting app p) r
 
 -- what `weigh` answers, p being asked
-pub record Weighing (f starts on weights paths : List ℕ) (n : ℕ) (p : Path) : Type 0 where
-  pub weighed : Weighed f starts weights paths n
-  pub weights_are : (app : Rule → Bool) → Marked app f starts on n → Weights (fitting app p) f starts weights n
+pub record Weighing (R : Rules) (on : List Bool) (weights : List ℕ) (p : Path) : Type 0 where
+  pub each : R.count ≤ length weights
+  pub packed : (i : ℕ) → i < R.count → Packed (get_or weights i 0) i
+  pub weights_are : (app : Rule → Bool) → marked app R on → Weights (fitting app p) R weights R.count
 
 -- ---- the opposing rule
 
--- what the search takes
-pub record ForSearch (f starts weights paths next filters : List ℕ) (n first : ℕ) (g : List ℕ) (p k : ℕ) : Type 0 where
-  pub rules : Placed f starts n
-  pub paths_are : Paths f starts paths n
-  pub kept : Prepared f weights paths next filters n first g p k
-
 -- c is the witness after b and rule i
-pub record Opposed (f starts weights : List ℕ) (n : ℕ) (p : Path) (v : Bool) (b : Best) (i : ℕ) (c : Best) : Type 0 where
-  pub sound : Sound f c
-  pub best : (test : Rule → Bool) → Weights test f starts weights n
-      → held f c ≡ prefer earlier (held f b) (candidate (opposing test (rules_in f starts n 0) p v) i (rule_in f (get_or starts i 0)))
+abbrev pub Opposed : Rules → List ℕ → Path → Bool → Option Numbered → ℕ → Option Numbered → Type 0
+Opposed R weights p v b i c = (test : Rule → Bool) → Weights test R weights R.count
+    → held c ≡ prefer earlier (held b) (candidate (opposing test (of_rules R) p v) i (nth R i))
 
 -- c is the witness of all rules: of those that oppose v, the verdict on p, the one with the smallest id
-pub record Witness (f starts weights : List ℕ) (n : ℕ) (p : Path) (v : Bool) (c : Best) : Type 0 where
-  pub sound : Sound f c
-  pub best : (test : Rule → Bool) → Weights test f starts weights n
-      → held f c ≡ choose earlier (opposing test (rules_in f starts n 0) p v) 0 (rules_in f starts n 0)
+abbrev pub Chosen : Rules → List ℕ → Path → Bool → Option Numbered → Type 0
+Chosen R weights p v c = (test : Rule → Bool) → Weights test R weights R.count
+    → held c ≡ choose earlier (opposing test (of_rules R) p v) 0 (of_rules R)
+
+-- the same by the marks
+abbrev pub Witness : Rules → List Bool → Path → Bool → Option Numbered → Type 0
+Witness R on p v c = (app : Rule → Bool) → marked app R on
+    → held c ≡ choose earlier (opposing (fitting app p) (of_rules R) p v) 0 (of_rules R)

@@ -10,11 +10,11 @@ use Rattle.verdict.specs.Pair.{covers_both}
 use Rattle.verdict.specs.Order.{better, choose}
 use Rattle.verdict.specs.Rank.{rank}
 use Rattle.verdict.specs.Verdict.{action}
-use Rattle.table_place.specs.Place.{path_in, path_end, elems_in, elems_end}
 use Rattle.verdict_filter.specs.declared.Filter.{Filter}
 use Rattle.text_hash.specs.declared.Seed.{Seed}
-use Rattle.verdict_filter.specs.Bloom.{beyond}
-use Rattle.table_rows.specs.Rules.{path_at, rule_in}
+use Rattle.verdict_filter.specs.Bloom.{none, beyond}
+use Rattle.verdict_judge.specs.Place.{nth}
+use Rattle.verdict_judge.specs.declared.rules.Rules.{Rules}
 
 -- ---- the tests
 
@@ -41,8 +41,8 @@ unfoldable pub weight : (Rule → Bool) → Rule → ℕ
 weight test r = whether test r then suc (rank r) else 0
 
 -- of each of the first n rules its weight and its number, as one number
-abbrev pub Weights : (Rule → Bool) → List ℕ → List ℕ → List ℕ → ℕ → Type 0
-Weights test f starts weights n = (i : ℕ) → i < n → get_or weights i 0 ≡ weight test (rule_in f (get_or starts i 0)) * max_rules + i
+abbrev pub Weights : (Rule → Bool) → Rules → List ℕ → ℕ → Type 0
+Weights test R weights n = (i : ℕ) → i < n → get_or weights i 0 ≡ weight test (nth R i) * max_rules + i
 
 -- more than any of these numbers
 abbrev pub top_weight : ℕ
@@ -56,57 +56,36 @@ pub record Packed (x i : ℕ) : Type 0 where
 abbrev pub Fits : ℕ → Type 0
 Fits x = max_rules ≤ x
 
--- where the paths of the first n rules are
-abbrev pub Paths : List ℕ → List ℕ → List ℕ → ℕ → Type 0
-Paths f starts paths n = (i : ℕ) → i < n → get_or paths i 0 ≡ path_at f (get_or starts i 0)
-
-abbrev pub PathsLaid : List ℕ → List ℕ → ℕ → Type 0
-PathsLaid f paths n = (i : ℕ) → i < n → path_end f (get_or paths i 0) ≤ length f
-
 -- r is the greatest of the first n weights that are less than the limit, or 0 where none is
 pub record Below (weights : List ℕ) (n limit r : ℕ) : Type 0 where
   pub top : (j : ℕ) → j < n → get_or weights j 0 < limit → get_or weights j 0 ≤ r
   pub there : 0 < r → (j : ℕ) × (j < n) × (get_or weights j 0 ≡ r)
   pub less : 0 < r → r < limit
 
--- the filter kept of rule i: four numbers
-unfoldable pub filter_of : List ℕ → ℕ → Filter
-filter_of filters i = record {
-  a = get_or filters (4 * i) 0;
-  b = get_or filters (4 * i + 1) 0;
-  c = get_or filters (4 * i + 2) 0;
-  d = get_or filters (4 * i + 3) 0;
-}
+-- those of the first n rules that fit have what their paths have beyond p
+abbrev pub Filters : Seed → Rules → List ℕ → Path → List Filter → ℕ → Type 0
+Filters s R weights p filters n = (i : ℕ) → i < n → Fits (get_or weights i 0) → get_or filters i none ≡ beyond s 0 (nth R i).path p
 
--- those of the rules that fit have what their paths have beyond p
-abbrev pub Filters : Seed → List ℕ → List ℕ → List ℕ → Path → List ℕ → ℕ → Type 0
-Filters s f weights paths p filters n =
-    (i : ℕ) → i < n → Fits (get_or weights i 0) → filter_of filters i ≡ beyond s 0 (path_in f (get_or paths i 0)) p
+-- after each of the first k that fits the next in weight
+abbrev pub Nexts : List ℕ → List ℕ → ℕ → ℕ → Type 0
+Nexts weights next n k = (i : ℕ) → i < k → Fits (get_or weights i 0) → Below weights n (get_or weights i 0) (get_or next i 0)
 
--- after each that fits the next in weight
-abbrev pub Nexts : List ℕ → List ℕ → ℕ → Type 0
-Nexts weights next n = (i : ℕ) → i < n → Fits (get_or weights i 0) → Below weights n (get_or weights i 0) (get_or next i 0)
-
--- what is kept of n rules, k elements at p of g being asked; the first in weight is `first`
-pub record Prepared (f weights paths next filters : List ℕ) (n first : ℕ) (g : List ℕ) (p k : ℕ) : Type 0 where
-  pub few : n ≤ max_rules
-  pub asked : elems_end k g p ≤ length g
-  pub each_weight : n ≤ length weights
-  pub each_path : n ≤ length paths
-  pub each_next : n ≤ length next
-  pub each_filter : 4 * n ≤ length filters
-  pub laid : PathsLaid f paths n
-  pub packed : (i : ℕ) → i < n → Packed (get_or weights i 0) i
-  pub start : Below weights n top_weight first
-  pub nexts : Nexts weights next n
-  pub filtered : (s : Seed) × Filters s f weights paths (elems_in k g p) filters n
+-- what is kept of the rules, p being asked; the first in weight is `first`
+pub record Prepared (R : Rules) (weights next : List ℕ) (filters : List Filter) (first : ℕ) (p : Path) : Type 0 where
+  pub each_weight : R.count ≤ length weights
+  pub each_next : R.count ≤ length next
+  pub each_filter : R.count ≤ length filters
+  pub packed : (i : ℕ) → i < R.count → Packed (get_or weights i 0) i
+  pub start : Below weights R.count top_weight first
+  pub nexts : Nexts weights next R.count R.count
+  pub filtered : (s : Seed) × Filters s R weights p filters R.count
 
 -- ---- the deciding rule
 
 -- rule d covers the joined path of rule i's and p, and none that covers it weighs more
-pub record Heaviest (f weights paths : List ℕ) (n : ℕ) (p : Path) (i d : ℕ) : Type 0 where
-  pub inside : d < n
+pub record Heaviest (R : Rules) (weights : List ℕ) (p : Path) (i d : ℕ) : Type 0 where
+  pub inside : d < R.count
   pub fits : Fits (get_or weights d 0)
-  pub covering : covers_both (path_in f (get_or paths d 0)) (path_in f (get_or paths i 0)) p ≡ true
-  pub unbeaten : (j : ℕ) → j < n → covers_both (path_in f (get_or paths j 0)) (path_in f (get_or paths i 0)) p ≡ true
+  pub covering : covers_both (nth R d).path (nth R i).path p ≡ true
+  pub unbeaten : (j : ℕ) → j < R.count → covers_both (nth R j).path (nth R i).path p ≡ true
       → get_or weights j 0 / max_rules ≤ get_or weights d 0 / max_rules

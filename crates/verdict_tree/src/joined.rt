@@ -1,66 +1,43 @@
 // The rule that decides a joined path.
 ghost use Rattle.std.specs.Prelude.{◌≡◌, ◌<◌, get_or};
 ghost use Rattle.verdict.specs.Pair.{covers_both};
-ghost use Rattle.table_place.specs.Place.{elems_in, path_in};
-ghost use Rattle.verdict_tree.specs.Tree.{Fits, Prepared, Heaviest};
-ghost use Rattle.verdict_tree.specs.Given.{ForCovers};
+ghost use Rattle.verdict_compare.specs.Place.{elements};
+ghost use Rattle.verdict_judge.specs.Place.{nth};
+ghost use Rattle.verdict_tree.specs.Tree.{Fits, Heaviest};
+ghost use Rattle.verdict_tree.specs.Given.{Ready};
 
-use table::RuleNumber;
+use crate::search::Search;
+use verdict_compare::place::Elements;
 
-// Whether the path at a of f, of rule j, covers the joined path of that at r of f, of rule i, and the k elements at p of g.
-fn covers_joined(
-    f: &[u8],
-    a: usize,
-    j: RuleNumber,
-    r: usize,
-    i: RuleNumber,
-    filters: &[u64],
-    g: &[u8],
-    p: usize,
-    k: usize,
-) -> bool
-    requires { ForCovers f.now a j.0 r i.0 filters.now g.now p k }
-    ensures { result ≡ covers_both (path_in f.now a) (path_in f.now r) (elems_in k g.now p) }
-{
-    if !crate::filter::is_within(filters, j, i) {
-        return false;
+impl<'t, 'a> Search<'t, 'a> {
+    // Whether the path of rule j covers the joined path of that of rule i, which is `own`, and the asked one. Both rules fit.
+    fn covers_joined(&self, j: usize, i: usize, own: Elements) -> bool
+        requires prepared { Ready self.now }
+        requires inside { (j < self.now.rules.count) × (i < self.now.rules.count) }
+        requires fit { Fits (get_or self.now.weights.now j 0) × Fits (get_or self.now.weights.now i 0) }
+        requires path { elements own ≡ (nth self.now.rules i).path }
+        ensures { result ≡ covers_both (nth self.now.rules j).path (nth self.now.rules i).path (elements self.now.asked) }
+    {
+        crate::filter::is_within(self.filters[j], self.filters[i])
+            && self.rules.rule(j).path().covers_both(own, self.asked)
     }
-    let n = f[a] as usize;
-    let m = f[r] as usize;
-    verdict_compare::paths::covers_both(f, a + 1, n, r + 1, m, g, p, k)
-}
 
-// The heaviest rule that covers the joined path of rule i, which fits, and the k elements at p of g. Rule i itself does, so
-// only heavier ones are tested. Those of equal weight have equal actions, whatever their ids.
-pub fn decide_joined(
-    i: RuleNumber,
-    f: &[u8],
-    weights: &[usize],
-    paths: &[u16],
-    next: &[usize],
-    filters: &[u64],
-    n: usize,
-    first: usize,
-    g: &[u8],
-    p: usize,
-    k: usize,
-) -> RuleNumber
-    requires { (i.0 < n) × Fits (get_or weights.now i.0 0)
-        × Prepared f.now weights.now paths.now next.now filters.now n first g.now p k }
-    ensures { Heaviest f.now weights.now paths.now n (elems_in k g.now p) i.0 result.0 }
-{
-    let own = i.0 as usize;
-    let r = paths[own] as usize;
-    let weight = weights[own] / limits::MAX_RULES;
-    let mut x = first;
-    while weight < x / limits::MAX_RULES {
-        let j = x % limits::MAX_RULES;
-        let a = paths[j] as usize;
-        let heavier = RuleNumber(j as u16);
-        if covers_joined(f, a, heavier, r, i, filters, g, p, k) {
-            return heavier;
+    // The heaviest rule that covers the joined path of rule i, which fits, and the asked one. Rule i itself does, so only heavier ones are
+    // tested. Those of equal weight have equal actions, whatever their ids.
+    pub fn decide_joined(&self, i: usize) -> usize
+        requires { Ready self.now × (i < self.now.rules.count) × Fits (get_or self.now.weights.now i 0) }
+        ensures { Heaviest self.now.rules self.now.weights.now (elements self.now.asked) i result }
+    {
+        let own = self.rules.rule(i).path();
+        let weight = self.weights[i] / limits::MAX_RULES;
+        let mut x = self.first;
+        while weight < x / limits::MAX_RULES {
+            let j = x % limits::MAX_RULES;
+            if self.covers_joined(j, i, own) {
+                return j;
+            }
+            x = self.next[j];
         }
-        x = next[j];
+        i
     }
-    i
 }

@@ -5,5 +5,6 @@
 pub mod filter;
 pub mod joined;
 pub mod order;
+pub mod search;
 pub mod weigh;
 pub mod witness;

@@ -1,138 +1,84 @@
 // The opposing rule with the smallest id.
 ghost use Rattle.std.specs.Prelude.{◌≡◌, ◌≤◌, ◌<◌, length};
-ghost use Rattle.std.specs.Bool.{xor};
-ghost use Rattle.limits.specs.Limits.{max_rules};
-ghost use Rattle.table_place.specs.Place.{elems_end, elems_in};
-ghost use Rattle.verdict_judge.specs.Rules.{Placed};
-ghost use Rattle.verdict_judge.specs.Best.{Sound};
-ghost use Rattle.verdict_tree.specs.Given.{Weighed, ForSearch, Opposed, Witness};
+ghost use Rattle.verdict.specs.Order.{earlier};
+ghost use Rattle.verdict_compare.specs.Place.{elements};
+ghost use Rattle.verdict_judge.specs.Place.{rule};
+ghost use Rattle.verdict_judge.specs.Best.{held, wins};
+ghost use Rattle.verdict_tree.specs.Given.{Ready, Opposed, Chosen, Witness};
 
+use crate::search::Search;
 use table::RuleNumber;
-use verdict_judge::best::Best;
+use verdict_compare::place::Elements;
+use verdict_judge::rules::{Numbered, Rule, Rules};
 
 // More than any weight.
 const TOP_WEIGHT: usize = 9223372036854775808;
 
-fn unlike(x: bool, v: bool) -> bool
-    ensures { result ≡ xor x v }
+// Whether the id of the rule comes before that of the one so far, if there is one.
+fn comes_first(own: Rule, so_far: Option<Numbered>) -> bool
+    ensures { result ≡ wins earlier (rule own.entry) (held so_far.entry) }
 {
-    if x {
-        return !v;
-    }
-    v
-}
-
-// The witness after rule i: that rule where it fits, comes earlier, and its joined path gets another action than v.
-fn oppose(
-    b: Best,
-    i: RuleNumber,
-    f: &[u8],
-    starts: &[u16],
-    weights: &[usize],
-    paths: &[u16],
-    next: &[usize],
-    filters: &[u64],
-    n: usize,
-    first: usize,
-    v: bool,
-    g: &[u8],
-    p: usize,
-    k: usize,
-) -> Best
-    requires { (i.0 < n) × Sound f.now b
-        × ForSearch f.now starts.now weights.now paths.now next.now filters.now n first g.now p k }
-    ensures { Opposed f.now starts.now weights.now n (elems_in k g.now p) v b i.0 result }
-{
-    let own = i.0 as usize;
-    if weights[own] < limits::MAX_RULES {
-        return b;
-    }
-    let s = starts[own] as usize;
-    if !verdict_judge::best::wins_earlier(f, s, b) {
-        return b;
-    }
-    let d = crate::joined::decide_joined(i, f, weights, paths, next, filters, n, first, g, p, k);
-    let decider = d.0 as usize;
-    let t = starts[decider] as usize;
-    if !unlike(f[t] == 1, v) {
-        return b;
-    }
-    Best {
-        weight: 1,
-        number: i,
-        at: s,
+    match so_far {
+        Some(n) => own.is_earlier(n.rule),
+        None => true,
     }
 }
 
-// The witness of all rules.
-fn search(
-    f: &[u8],
-    starts: &[u16],
-    weights: &[usize],
-    paths: &[u16],
-    next: &[usize],
-    filters: &[u64],
-    n: usize,
-    first: usize,
-    v: bool,
-    g: &[u8],
-    p: usize,
-    k: usize,
-) -> Best
-    requires { ForSearch f.now starts.now weights.now paths.now next.now filters.now n first g.now p k }
-    ensures { Witness f.now starts.now weights.now n (elems_in k g.now p) v result }
-{
-    let mut b = Best {
-        weight: 0,
-        number: RuleNumber(0),
-        at: 0,
-    };
-    let mut i = 0;
-    while i < n {
-        b = oppose(
-            b,
-            RuleNumber(i as u16),
-            f,
-            starts,
-            weights,
-            paths,
-            next,
-            filters,
-            n,
-            first,
-            v,
-            g,
-            p,
-            k,
-        );
-        i += 1;
+impl<'t, 'a> Search<'t, 'a> {
+    // The witness after rule i: that rule where it fits, comes earlier, and its joined path gets another action than v.
+    fn oppose(&self, so_far: Option<Numbered<'t>>, i: usize, v: bool) -> Option<Numbered<'t>>
+        requires { Ready self.now × (i < self.now.rules.count) }
+        ensures { Opposed self.now.rules self.now.weights.now (elements self.now.asked) v so_far.entry i result }
+    {
+        if self.weights[i] < limits::MAX_RULES {
+            return so_far;
+        }
+        let own = self.rules.rule(i);
+        if !comes_first(own, so_far) {
+            return so_far;
+        }
+        let decider = self.rules.rule(self.decide_joined(i));
+        if decider.is_permit() == v {
+            return so_far;
+        }
+        Some(Numbered {
+            number: RuleNumber(i as u16),
+            rule: own,
+        })
     }
-    b
+
+    // The witness of all rules.
+    fn find(&self, v: bool) -> Option<Numbered<'t>>
+        requires { Ready self.now }
+        ensures { Chosen self.now.rules self.now.weights.now (elements self.now.asked) v result }
+    {
+        let mut found = None;
+        for i in 0..self.rules.count {
+            found = self.oppose(found, i, v);
+        }
+        found
+    }
 }
 
-// The opposing rule with the smallest id, where v is the verdict on the k elements at p of g.
-pub fn witness(
-    f: &[u8],
-    starts: &[u16],
-    weights: &[usize],
-    paths: &[u16],
-    n: usize,
-    v: bool,
-    g: &[u8],
-    p: usize,
-    k: usize,
-) -> Best
-    requires { Placed f.now starts.now n × Weighed f.now starts.now weights.now paths.now n
-        × (n ≤ max_rules) × (elems_end k g.now p ≤ length g.now) }
-    ensures { Witness f.now starts.now weights.now n (elems_in k g.now p) v result }
+// The opposing rule with the smallest id, of those that `on` marks, where v is the verdict on the asked path.
+pub fn witness<'t>(rules: Rules<'t>, on: &[bool], asked: Elements, v: bool) -> Option<Numbered<'t>>
+    requires { rules.count ≤ length on.now }
+    ensures { Witness rules.entry on.now (elements asked.entry) v result }
 {
-    let first = crate::order::below(weights, n, TOP_WEIGHT);
+    let mut weights = [0usize; limits::MAX_RULES];
+    crate::weigh::weigh(rules, on, asked, &mut weights);
     let mut next = [0usize; limits::MAX_RULES];
-    crate::order::link(weights, n, &mut next);
-    let seed = text_hash::factors::draw(f);
-    let mut filters = [0u64; 4 * limits::MAX_RULES];
-    crate::filter::fill(seed, f, weights, paths, n, g, p, k, &mut filters);
-    search(
-        f, starts, weights, paths, &next, &filters, n, first, v, g, p, k,
-    )
+    crate::order::link(&weights[..rules.count], &mut next);
+    let seed = text_hash::factors::draw(rules.bytes);
+    let mut filters = [verdict_filter::empty(); limits::MAX_RULES];
+    crate::filter::fill(seed, rules, &weights, asked, &mut filters);
+    let search = Search {
+        rules,
+        weights: &weights,
+        next: &next,
+        first: crate::order::below(&weights[..rules.count], TOP_WEIGHT),
+        filters: &filters,
+        asked,
+    };
+    search.find(v)
 }

@@ -1,15 +1,12 @@
 -- `action` is the definition.
-use native.Mathlib.Omega.{arith}
 use Rattle.text.specs.Test.{whether◌then◌else◌}
 use Rattle.cli_explained.specs.Explained.{action_text}
 use Rattle.cli_explained.proofs.action.Goals as goal
 
-pub returns-then-s : goal.returns-then-s
+pub returns-then-s-clause-value : goal.returns-then-s-clause-value
 unfolding action_text whether◌then◌else◌
-returns-then-s c =
-    record { added = rw c.if-s.true c.string.ensures; short = omega (arith, c.string.ensures.wrote.ends) }
+returns-then-s-clause-value c = rw c.if-s.true
 
-pub returns : goal.returns
+pub returns-else-s-clause-value : goal.returns-else-s-clause-value
 unfolding action_text whether◌then◌else◌
-returns c =
-    record { added = rw c.if-s.false c.string-2.ensures; short = omega (arith, c.string-2.ensures.wrote.ends) }
+returns-else-s-clause-value c = rw c.if-s.false

@@ -1,44 +1,23 @@
 -- `step_name` is the definition.
-use native.Mathlib.Omega.{arith}
 use Rattle.cli_explained.specs.Explained.{step_name}
 use Rattle.cli_explained.proofs.step_name.Goals as goal
 
-pub returns-in-Elements : goal.returns-in-Elements
+pub returns-in-Elements-clause-value : goal.returns-in-Elements-clause-value
 unfolding step_name
-returns-in-Elements c =
-    record {
-      added = rw c.in-Elements.is c.string.ensures;
-      short = omega (arith, c.string.ensures.wrote.ends);
-    }
+returns-in-Elements-clause-value c = rw c.in-Elements.is
 
-pub returns-in-Keys : goal.returns-in-Keys
+pub returns-in-Keys-clause-value : goal.returns-in-Keys-clause-value
 unfolding step_name
-returns-in-Keys c =
-    record {
-      added = rw c.in-Keys.is c.string-in-Keys.ensures;
-      short = omega (arith, c.string-in-Keys.ensures.wrote.ends);
-    }
+returns-in-Keys-clause-value c = rw c.in-Keys.is
 
-pub returns-in-Subject : goal.returns-in-Subject
+pub returns-in-Subject-clause-value : goal.returns-in-Subject-clause-value
 unfolding step_name
-returns-in-Subject c =
-    record {
-      added = rw c.in-Subject.is c.string-in-Subject.ensures;
-      short = omega (arith, c.string-in-Subject.ensures.wrote.ends);
-    }
+returns-in-Subject-clause-value c = rw c.in-Subject.is
 
-pub returns-in-Action : goal.returns-in-Action
+pub returns-in-Action-clause-value : goal.returns-in-Action-clause-value
 unfolding step_name
-returns-in-Action c =
-    record {
-      added = rw c.in-Action.is c.string-in-Action.ensures;
-      short = omega (arith, c.string-in-Action.ensures.wrote.ends);
-    }
+returns-in-Action-clause-value c = rw c.in-Action.is
 
-pub returns-in-Id : goal.returns-in-Id
+pub returns-in-Id-clause-value : goal.returns-in-Id-clause-value
 unfolding step_name
-returns-in-Id c =
-    record {
-      added = rw c.in-Id.is c.string-in-Id.ensures;
-      short = omega (arith, c.string-in-Id.ensures.wrote.ends);
-    }
+returns-in-Id-clause-value c = rw c.in-Id.is

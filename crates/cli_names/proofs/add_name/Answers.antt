@@ -1,43 +1,42 @@
 -- `add_name` adds a name after its words.
 use native.Mathlib.Omega.{arith}
-use lib.ListN.{length-append}
+use mathlib.Core.List.{append_assoc}
+use mathlib.Core.Path.{ap}
+use lib.ListN.{length, length-append}
 use Rattle.table_rows.proofs.Strings.{room}
 use Rattle.table_place.specs.Place.{str_in}
 use Rattle.table_place.proofs.Cursor.{str_grows}
-use Rattle.text_make.proofs.Adding.{◌then◌}
 use Rattle.cli_names.specs.Names.{led, lead_of}
 use Rattle.cli_names.proofs.Gathering.{name_part}
 use Rattle.cli_names.proofs.add_name.Goals as goal
 
-pub add_lead-to-requires : goal.add_lead-to-requires
+pub push_str-requires : goal.push_str-requires
 unfolding led
-add_lead-to-requires c =
-    omega (arith, c.requires.1, length-append (lead_of c.args.first) (str_in c.args.f.now c.args.p))
+push_str-requires c =
+    omega (arith, c.requires.1, ap length c.lead.ensures, length-append (lead_of c.args.first) (str_in c.args.f.now c.args.p))
 
 pub overflow_add-start : goal.overflow_add-start
-overflow_add-start c =
-    omega (arith, room _ _ c.requires.0)
+overflow_add-start c = omega (arith, room _ _ c.requires.0)
 
-pub slice_bounds-string-count : goal.slice_bounds-string-count
-slice_bounds-string-count c =
-    omega (arith, c.str_end-end.ensures, str_grows c.args.f.now c.args.p)
+pub slice_bounds-push_str-count : goal.slice_bounds-push_str-count
+slice_bounds-push_str-count c = omega (arith, c.str_end-end.ensures, str_grows c.args.f.now c.args.p)
 
-pub slice_bounds-string-start : goal.slice_bounds-string-start
-slice_bounds-string-start c =
-    omega (arith, c.str_end-end.ensures, str_grows c.args.f.now c.args.p)
+pub slice_bounds-push_str-start : goal.slice_bounds-push_str-start
+slice_bounds-push_str-start c = omega (arith, c.str_end-end.ensures, str_grows c.args.f.now c.args.p)
 
-pub string-requires : goal.string-requires
+pub push_str-requires-2 : goal.push_str-requires-2
 unfolding led
-string-requires c =
-    rw (name_part _ _ _ c.str_end-end.ensures) (omega (
+push_str-requires-2 c =
+    rw (name_part _ _ _ c.str_end-end.ensures)
+    (omega (
       arith,
       c.requires.1,
-      c.add_lead-to.ensures.wrote.ends,
-      c.add_lead-to.auto.out,
+      ap length c.push_str.ensures,
+      length-append c.args.text.now c.lead.result.now,
+      ap length c.lead.ensures,
       length-append (lead_of c.args.first) (str_in c.args.f.now c.args.p),
     ))
 
 pub returns : goal.returns
 unfolding led
-returns c =
-    c.add_lead-to.ensures then rw (name_part _ _ _ c.str_end-end.ensures) at c.string.ensures
+returns c = simp (append_assoc, c.push_str-2.ensures, name_part _ _ _ c.str_end-end.ensures, c.push_str.ensures, c.lead.ensures)

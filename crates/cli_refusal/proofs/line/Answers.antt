@@ -1,10 +1,19 @@
 -- `line` is the definition.
-use Rattle.text_make.proofs.Adding.{◌then◌}
+use mathlib.Core.List.{append_assoc}
 use Rattle.cli_refusal.specs.Refusal.{refusal}
 use Rattle.cli_refusal.proofs.line.Goals as goal
 
 pub returns : goal.returns
 unfolding refusal
 returns c =
-    c.string-digits.ensures then c.decimal-place.ensures.added then c.add_place-colon.ensures.added
-    then c.string-words.ensures then c.add_meaning-end.ensures.added then c.string.ensures
+    simp (
+      append_assoc,
+      c.new-text.ensures,
+      c.push_str.ensures,
+      c.push_decimal.ensures.added,
+      c.add_place.ensures.added,
+      c.push_str-2.ensures,
+      c.push_str-3.ensures,
+      c.meaning.ensures.value,
+      c.push_str-4.ensures,
+    )

@@ -1,7 +1,6 @@
 -- `season` begins with nothing counted, and no count is more than a log has lines.
 use Rattle.season_call.proofs.Reporting.{none_up_to, none_counted}
 use Rattle.cli_report.proofs.Counting.{counted_all, counted_few}
-use Rattle.std.proofs.Common.{rules}
 use Rattle.cli_season.proofs.season.Goals as goal
 
 pub count-requires : goal.count-requires

@@ -11,8 +11,8 @@ returns-then-packing-end c =
     cut_fails (line_by true c.args.packing) _ _ _ c.line_end-end.ensures
     (long_line c.args.packing _ c.if-packing-end.true _ (cut_long (line_by true c.args.packing) _ _ _ c.line_end-end.ensures))
 
-pub convert_line-s-requires : goal.convert_line-s-requires
-convert_line-s-requires c = (
+pub convert_line-requires : goal.convert_line-requires
+convert_line-requires c = (
   omega (arith, c.line_end-end.ensures.past, cut_long (line_by true c.args.packing) _ _ _ c.line_end-end.ensures),
   λ p. omega (
     arith,
@@ -23,10 +23,10 @@ convert_line-s-requires c = (
   c.requires.1,
 )
 
-pub returns-in_default : goal.returns-in_default
-returns-in_default c =
-    cut_unread (line_by true c.args.packing) _ _ _ c.line_end-end.ensures c.convert_line-s.ensures c.in_default.is
+pub returns-in_err-line : goal.returns-in_err-line
+returns-in_err-line c =
+    rw c.from_residual.ensures (cut_unread (line_by true c.args.packing) _ _ _ c.line_end-end.ensures c.convert_line.ensures c.in_err-line.was)
 
 pub returns : goal.returns
 returns c =
-    cut_lays (line_by true c.args.packing) _ _ _ c.line_end-end.ensures c.convert_line-s.ensures c.in-To.is
+    cut_lays (line_by true c.args.packing) _ _ _ c.line_end-end.ensures c.convert_line.ensures c.in_ok-line.was

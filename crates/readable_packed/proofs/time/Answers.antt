@@ -12,13 +12,13 @@ pub returns-in_default : goal.returns-in_default
 returns-in_default c =
     stops (time_bad c.args.s.now c.args.at _
     (digits_are c.args.s.now c.args.at c.requires.1 c.if-s-at-ne16.false _ _ refl
-    c.copy.ensures) c.if-s-at-ne16.false _ c.read_line-l.ensures.value c.in_default.is)
+    c.copy.ensures) c.if-s-at-ne16.false _ c.read_line.ensures.value c.in_default.is)
 
 pub returns-then-next-ne17 : goal.returns-then-next-ne17
 returns-then-next-ne17 c =
     stops (time_short c.args.s.now c.args.at _
     (digits_are c.args.s.now c.args.at c.requires.1 c.if-s-at-ne16.false _ _ refl
-    c.copy.ensures) c.if-s-at-ne16.false _ c.read_line-l.ensures.value _ _ c.in-Frame.is c.if-next-ne17.true)
+    c.copy.ensures) c.if-s-at-ne16.false _ c.read_line.ensures.value _ c.in-Some.is c.if-next-ne17.true)
 
 pub overflow_add-result : goal.overflow_add-result
 overflow_add-result c =
@@ -26,8 +26,8 @@ overflow_add-result c =
       arith,
       time_eight c.args.s.now c.args.at _
           (digits_are c.args.s.now c.args.at c.requires.1 c.if-s-at-ne16.false _ _ refl
-          c.copy.ensures) c.if-s-at-ne16.false _ c.read_line-l.ensures.value _ _
-          c.in-Frame.is c.if-next-ne17.false,
+          c.copy.ensures) c.if-s-at-ne16.false _ c.read_line.ensures.value _
+          c.in-Some.is c.if-next-ne17.false,
       c.requires.0,
     )
 
@@ -35,5 +35,5 @@ pub returns : goal.returns
 returns c =
     time_puts c.args.s.now c.args.at _
     (digits_are c.args.s.now c.args.at c.requires.1 c.if-s-at-ne16.false _ _ refl
-    c.copy.ensures) c.if-s-at-ne16.false _ c.read_line-l.ensures.value _ _
-    c.in-Frame.is c.if-next-ne17.false _ _ _ c.read_line-l.ensures.out_after
+    c.copy.ensures) c.if-s-at-ne16.false _ c.read_line.ensures.value _
+    c.in-Some.is c.if-next-ne17.false _ _ _ c.read_line.ensures.out_after

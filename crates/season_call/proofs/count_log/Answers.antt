@@ -1,7 +1,6 @@
 -- `count_log` counts the lines of the log after none.
 use native.Mathlib.Omega.{arith}
 use Rattle.season_call.proofs.Reporting.{whole_log, nothing_remembered}
-use Rattle.std.proofs.Common.{rules}
 use Rattle.season_call.proofs.count_log.Goals as goal
 
 pub count_lines-requires : goal.count_lines-requires

@@ -1,690 +1,122 @@
 -- `take_rule` equals its definition.
 use native.Mathlib.Omega.{arith}
-use mathlib.Core.Path.{sym, ◌∙◌}
+use mathlib.Core.Path.{refl, sym, ◌∙◌}
+use Rattle.std.proofs.lemmas.Result.{err_from_is_err_and}
 use Rattle.table.proofs.Rules.{rule_told}
-use Rattle.table_keep_rule.proofs.Rules.{rule_short, Read, rule_four, number_told, Judged, rule_graded, rule_ready, rule_kept}
+use Rattle.table_keep_rule.proofs.Rules.{rule_short, told_so_far, rule_four, judging, rule_graded, rule_ready, rule_kept}
 use Rattle.table_keep_rule.proofs.take_rule.Goals as goal
 
-pub returns-in_default : goal.returns-in_default
-returns-in_default c =
-    record { value = λ b w g d. rule_short _ _ c.read_rule-r.ensures b c.in_default.is; rule_kept = λ x. absurd (omega arith) }
+pub returns-in_default-clause-value : goal.returns-in_default-clause-value
+returns-in_default-clause-value c =
+    λ b w g d. rule_short _ _ c.read_rule.ensures b c.in_default.is
 
-pub returns-then-is_out_of_order : goal.returns-then-is_out_of_order
-returns-then-is_out_of_order c =
-    record {
-      value = λ b w g d. rule_four ((let it : Read = record {
-        old = c.args.old.now;
-        f = c.args.f.now;
-        starts = c.args.groups.now;
-        names = c.args.names.now;
-        count = c.args.count;
-        keys = c.args.keys.now;
-        n = c.args.n;
-        ready = c.requires;
-        subject_end = _;
-        id_end = _;
-        origin_end = _;
-        path_refusal_lem = _;
-        at = rule_told _ _ c.read_rule-r.ensures _ _ _ _ c.in-Is.is;
-      } in it)) (sym c.is_out_of_order.ensures ∙ c.if-is_out_of_order.true) b w;
-      rule_kept = λ x. absurd (omega arith);
-    }
+pub returns-then-is_out_of_order-clause-value : goal.returns-then-is_out_of_order-clause-value
+returns-then-is_out_of_order-clause-value c =
+    λ b w g d. rule_four (told_so_far c.requires (rule_told _ _ c.read_rule.ensures _ c.in-Some.is)) (sym c.is_out_of_order.ensures ∙ c.if-is_out_of_order.true) b w
 
 pub overflow_add-from : goal.overflow_add-from
-overflow_add-from c = omega (
-  arith,
-  ((let it : Read = record {
-    old = c.args.old.now;
-    f = c.args.f.now;
-    starts = c.args.groups.now;
-    names = c.args.names.now;
-    count = c.args.count;
-    keys = c.args.keys.now;
-    n = c.args.n;
-    ready = c.requires;
-    subject_end = _;
-    id_end = _;
-    origin_end = _;
-    path_refusal_lem = _;
-    at = rule_told _ _ c.read_rule-r.ensures _ _ _ _ c.in-Is.is;
-  } in it)).at.long,
-)
+overflow_add-from c =
+    omega (arith, (rule_told _ _ c.read_rule.ensures _ c.in-Some.is).long)
 
 pub overflow_add-then : goal.overflow_add-then
-overflow_add-then c = omega (
-  arith,
-  ((let it : Read = record {
-    old = c.args.old.now;
-    f = c.args.f.now;
-    starts = c.args.groups.now;
-    names = c.args.names.now;
-    count = c.args.count;
-    keys = c.args.keys.now;
-    n = c.args.n;
-    ready = c.requires;
-    subject_end = _;
-    id_end = _;
-    origin_end = _;
-    path_refusal_lem = _;
-    at = rule_told _ _ c.read_rule-r.ensures _ _ _ _ c.in-Is.is;
-  } in it)).at.long,
-)
+overflow_add-then c =
+    omega (arith, (rule_told _ _ c.read_rule.ensures _ c.in-Some.is).long)
 
 pub slice_bounds-subject-count : goal.slice_bounds-subject-count
-slice_bounds-subject-count c = ((let it : Read = record {
-  old = c.args.old.now;
-  f = c.args.f.now;
-  starts = c.args.groups.now;
-  names = c.args.names.now;
-  count = c.args.count;
-  keys = c.args.keys.now;
-  n = c.args.n;
-  ready = c.requires;
-  subject_end = _;
-  id_end = _;
-  origin_end = _;
-  path_refusal_lem = _;
-  at = rule_told _ _ c.read_rule-r.ensures _ _ _ _ c.in-Is.is;
-} in it)).at.long.0
+slice_bounds-subject-count c =
+    (rule_told _ _ c.read_rule.ensures _ c.in-Some.is).long.0
 
 pub slice_bounds-subject-start : goal.slice_bounds-subject-start
-slice_bounds-subject-start c = ((let it : Read = record {
-  old = c.args.old.now;
-  f = c.args.f.now;
-  starts = c.args.groups.now;
-  names = c.args.names.now;
-  count = c.args.count;
-  keys = c.args.keys.now;
-  n = c.args.n;
-  ready = c.requires;
-  subject_end = _;
-  id_end = _;
-  origin_end = _;
-  path_refusal_lem = _;
-  at = rule_told _ _ c.read_rule-r.ensures _ _ _ _ c.in-Is.is;
-} in it)).at.long.0
+slice_bounds-subject-start c =
+    (rule_told _ _ c.read_rule.ensures _ c.in-Some.is).long.0
 
 pub slice_bounds-subject-end : goal.slice_bounds-subject-end
-slice_bounds-subject-end c = omega (
-  arith,
-  ((let it : Read = record {
-    old = c.args.old.now;
-    f = c.args.f.now;
-    starts = c.args.groups.now;
-    names = c.args.names.now;
-    count = c.args.count;
-    keys = c.args.keys.now;
-    n = c.args.n;
-    ready = c.requires;
-    subject_end = _;
-    id_end = _;
-    origin_end = _;
-    path_refusal_lem = _;
-    at = rule_told _ _ c.read_rule-r.ensures _ _ _ _ c.in-Is.is;
-  } in it)).at.long,
-)
+slice_bounds-subject-end c =
+    omega (arith, (rule_told _ _ c.read_rule.ensures _ c.in-Some.is).long)
 
 pub slice_bounds-id-count : goal.slice_bounds-id-count
-slice_bounds-id-count c = ((let it : Read = record {
-  old = c.args.old.now;
-  f = c.args.f.now;
-  starts = c.args.groups.now;
-  names = c.args.names.now;
-  count = c.args.count;
-  keys = c.args.keys.now;
-  n = c.args.n;
-  ready = c.requires;
-  subject_end = _;
-  id_end = _;
-  origin_end = _;
-  path_refusal_lem = _;
-  at = rule_told _ _ c.read_rule-r.ensures _ _ _ _ c.in-Is.is;
-} in it)).at.long.1
+slice_bounds-id-count c =
+    (rule_told _ _ c.read_rule.ensures _ c.in-Some.is).long.1
 
 pub slice_bounds-id-start : goal.slice_bounds-id-start
-slice_bounds-id-start c = ((let it : Read = record {
-  old = c.args.old.now;
-  f = c.args.f.now;
-  starts = c.args.groups.now;
-  names = c.args.names.now;
-  count = c.args.count;
-  keys = c.args.keys.now;
-  n = c.args.n;
-  ready = c.requires;
-  subject_end = _;
-  id_end = _;
-  origin_end = _;
-  path_refusal_lem = _;
-  at = rule_told _ _ c.read_rule-r.ensures _ _ _ _ c.in-Is.is;
-} in it)).at.long.1
+slice_bounds-id-start c =
+    (rule_told _ _ c.read_rule.ensures _ c.in-Some.is).long.1
 
 pub slice_bounds-id-end : goal.slice_bounds-id-end
-slice_bounds-id-end c = omega (
-  arith,
-  ((let it : Read = record {
-    old = c.args.old.now;
-    f = c.args.f.now;
-    starts = c.args.groups.now;
-    names = c.args.names.now;
-    count = c.args.count;
-    keys = c.args.keys.now;
-    n = c.args.n;
-    ready = c.requires;
-    subject_end = _;
-    id_end = _;
-    origin_end = _;
-    path_refusal_lem = _;
-    at = rule_told _ _ c.read_rule-r.ensures _ _ _ _ c.in-Is.is;
-  } in it)).at.long,
-)
+slice_bounds-id-end c =
+    omega (arith, (rule_told _ _ c.read_rule.ensures _ c.in-Some.is).long)
 
 pub slice_bounds-origin-count : goal.slice_bounds-origin-count
-slice_bounds-origin-count c = ((let it : Read = record {
-  old = c.args.old.now;
-  f = c.args.f.now;
-  starts = c.args.groups.now;
-  names = c.args.names.now;
-  count = c.args.count;
-  keys = c.args.keys.now;
-  n = c.args.n;
-  ready = c.requires;
-  subject_end = _;
-  id_end = _;
-  origin_end = _;
-  path_refusal_lem = _;
-  at = rule_told _ _ c.read_rule-r.ensures _ _ _ _ c.in-Is.is;
-} in it)).at.long.2
+slice_bounds-origin-count c =
+    (rule_told _ _ c.read_rule.ensures _ c.in-Some.is).long.2
 
 pub slice_bounds-origin-start : goal.slice_bounds-origin-start
-slice_bounds-origin-start c = ((let it : Read = record {
-  old = c.args.old.now;
-  f = c.args.f.now;
-  starts = c.args.groups.now;
-  names = c.args.names.now;
-  count = c.args.count;
-  keys = c.args.keys.now;
-  n = c.args.n;
-  ready = c.requires;
-  subject_end = _;
-  id_end = _;
-  origin_end = _;
-  path_refusal_lem = _;
-  at = rule_told _ _ c.read_rule-r.ensures _ _ _ _ c.in-Is.is;
-} in it)).at.long.2
+slice_bounds-origin-start c =
+    (rule_told _ _ c.read_rule.ensures _ c.in-Some.is).long.2
 
 pub slice_bounds-origin-end : goal.slice_bounds-origin-end
-slice_bounds-origin-end c = ((let it : Read = record {
-  old = c.args.old.now;
-  f = c.args.f.now;
-  starts = c.args.groups.now;
-  names = c.args.names.now;
-  count = c.args.count;
-  keys = c.args.keys.now;
-  n = c.args.n;
-  ready = c.requires;
-  subject_end = _;
-  id_end = _;
-  origin_end = _;
-  path_refusal_lem = _;
-  at = rule_told _ _ c.read_rule-r.ensures _ _ _ _ c.in-Is.is;
-} in it)).at.long.3
+slice_bounds-origin-end c =
+    (rule_told _ _ c.read_rule.ensures _ c.in-Some.is).long.3
 
 pub bounds-f-3 : goal.bounds-f-3
-bounds-f-3 c = omega (
-  arith,
-  ((let it : Read = record {
-    old = c.args.old.now;
-    f = c.args.f.now;
-    starts = c.args.groups.now;
-    names = c.args.names.now;
-    count = c.args.count;
-    keys = c.args.keys.now;
-    n = c.args.n;
-    ready = c.requires;
-    subject_end = _;
-    id_end = _;
-    origin_end = _;
-    path_refusal_lem = _;
-    at = rule_told _ _ c.read_rule-r.ensures _ _ _ _ c.in-Is.is;
-  } in it)).at.long,
-)
+bounds-f-3 c =
+    omega (arith, (rule_told _ _ c.read_rule.ensures _ c.in-Some.is).long)
 
-pub find-t-requires : goal.find-t-requires
-find-t-requires c =
-    (c.requires.ids.held.ready, omega arith, omega arith)
-
-pub returns-then-number : goal.returns-then-number
-returns-then-number c =
-    record {
-      value = rule_graded ((let it : Judged = record {
-        read = (let it : Read = record {
-          old = c.args.old.now;
-          f = c.args.f.now;
-          starts = c.args.groups.now;
-          names = c.args.names.now;
-          count = c.args.count;
-          keys = c.args.keys.now;
-          n = c.args.n;
-          ready = c.requires;
-          subject_end = _;
-          id_end = _;
-          origin_end = _;
-          path_refusal_lem = _;
-          at = rule_told _ _ c.read_rule-r.ensures _ _ _ _ c.in-Is.is;
-        } in it);
-        last = _;
-        ordered = sym c.is_out_of_order.ensures ∙ c.if-is_out_of_order.false;
-        holder = c.holder_of-g.result.0;
-        holder_told = c.holder_of-g.ensures;
-        hash = c.hash.result;
-        hash_is = c.hash.ensures;
-        found = c.find-t.result;
-        found_is = c.find-t.ensures;
-        number = c.number-number.result;
-        number_is = number_told ((let it : Read = record {
-          old = c.args.old.now;
-          f = c.args.f.now;
-          starts = c.args.groups.now;
-          names = c.args.names.now;
-          count = c.args.count;
-          keys = c.args.keys.now;
-          n = c.args.n;
-          ready = c.requires;
-          subject_end = _;
-          id_end = _;
-          origin_end = _;
-          path_refusal_lem = _;
-          at = rule_told _ _ c.read_rule-r.ensures _ _ _ _ c.in-Is.is;
-        } in it)) _ _ _ _ _ _ c.holder_of-g.result.0
-            c.find-t.result c.is_unsized.ensures
-            c.is_unsized-2.ensures c.all_print.ensures
-            c.all_print-2.ensures c.all_print-3.ensures c.number-number.ensures;
-      } in it));
-      rule_kept = λ x. absurd (c.if-number.true x);
-    }
+pub returns-in_err-number-clause-value : goal.returns-in_err-number-clause-value
+returns-in_err-number-clause-value c =
+    let p = err_from_is_err_and c.from_residual.result c.from_residual.ensures.1 in
+    λ b w g d. rw (p.1, p.2) (rule_graded (judging (told_so_far c.requires (rule_told _ _ c.read_rule.ensures _ c.in-Some.is)) _
+    c.is_out_of_order.ensures c.if-is_out_of_order.false c.holder_of-g.ensures c.hash.ensures c.find-t.ensures
+    c.is_unsized.ensures c.is_unsized-2.ensures c.all_print.ensures c.all_print-2.ensures c.all_print-3.ensures c.in_err-number.ensures) b w g d)
 
 pub overflow_cast-n : goal.overflow_cast-n
-overflow_cast-n c = omega (
-  arith,
-  (rule_ready ((let it : Judged = record {
-    read = (let it : Read = record {
-      old = c.args.old.now;
-      f = c.args.f.now;
-      starts = c.args.groups.now;
-      names = c.args.names.now;
-      count = c.args.count;
-      keys = c.args.keys.now;
-      n = c.args.n;
-      ready = c.requires;
-      subject_end = _;
-      id_end = _;
-      origin_end = _;
-      path_refusal_lem = _;
-      at = rule_told _ _ c.read_rule-r.ensures _ _ _ _ c.in-Is.is;
-    } in it);
-    last = _;
-    ordered = sym c.is_out_of_order.ensures ∙ c.if-is_out_of_order.false;
-    holder = c.holder_of-g.result.0;
-    holder_told = c.holder_of-g.ensures;
-    hash = c.hash.result;
-    hash_is = c.hash.ensures;
-    found = c.find-t.result;
-    found_is = c.find-t.ensures;
-    number = c.number-number.result;
-    number_is = number_told ((let it : Read = record {
-      old = c.args.old.now;
-      f = c.args.f.now;
-      starts = c.args.groups.now;
-      names = c.args.names.now;
-      count = c.args.count;
-      keys = c.args.keys.now;
-      n = c.args.n;
-      ready = c.requires;
-      subject_end = _;
-      id_end = _;
-      origin_end = _;
-      path_refusal_lem = _;
-      at = rule_told _ _ c.read_rule-r.ensures _ _ _ _ c.in-Is.is;
-    } in it)) _ _ _ _ _ _ c.holder_of-g.result.0
-        c.find-t.result c.is_unsized.ensures
-        c.is_unsized-2.ensures c.all_print.ensures
-        c.all_print-2.ensures c.all_print-3.ensures c.number-number.ensures;
-  } in it)) c.if-number.false).3,
-)
-
-pub overflow_add-old : goal.overflow_add-old
-overflow_add-old c = let r = ((let it : Judged = record {
-  read = (let it : Read = record {
-    old = c.args.old.now;
-    f = c.args.f.now;
-    starts = c.args.groups.now;
-    names = c.args.names.now;
-    count = c.args.count;
-    keys = c.args.keys.now;
-    n = c.args.n;
-    ready = c.requires;
-    subject_end = _;
-    id_end = _;
-    origin_end = _;
-    path_refusal_lem = _;
-    at = rule_told _ _ c.read_rule-r.ensures _ _ _ _ c.in-Is.is;
-  } in it);
-  last = _;
-  ordered = sym c.is_out_of_order.ensures ∙ c.if-is_out_of_order.false;
-  holder = c.holder_of-g.result.0;
-  holder_told = c.holder_of-g.ensures;
-  hash = c.hash.result;
-  hash_is = c.hash.ensures;
-  found = c.find-t.result;
-  found_is = c.find-t.ensures;
-  number = c.number-number.result;
-  number_is = number_told ((let it : Read = record {
-    old = c.args.old.now;
-    f = c.args.f.now;
-    starts = c.args.groups.now;
-    names = c.args.names.now;
-    count = c.args.count;
-    keys = c.args.keys.now;
-    n = c.args.n;
-    ready = c.requires;
-    subject_end = _;
-    id_end = _;
-    origin_end = _;
-    path_refusal_lem = _;
-    at = rule_told _ _ c.read_rule-r.ensures _ _ _ _ c.in-Is.is;
-  } in it)) _ _ _ _ _ _ c.holder_of-g.result.0
-      c.find-t.result c.is_unsized.ensures
-      c.is_unsized-2.ensures c.all_print.ensures
-      c.all_print-2.ensures c.all_print-3.ensures c.number-number.ensures;
-} in it)).read in omega (arith, r.at.long, r.ready.room)
-
-pub store-requires : goal.store-requires
-store-requires c =
-    let k = (let it : Judged = record {
-      read = (let it : Read = record {
-        old = c.args.old.now;
-        f = c.args.f.now;
-        starts = c.args.groups.now;
-        names = c.args.names.now;
-        count = c.args.count;
-        keys = c.args.keys.now;
-        n = c.args.n;
-        ready = c.requires;
-        subject_end = _;
-        id_end = _;
-        origin_end = _;
-        path_refusal_lem = _;
-        at = rule_told _ _ c.read_rule-r.ensures _ _ _ _ c.in-Is.is;
-      } in it);
-      last = _;
-      ordered = sym c.is_out_of_order.ensures ∙ c.if-is_out_of_order.false;
-      holder = c.holder_of-g.result.0;
-      holder_told = c.holder_of-g.ensures;
-      hash = c.hash.result;
-      hash_is = c.hash.ensures;
-      found = c.find-t.result;
-      found_is = c.find-t.ensures;
-      number = c.number-number.result;
-      number_is = number_told ((let it : Read = record {
-        old = c.args.old.now;
-        f = c.args.f.now;
-        starts = c.args.groups.now;
-        names = c.args.names.now;
-        count = c.args.count;
-        keys = c.args.keys.now;
-        n = c.args.n;
-        ready = c.requires;
-        subject_end = _;
-        id_end = _;
-        origin_end = _;
-        path_refusal_lem = _;
-        at = rule_told _ _ c.read_rule-r.ensures _ _ _ _ c.in-Is.is;
-      } in it)) _ _ _ _ _ _ c.holder_of-g.result.0
-          c.find-t.result c.is_unsized.ensures
-          c.is_unsized-2.ensures c.all_print.ensures
-          c.all_print-2.ensures c.all_print-3.ensures c.number-number.ensures;
-    } in it) in (
-      (rule_ready k c.if-number.false).3,
-      omega (arith, k.read.at.long, k.read.ready.room),
+overflow_cast-n c =
+    omega (
+      arith,
+      (rule_ready (judging (told_so_far c.requires (rule_told _ _ c.read_rule.ensures _ c.in-Some.is)) _
+          c.is_out_of_order.ensures c.if-is_out_of_order.false c.holder_of-g.ensures c.hash.ensures c.find-t.ensures
+          c.is_unsized.ensures c.is_unsized-2.ensures c.all_print.ensures c.all_print-2.ensures c.all_print-3.ensures c.in_ok-number.ensures) refl).3,
     )
 
+pub store-requires : goal.store-requires
+store-requires c = (
+  (rule_ready (judging (told_so_far c.requires (rule_told _ _ c.read_rule.ensures _ c.in-Some.is)) _
+      c.is_out_of_order.ensures c.if-is_out_of_order.false c.holder_of-g.ensures c.hash.ensures c.find-t.ensures
+      c.is_unsized.ensures c.is_unsized-2.ensures c.all_print.ensures c.all_print-2.ensures c.all_print-3.ensures c.in_ok-number.ensures) refl).3,
+  omega (arith, c.requires.room, (rule_told _ _ c.read_rule.ensures _ c.in-Some.is).long),
+)
+
 pub overflow_add-begin : goal.overflow_add-begin
-overflow_add-begin c = let r = ((let it : Judged = record {
-  read = (let it : Read = record {
-    old = c.args.old.now;
-    f = c.args.f.now;
-    starts = c.args.groups.now;
-    names = c.args.names.now;
-    count = c.args.count;
-    keys = c.args.keys.now;
-    n = c.args.n;
-    ready = c.requires;
-    subject_end = _;
-    id_end = _;
-    origin_end = _;
-    path_refusal_lem = _;
-    at = rule_told _ _ c.read_rule-r.ensures _ _ _ _ c.in-Is.is;
-  } in it);
-  last = _;
-  ordered = sym c.is_out_of_order.ensures ∙ c.if-is_out_of_order.false;
-  holder = c.holder_of-g.result.0;
-  holder_told = c.holder_of-g.ensures;
-  hash = c.hash.result;
-  hash_is = c.hash.ensures;
-  found = c.find-t.result;
-  found_is = c.find-t.ensures;
-  number = c.number-number.result;
-  number_is = number_told ((let it : Read = record {
-    old = c.args.old.now;
-    f = c.args.f.now;
-    starts = c.args.groups.now;
-    names = c.args.names.now;
-    count = c.args.count;
-    keys = c.args.keys.now;
-    n = c.args.n;
-    ready = c.requires;
-    subject_end = _;
-    id_end = _;
-    origin_end = _;
-    path_refusal_lem = _;
-    at = rule_told _ _ c.read_rule-r.ensures _ _ _ _ c.in-Is.is;
-  } in it)) _ _ _ _ _ _ c.holder_of-g.result.0
-      c.find-t.result c.is_unsized.ensures
-      c.is_unsized-2.ensures c.all_print.ensures
-      c.all_print-2.ensures c.all_print-3.ensures c.number-number.ensures;
-} in it)).read in omega (arith, r.at.long, r.ready.room)
+overflow_add-begin c =
+    omega (arith, c.requires.room, (rule_told _ _ c.read_rule.ensures _ c.in-Some.is).long)
 
 pub overflow_add-to : goal.overflow_add-to
-overflow_add-to c = let r = ((let it : Judged = record {
-  read = (let it : Read = record {
-    old = c.args.old.now;
-    f = c.args.f.now;
-    starts = c.args.groups.now;
-    names = c.args.names.now;
-    count = c.args.count;
-    keys = c.args.keys.now;
-    n = c.args.n;
-    ready = c.requires;
-    subject_end = _;
-    id_end = _;
-    origin_end = _;
-    path_refusal_lem = _;
-    at = rule_told _ _ c.read_rule-r.ensures _ _ _ _ c.in-Is.is;
-  } in it);
-  last = _;
-  ordered = sym c.is_out_of_order.ensures ∙ c.if-is_out_of_order.false;
-  holder = c.holder_of-g.result.0;
-  holder_told = c.holder_of-g.ensures;
-  hash = c.hash.result;
-  hash_is = c.hash.ensures;
-  found = c.find-t.result;
-  found_is = c.find-t.ensures;
-  number = c.number-number.result;
-  number_is = number_told ((let it : Read = record {
-    old = c.args.old.now;
-    f = c.args.f.now;
-    starts = c.args.groups.now;
-    names = c.args.names.now;
-    count = c.args.count;
-    keys = c.args.keys.now;
-    n = c.args.n;
-    ready = c.requires;
-    subject_end = _;
-    id_end = _;
-    origin_end = _;
-    path_refusal_lem = _;
-    at = rule_told _ _ c.read_rule-r.ensures _ _ _ _ c.in-Is.is;
-  } in it)) _ _ _ _ _ _ c.holder_of-g.result.0
-      c.find-t.result c.is_unsized.ensures
-      c.is_unsized-2.ensures c.all_print.ensures
-      c.all_print-2.ensures c.all_print-3.ensures c.number-number.ensures;
-} in it)).read in omega (arith, r.at.long, r.ready.room)
+overflow_add-to c =
+    omega (arith, c.requires.room, (rule_told _ _ c.read_rule.ensures _ c.in-Some.is).long)
 
 pub add-requires : goal.add-requires
 add-requires c =
-    let k = (let it : Judged = record {
-      read = (let it : Read = record {
-        old = c.args.old.now;
-        f = c.args.f.now;
-        starts = c.args.groups.now;
-        names = c.args.names.now;
-        count = c.args.count;
-        keys = c.args.keys.now;
-        n = c.args.n;
-        ready = c.requires;
-        subject_end = _;
-        id_end = _;
-        origin_end = _;
-        path_refusal_lem = _;
-        at = rule_told _ _ c.read_rule-r.ensures _ _ _ _ c.in-Is.is;
-      } in it);
-      last = _;
-      ordered = sym c.is_out_of_order.ensures ∙ c.if-is_out_of_order.false;
-      holder = c.holder_of-g.result.0;
-      holder_told = c.holder_of-g.ensures;
-      hash = c.hash.result;
-      hash_is = c.hash.ensures;
-      found = c.find-t.result;
-      found_is = c.find-t.ensures;
-      number = c.number-number.result;
-      number_is = number_told ((let it : Read = record {
-        old = c.args.old.now;
-        f = c.args.f.now;
-        starts = c.args.groups.now;
-        names = c.args.names.now;
-        count = c.args.count;
-        keys = c.args.keys.now;
-        n = c.args.n;
-        ready = c.requires;
-        subject_end = _;
-        id_end = _;
-        origin_end = _;
-        path_refusal_lem = _;
-        at = rule_told _ _ c.read_rule-r.ensures _ _ _ _ c.in-Is.is;
-      } in it)) _ _ _ _ _ _ c.holder_of-g.result.0
-          c.find-t.result c.is_unsized.ensures
-          c.is_unsized-2.ensures c.all_print.ensures
-          c.all_print-2.ensures c.all_print-3.ensures c.number-number.ensures;
-    } in it) in
-    let h = rule_ready k c.if-number.false in (
+    let a = (rule_told _ _ c.read_rule.ensures _ c.in-Some.is) in
+    let h = rule_ready (judging (told_so_far c.requires (rule_told _ _ c.read_rule.ensures _ c.in-Some.is)) _
+    c.is_out_of_order.ensures c.if-is_out_of_order.false c.holder_of-g.ensures c.hash.ensures c.find-t.ensures
+    c.is_unsized.ensures c.is_unsized-2.ensures c.all_print.ensures c.all_print-2.ensures c.all_print-3.ensures c.in_ok-number.ensures) refl in (
       h.0,
       h.1,
       omega arith,
       omega arith,
       h.2,
-      omega (arith, k.read.at.long, k.read.ready.room),
-      omega (arith, k.read.at.long, k.read.ready.room),
+      omega (arith, a.long, c.requires.room),
+      omega (arith, a.long, c.requires.room),
     )
 
-pub returns : goal.returns
-returns c =
-    record {
-      value = λ b w g d. sym c.if-number.false ∙ rule_graded ((let it : Judged = record {
-        read = (let it : Read = record {
-          old = c.args.old.now;
-          f = c.args.f.now;
-          starts = c.args.groups.now;
-          names = c.args.names.now;
-          count = c.args.count;
-          keys = c.args.keys.now;
-          n = c.args.n;
-          ready = c.requires;
-          subject_end = _;
-          id_end = _;
-          origin_end = _;
-          path_refusal_lem = _;
-          at = rule_told _ _ c.read_rule-r.ensures _ _ _ _ c.in-Is.is;
-        } in it);
-        last = _;
-        ordered = sym c.is_out_of_order.ensures ∙ c.if-is_out_of_order.false;
-        holder = c.holder_of-g.result.0;
-        holder_told = c.holder_of-g.ensures;
-        hash = c.hash.result;
-        hash_is = c.hash.ensures;
-        found = c.find-t.result;
-        found_is = c.find-t.ensures;
-        number = c.number-number.result;
-        number_is = number_told ((let it : Read = record {
-          old = c.args.old.now;
-          f = c.args.f.now;
-          starts = c.args.groups.now;
-          names = c.args.names.now;
-          count = c.args.count;
-          keys = c.args.keys.now;
-          n = c.args.n;
-          ready = c.requires;
-          subject_end = _;
-          id_end = _;
-          origin_end = _;
-          path_refusal_lem = _;
-          at = rule_told _ _ c.read_rule-r.ensures _ _ _ _ c.in-Is.is;
-        } in it)) _ _ _ _ _ _ c.holder_of-g.result.0
-            c.find-t.result c.is_unsized.ensures
-            c.is_unsized-2.ensures c.all_print.ensures
-            c.all_print-2.ensures c.all_print-3.ensures c.number-number.ensures;
-      } in it)) b w g d;
-      rule_kept = λ x. rule_kept ((let it : Judged = record {
-        read = (let it : Read = record {
-          old = c.args.old.now;
-          f = c.args.f.now;
-          starts = c.args.groups.now;
-          names = c.args.names.now;
-          count = c.args.count;
-          keys = c.args.keys.now;
-          n = c.args.n;
-          ready = c.requires;
-          subject_end = _;
-          id_end = _;
-          origin_end = _;
-          path_refusal_lem = _;
-          at = rule_told _ _ c.read_rule-r.ensures _ _ _ _ c.in-Is.is;
-        } in it);
-        last = _;
-        ordered = sym c.is_out_of_order.ensures ∙ c.if-is_out_of_order.false;
-        holder = c.holder_of-g.result.0;
-        holder_told = c.holder_of-g.ensures;
-        hash = c.hash.result;
-        hash_is = c.hash.ensures;
-        found = c.find-t.result;
-        found_is = c.find-t.ensures;
-        number = c.number-number.result;
-        number_is = number_told ((let it : Read = record {
-          old = c.args.old.now;
-          f = c.args.f.now;
-          starts = c.args.groups.now;
-          names = c.args.names.now;
-          count = c.args.count;
-          keys = c.args.keys.now;
-          n = c.args.n;
-          ready = c.requires;
-          subject_end = _;
-          id_end = _;
-          origin_end = _;
-          path_refusal_lem = _;
-          at = rule_told _ _ c.read_rule-r.ensures _ _ _ _ c.in-Is.is;
-        } in it)) _ _ _ _ _ _ c.holder_of-g.result.0
-            c.find-t.result c.is_unsized.ensures
-            c.is_unsized-2.ensures c.all_print.ensures
-            c.all_print-2.ensures c.all_print-3.ensures c.number-number.ensures;
-      } in it)) c.if-number.false _ _ _ _ _ (c.store.ensures.starts_after, c.store.ensures.holders_after) c.add.ensures;
-    }
+pub returns-clause-value : goal.returns-clause-value
+returns-clause-value c =
+    λ b w g d. rule_graded (judging (told_so_far c.requires (rule_told _ _ c.read_rule.ensures _ c.in-Some.is)) _
+    c.is_out_of_order.ensures c.if-is_out_of_order.false c.holder_of-g.ensures c.hash.ensures c.find-t.ensures
+    c.is_unsized.ensures c.is_unsized-2.ensures c.all_print.ensures c.all_print-2.ensures c.all_print-3.ensures c.in_ok-number.ensures) b w g d
+
+pub returns-clause-rule_kept : goal.returns-clause-rule_kept
+returns-clause-rule_kept c =
+    λ x. rule_kept (judging (told_so_far c.requires (rule_told _ _ c.read_rule.ensures _ c.in-Some.is)) _
+    c.is_out_of_order.ensures c.if-is_out_of_order.false c.holder_of-g.ensures c.hash.ensures c.find-t.ensures
+    c.is_unsized.ensures c.is_unsized-2.ensures c.all_print.ensures c.all_print-2.ensures c.all_print-3.ensures c.in_ok-number.ensures) refl _ _ _ _ _ (c.store.ensures.starts_after, c.store.ensures.holders_after) c.add.ensures

@@ -6,7 +6,7 @@ use Rattle.table_membership.proofs.Counting.{count_bad, count_none, count_some}
 use Rattle.table_membership.proofs.count_of.Goals as goal
 
 pub returns-then-is_bad_user : goal.returns-then-is_bad_user
-returns-then-is_bad_user c = count_bad _ _ _ c.is_bad_user.ensures c.if-is_bad_user.true
+returns-then-is_bad_user c = rw c.at.ensures (count_bad _ _ _ c.is_bad_user.ensures c.if-is_bad_user.true)
 
 pub returns-then-count-eq0 : goal.returns-then-count-eq0
 returns-then-count-eq0 c = count_none _ _ _ c.is_bad_user.ensures c.if-is_bad_user.false c.if-count-eq0.true

@@ -1,48 +1,48 @@
-use native.Mathlib.Omega.{arith}
 use mathlib.Core.Path.{◌∙◌}
-use Rattle.table_place.proofs.Cursor.{elems_room, elems_again}
-use Rattle.verdict_filter.specs.Bloom.{unite}
+use native.Mathlib.Omega.{arith}
+use Rattle.verdict_compare.proofs.Steps.{ended, starts, there, split, fewer}
 use Rattle.verdict_filter.proofs.Laws.{fresh}
 use Rattle.verdict_filter.proofs.Turns.{beside_turn, beside_rest, beside_end}
 use Rattle.verdict_filter.proofs.beyond.Goals as goal
 
-pub loop-left-init : goal.loop-left-init
-loop-left-init c =
-    (c.requires.2, c.requires.3, omega arith, fresh _ _ c.empty-x.ensures)
+pub loop-e-init : goal.loop-e-init
+loop-e-init c = (omega arith, fresh _ _ c.empty-x.ensures)
 
-pub returns-then-more-eq0 : goal.returns-then-more-eq0
-returns-then-more-eq0 c =
-    c.unite.ensures ∙ beside_rest _ _ _ c.args.g.now _ _ _ c.loop-left.c
-    c.loop-left-test.true (omega arith) _ _ _ c.path_digits.ensures c.loop-left.invariant.3
+pub path_digits-requires : goal.path_digits-requires
+path_digits-requires c = (c.requires.0, omega (arith, c.requires.1, c.loop-e.invariant.0))
 
-pub new_digits-requires : goal.new_digits-requires
-new_digits-requires c = (
-  c.requires.0,
-  omega arith,
-  (elems_room _ _ _ c.loop-left-test.true c.loop-left.invariant.0).0,
-  (elems_room _ _ _ (omega arith) c.loop-left.invariant.1).0,
-)
+pub returns-in_default-first : goal.returns-in_default-first
+returns-in_default-first c =
+    let t = there c.loop-e.own _ c.in-Some.ensures in
+    c.unite.ensures
+    ∙ beside_rest c.args.s c.loop-e.d _ _ _ c.loop-e.x _ (rw t.1 at c.path_digits.ensures)
+    (rw (t.1, ended c.loop-e.other c.in_default-first.ensures) at c.loop-e.invariant.1)
 
-pub elem_end-q-requires : goal.elem_end-q-requires
-elem_end-q-requires c =
-    (elems_room _ _ _ c.loop-left-test.true c.loop-left.invariant.0).0
+pub keys_digits-requires : goal.keys_digits-requires
+keys_digits-requires c =
+    let z = starts c.loop-e.own _ c.in-Some.ensures in (c.requires.0, omega (arith, c.requires.1, c.loop-e.invariant.0))
 
-pub elem_end-c-requires : goal.elem_end-c-requires
-elem_end-c-requires c =
-    (elems_room _ _ _ (omega arith) c.loop-left.invariant.1).0
+pub overflow_add-d : goal.overflow_add-d
+overflow_add-d c = omega (arith, c.requires.1, c.loop-e.invariant.0)
 
-pub loop-left-preserved : goal.loop-left-preserved
-loop-left-preserved c = (
-  elems_again _ _ _ _ c.loop-left-test.true c.loop-left.invariant.0 c.elem_end-q.ensures,
-  elems_again _ _ _ _ (omega arith) c.loop-left.invariant.1 c.elem_end-c.ensures,
-  omega arith,
-  rw c.unite-x.ensures
-      (beside_turn c.args.s c.loop-left.d c.args.f.now c.args.g.now
-      c.loop-left.left c.loop-left.q c.loop-left.more c.loop-left.c
-      c.loop-left-test.true (omega arith) _ _ _ c.loop-left.x _
-      c.elem_end-q.ensures c.elem_end-c.ensures c.new_digits.ensures c.loop-left.invariant.3),
-)
+pub rest-own-requires : goal.rest-own-requires
+rest-own-requires c = starts c.loop-e.own _ c.in-Some.ensures
+
+pub rest-other-requires : goal.rest-other-requires
+rest-other-requires c = starts c.loop-e.other _ c.in-Some-first.ensures
+
+pub loop-e-smaller : goal.loop-e-smaller
+loop-e-smaller c = fewer c.loop-e.own _ c.rest-own.ensures
+
+pub loop-e-preserved : goal.loop-e-preserved
+loop-e-preserved c =
+    let t = split c.loop-e.own _ c.in-Some.ensures _ c.rest-own.ensures in
+    let u = split c.loop-e.other _ c.in-Some-first.ensures _ c.rest-other.ensures in
+    let less = fewer c.loop-e.own _ c.rest-own.ensures in (
+      omega (arith, c.loop-e.invariant.0),
+      rw c.unite-x.ensures (beside_turn c.args.s c.loop-e.d _ _ _ _ _ c.loop-e.x _ (rw (c.keys.ensures, c.keys-in-Some.ensures) at c.keys_digits.ensures)
+          (rw (t, u) at c.loop-e.invariant.1)),
+    )
 
 pub returns : goal.returns
-returns c =
-    beside_end _ _ c.args.f.now c.args.g.now _ c.loop-left.q _ _ _ c.loop-left-test.false c.loop-left.invariant.3
+returns c = beside_end c.args.s c.loop-e.d _ _ _ (rw (ended c.loop-e.own c.in_default.ensures) at c.loop-e.invariant.1)

@@ -1,12 +1,9 @@
 use mathlib.Core.Path.{refl}
-use Rattle.burgee.specs.Calls.{outcome}
-use Rattle.burgee.proofs.Kept.{start_keeps, refused, taken}
+use Rattle.rotation.specs.Calls.{Stepped}
+use Rattle.burgee.specs.Calls.{outcome, held}
+use Rattle.burgee.specs.Word.{checked_word}
 use Rattle.burgee.proofs.records.burgee_start.Goals as goal
-
-pub returns-then-word-ne0 : goal.returns-then-word-ne0
-unfolding outcome
-returns-then-word-ne0 c = refused _ _ c.start_step-a.ensures refl c.if-word-ne0.true (start_keeps c.args.rec.now _)
 
 pub returns : goal.returns
 unfolding outcome
-returns c = taken _ _ c.start_step-a.ensures refl c.if-word-ne0.false
+returns c = rw (c.settle.ensures.word, c.settle.ensures.next, c.start-step.ensures) (refl, refl)

@@ -1,12 +1,11 @@
-use mathlib.Core.Path.{refl}
-use Rattle.burgee.specs.Calls.{outcome}
-use Rattle.burgee.proofs.Kept.{upload_keeps, refused, taken}
+use mathlib.Core.Path.{ap, ◌∙◌}
+use Rattle.rotation.specs.Calls.{Stepped}
+use Rattle.burgee.specs.Calls.{outcome, held}
+use Rattle.burgee.specs.Word.{checked_word}
 use Rattle.burgee.proofs.records.burgee_upload.Goals as goal
-
-pub returns-then-word-ne0 : goal.returns-then-word-ne0
-unfolding outcome
-returns-then-word-ne0 c = refused _ _ c.upload_step-a.ensures.0 c.upload_step-a.ensures.1 c.if-word-ne0.true (upload_keeps c.args.rec.now _ _)
 
 pub returns : goal.returns
 unfolding outcome
-returns c = taken _ _ c.upload_step-a.ensures.0 c.upload_step-a.ensures.1 c.if-word-ne0.false
+returns c =
+    let e = c.upload-step.ensures in
+    (c.of_checked.ensures ∙ ap (λ (s : Stepped). checked_word s.answer) e.0, ap (λ (s : Stepped). held s.next c.upload-step.new.store) e.0 ∙ rw e.1)

@@ -1,16 +1,22 @@
 -- `of_counted` equals its definition.
-use mathlib.Core.Path.{sym, ap, ◌∙◌}
+use mathlib.Core.Path.{◌≡◌, ap, ◌∙◌}
+use Rattle.std.specs.Prelude.{Option, Some, None, Ok}
+use Rattle.table.specs.declared.Groups.{Groups}
 use Rattle.burgee.specs.Word.{counted_word}
 use Rattle.burgee.proofs.word.of_counted.Goals as goal
 
-pub returns-in-Count : goal.returns-in-Count
+pub returns-in-Ok-Some : goal.returns-in-Ok-Some
 unfolding counted_word
-returns-in-Count c = sym (ap counted_word c.in-Count.is)
+returns-in-Ok-Some c =
+    let e : c.in-Ok-Some.field-0 ≡ Some c.in-Ok-Some.groups = rw c.in-Ok-Some.is at c.in-Ok-Some.field-0-is in
+    rw (c.in-Ok-Some.is, e)
 
-pub returns-in-NoGroup : goal.returns-in-NoGroup
+pub returns-in-Ok-None : goal.returns-in-Ok-None
 unfolding counted_word
-returns-in-NoGroup c = sym (ap counted_word c.in-NoGroup.is)
+returns-in-Ok-None c =
+    let e : c.in-Ok-None.field-0 ≡ None = rw c.in-Ok-None.is at c.in-Ok-None.field-0-is in
+    rw (c.in-Ok-None.is, e)
 
-pub returns-in-Declined : goal.returns-in-Declined
+pub returns-in-Err : goal.returns-in-Err
 unfolding counted_word
-returns-in-Declined c = c.of_refusal.ensures ∙ sym (ap counted_word c.in-Declined.is)
+returns-in-Err c = c.of_refusal.ensures ∙ rw (c.number.ensures, c.in-Err.is)

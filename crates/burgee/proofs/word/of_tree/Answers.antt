@@ -1,20 +1,25 @@
 -- `of_tree` equals its definition.
-use mathlib.Core.Path.{sym, ap, ◌∙◌}
+use mathlib.Core.Path.{◌≡◌, sym, ap, ◌∙◌}
+use Rattle.verdict_request.specs.Answers.{tree_answer_of}
+use Rattle.verdict_request.specs.declared.TreeAnswer.TheVariants.{All, None, Mixed}
 use Rattle.burgee.specs.Word.{tree_word}
 use Rattle.burgee.proofs.word.of_tree.Goals as goal
 
-pub returns-in-All : goal.returns-in-All
+pub returns-in-Ok-All : goal.returns-in-Ok-All
 unfolding tree_word
-returns-in-All c = sym (ap tree_word c.in-All.is)
+returns-in-Ok-All c =
+    let e : c.in-Ok-All.field-0 ≡ All = rw c.in-Ok-All.is at c.in-Ok-All.field-0-is in rw (c.in-Ok-All.is, e)
 
-pub returns-in-None : goal.returns-in-None
+pub returns-in-Ok-None : goal.returns-in-Ok-None
 unfolding tree_word
-returns-in-None c = sym (ap tree_word c.in-None.is)
+returns-in-Ok-None c =
+    let e : c.in-Ok-None.field-0 ≡ None = rw c.in-Ok-None.is at c.in-Ok-None.field-0-is in rw (c.in-Ok-None.is, e)
 
-pub returns-in-Mixed : goal.returns-in-Mixed
+pub returns-in-Ok-Mixed : goal.returns-in-Ok-Mixed
 unfolding tree_word
-returns-in-Mixed c = sym (ap tree_word c.in-Mixed.is)
+returns-in-Ok-Mixed c =
+    let e : c.in-Ok-Mixed.field-0 ≡ Mixed c.in-Ok-Mixed.rule = rw c.in-Ok-Mixed.is at c.in-Ok-Mixed.field-0-is in rw (c.in-Ok-Mixed.is, e)
 
-pub returns-in-Refused : goal.returns-in-Refused
+pub returns-in-Err : goal.returns-in-Err
 unfolding tree_word
-returns-in-Refused c = c.of_refusal.ensures ∙ sym (ap tree_word c.in-Refused.is)
+returns-in-Err c = rw c.number.ensures at c.of_refusal.ensures ∙ sym (ap (λ x. tree_word (tree_answer_of x)) c.in-Err.is)

@@ -1,18 +1,12 @@
 -- `none` is the definition.
+use Rattle.std.proofs.Common.{inl, inr}
 use Rattle.cli_answers.specs.Lines.{none_lines}
 use Rattle.cli_answers.proofs.lines.none.Goals as goal
 
-pub returns-in-Default : goal.returns-in-Default
+pub returns-in-Default-clause-value : goal.returns-in-Default-clause-value
 unfolding none_lines
-returns-in-Default c =
-    rw c.in-Default.is c.string.ensures
+returns-in-Default-clause-value c = elim c.in-Default.is [ inl e ↦ rw e | inr e ↦ rw e ]
 
-pub returns-in-Explained : goal.returns-in-Explained
+pub returns-in-Factory-clause-value : goal.returns-in-Factory-clause-value
 unfolding none_lines
-returns-in-Explained c =
-    rw c.in-Explained.is c.string-in-Explained.ensures
-
-pub returns-in-Factory : goal.returns-in-Factory
-unfolding none_lines
-returns-in-Factory c =
-    rw c.in-Factory.is c.string-in-Factory.ensures
+returns-in-Factory-clause-value c = rw c.in-Factory.is

@@ -1,9 +1,9 @@
 -- `counts` is the definition.
-use Rattle.text_make.proofs.Adding.{◌then◌}
+use mathlib.Core.List.{append_assoc}
 use Rattle.cli_answers.specs.Rows.{row_lines}
 use Rattle.cli_answers.proofs.rows.counts.Goals as goal
 
 pub returns : goal.returns
 unfolding row_lines
 returns c =
-    c.fact-a.ensures.added then c.fact-b.ensures.added then c.fact.ensures.added
+    simp (append_assoc, c.new-text.ensures, c.push_fact.ensures.added, c.push_fact-2.ensures.added, c.push_fact-3.ensures.added)

@@ -1,14 +1,13 @@
 -- `counts` is the definition.
-use native.Mathlib.Omega.{arith}
-use Rattle.text_make.proofs.Adding.{◌then◌, nothing_added}
+use mathlib.Core.List.{append_assoc}
 use Rattle.cli_policy.specs.Lines.{count_lines}
 use Rattle.cli_policy.proofs.lines.counts.Goals as goal
 
-pub returns-in-Count : goal.returns-in-Count
+pub returns-in-Ok : goal.returns-in-Ok
 unfolding count_lines
-returns-in-Count c =
-    rw c.in-Count.is (c.fact-at.ensures.added then c.fact.ensures.added)
+returns-in-Ok c =
+    rw c.in-Ok.is (simp (append_assoc, c.new-text.ensures, c.push_fact.ensures.added, c.push_fact-in-Ok.ensures.added))
 
-pub returns-in-Refused : goal.returns-in-Refused
+pub returns-in-Err : goal.returns-in-Err
 unfolding count_lines
-returns-in-Refused c = rw c.in-Refused.is (nothing_added _ _ (omega arith))
+returns-in-Err c = rw c.in-Err.is c.new.ensures

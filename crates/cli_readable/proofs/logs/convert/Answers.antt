@@ -23,8 +23,8 @@ pub slice_bounds-print_lines-end : goal.slice_bounds-print_lines-end
 slice_bounds-print_lines-end c =
     sym (length-take-le _ _ (omega (arith, whole_inside _ _ _ c.more-got.ensures.prefix_len c.whole_length-from.ensures, c.more-got.ensures.prefix_len)))
 
-pub print_lines-number-requires : goal.print_lines-number-requires
-print_lines-number-requires c =
+pub print_lines-requires : goal.print_lines-requires
+print_lines-requires c =
     c.loop-parts.invariant.2
 
 pub overflow_sub-to : goal.overflow_sub-to
@@ -43,6 +43,6 @@ pub loop-parts-preserved : goal.loop-parts-preserved
 loop-parts-preserved c = (
   whole_inside _ _ _ c.more-got.ensures.prefix_len c.whole_length-from.ensures,
   omega (arith, c.more-got.ensures.prefix_len.0, c.loop-parts.invariant.3),
-  c.print_lines-number.ensures,
+  c.in-Some-print_lines.ensures,
   omega (arith, c.loop-parts.invariant.3),
 )

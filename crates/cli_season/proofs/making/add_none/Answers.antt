@@ -1,19 +1,16 @@
 -- `add_none` looks whether the list ends where it starts.
 use native.Mathlib.Omega.{arith}
+use lib.ListN.{length}
 use borrow.Author.Tests.{eq-eqb, ne_eqb}
 use Rattle.text.specs.Test.{whether◌then◌else◌}
-use Rattle.text_make.proofs.Adding.{nothing_added}
+use Rattle.text_make.proofs.Pieces.{nothing_added}
 use Rattle.cli_season.specs.Steps.{none_from}
 use Rattle.cli_season.proofs.making.add_none.Goals as goal
 
-pub returns-then-start-end : goal.returns-then-start-end
+pub returns-then-len-start-clause-added : goal.returns-then-len-start-clause-added
 unfolding none_from whether◌then◌else◌
-returns-then-start-end c =
-    record {
-      added = rw (eq-eqb _ _ c.if-start-end.true) c.string.ensures;
-      short = omega (arith, c.string.ensures.wrote.ends);
-    }
+returns-then-len-start-clause-added c = rw (eq-eqb c.args.start (length c.args.text.now) (omega (arith, c.if-len-start.true, c.len.ensures))) c.push_str.ensures
 
-pub returns : goal.returns
+pub returns-else-len-start-clause-added : goal.returns-else-len-start-clause-added
 unfolding none_from whether◌then◌else◌
-returns c = record { added = rw (ne_eqb _ _ c.if-start-end.false) (nothing_added _ _ (omega arith)); short = omega arith }
+returns-else-len-start-clause-added c = rw (ne_eqb c.args.start (length c.args.text.now) (λ e. c.if-len-start.false (omega (arith, e, c.len.ensures)))) (nothing_added c.args.text.now)

@@ -1,24 +1,19 @@
--- `reason` is the definition, case by case.
-use native.Mathlib.Omega.{arith}
-use Rattle.text_make.proofs.Adding.{nothing_added}
+-- `reason` is the definition.
 use Rattle.cli_season.specs.Refusals.{reason}
 use Rattle.cli_season.proofs.refusals.reason.Goals as goal
 
-pub returns-in-Good : goal.returns-in-Good
+pub returns-in-Good-clause-value : goal.returns-in-Good-clause-value
 unfolding reason
-returns-in-Good c = record { added = rw c.in-Good.is (nothing_added _ _ (omega arith)); short = omega arith }
+returns-in-Good-clause-value c = rw c.in-Good.is
 
-pub returns-in-NoFigure : goal.returns-in-NoFigure
+pub returns-in-NoFigure-clause-value : goal.returns-in-NoFigure-clause-value
 unfolding reason
-returns-in-NoFigure c =
-    record { added = rw c.in-NoFigure.is c.string.ensures; short = omega (arith, c.string.ensures.wrote.ends) }
+returns-in-NoFigure-clause-value c = rw c.in-NoFigure.is
 
-pub returns-in-LineCount : goal.returns-in-LineCount
+pub returns-in-LineCount-clause-value : goal.returns-in-LineCount-clause-value
 unfolding reason
-returns-in-LineCount c =
-    record { added = rw c.in-LineCount.is c.string-in-LineCount.ensures; short = omega (arith, c.string-in-LineCount.ensures.wrote.ends) }
+returns-in-LineCount-clause-value c = rw c.in-LineCount.is
 
-pub returns-in-TooLarge : goal.returns-in-TooLarge
+pub returns-in-TooLarge-clause-value : goal.returns-in-TooLarge-clause-value
 unfolding reason
-returns-in-TooLarge c =
-    record { added = rw c.in-TooLarge.is c.string-in-TooLarge.ensures; short = omega (arith, c.string-in-TooLarge.ensures.wrote.ends) }
+returns-in-TooLarge-clause-value c = rw c.in-TooLarge.is

@@ -1,32 +1,23 @@
+-- `name_end` is where the first byte stands that is none of a name.
 use native.Mathlib.Omega.{arith}
-use mathlib.Core.Path.{sym, ap, ◌∙◌}
-use mathlib.Core.Bool.{not}
+use mathlib.Core.Path.{sym, ◌∙◌}
 use Prim.Native.Nat.{◌-◌}
-use Rattle.text_search.proofs.Searching.{found, passed, ran_out}
+use lib.ListN.{length, drop, length-drop}
+use Rattle.std.proofs.lemmas.List.{take_all}
 use Rattle.path.specs.Walk.{no_name}
+use Rattle.path_read.proofs.Searching.{first_some, first_none}
 use Rattle.path_read.proofs.reader.name_end.Goals as goal
 
-pub returns-then-not-is_name : goal.returns-then-not-is_name
-returns-then-not-is_name c =
-    omega (
-      arith,
-      found no_name c.args.text.now c.loop-i.i c.loop-i-test.true
-          (ap not (sym c.is_name.ensures) ∙ c.if-not-is_name.true-raw),
-      c.loop-i.invariant.2,
-    )
+pub returns-in-Some : goal.returns-in-Some
+returns-in-Some c =
+    let s = c.args.text.now in
+    let w = take_all (length s - c.args.at) (drop c.args.at s) (omega (arith, length-drop c.args.at s)) in
+    let h = rw w at (sym c.first_other.ensures ∙ c.in-Some.is) in
+    omega (arith, first_some no_name (drop c.args.at s) c.in-Some.n h)
 
-pub loop-i-preserved : goal.loop-i-preserved
-loop-i-preserved c = (
-  omega arith,
-  omega arith,
-  omega (
-    arith,
-    passed no_name c.args.text.now c.loop-i.i c.loop-i-test.true
-        (ap not (sym c.is_name.ensures) ∙ c.if-not-is_name.false-raw),
-    c.loop-i.invariant.2,
-  ),
-)
-
-pub returns : goal.returns
-returns c =
-    omega (arith, ran_out no_name c.args.text.now c.loop-i.i c.loop-i-test.false, c.loop-i.invariant.2)
+pub returns-in-None : goal.returns-in-None
+returns-in-None c =
+    let s = c.args.text.now in
+    let w = take_all (length s - c.args.at) (drop c.args.at s) (omega (arith, length-drop c.args.at s)) in
+    let h = rw w at (sym c.first_other.ensures ∙ c.in-None.is) in
+    omega (arith, first_none no_name (drop c.args.at s) h, length-drop c.args.at s, c.requires)

@@ -26,8 +26,8 @@ overflow_add-p c =
           c.byte_at.ensures c.loop-left-test.true (omega arith),
     )
 
-pub read_element-e-requires : goal.read_element-e-requires
-read_element-e-requires c =
+pub read_element-requires : goal.read_element-requires
+read_element-requires c =
     let i = next_inside 47 c.loop-left.left c.args.text.now c.loop-left.p _
     c.byte_at.ensures c.loop-left-test.true (omega arith) in
     let z = some_left 47 c.loop-left.left c.args.text.now c.loop-left.p _ c.byte_at.ensures c.loop-left-test.true in
@@ -36,16 +36,16 @@ read_element-e-requires c =
     (storing_long _ _ _ _ _ _ _ _ c.loop-left.invariant.0) (omega (arith, z, c.loop-left.invariant.1))
     (omega (arith, z, c.loop-left.invariant.1)) (omega (arith, i))
 
-pub shape_of-out-in_default : goal.shape_of-out-in_default
-shape_of-out-in_default c =
-    omega (arith, c.read_element-e.auto.out, storing_long _ _ _ _ _ _ _ _ c.loop-left.invariant.0)
+pub shape_of-out-in_err-next : goal.shape_of-out-in_err-next
+shape_of-out-in_err-next c =
+    omega (arith, c.read_element.auto.out, storing_long _ _ _ _ _ _ _ _ c.loop-left.invariant.0)
 
-pub returns-in_default : goal.returns-in_default
-returns-in_default c =
-    nothing (storing_none _ _ _ _ _ _ _ _ c.loop-left.invariant.0
+pub returns-in_err-next : goal.returns-in_err-next
+returns-in_err-next c =
+    rw c.from_residual.ensures (nothing (storing_none _ _ _ _ _ _ _ _ c.loop-left.invariant.0
     (each_unread 47 c.loop-left.left c.args.text.now c.loop-left.p _
     c.byte_at.ensures c.loop-left-test.true good_element
-    (stored_not c.read_element-e.ensures c.in_default.is)))
+    (stored_not c.read_element.ensures c.in_err-next.was))))
 
 pub overflow_sub-left : goal.overflow_sub-left
 overflow_sub-left c =
@@ -62,7 +62,7 @@ loop-left-smaller c =
 
 pub loop-left-preserved : goal.loop-left-preserved
 loop-left-preserved c =
-    let u = stored_to c.read_element-e.ensures c.in-To.is in
+    let u = stored_to c.read_element.ensures c.in_ok-next.was in
     let z = some_left 47 c.loop-left.left c.args.text.now c.loop-left.p _ c.byte_at.ensures c.loop-left-test.true in
     let l = storing_long _ _ _ _ _ _ _ _ c.loop-left.invariant.0 in
     let o = storing_from _ _ _ _ _ _ _ _ c.loop-left.invariant.0 in

@@ -32,8 +32,8 @@ overflow_add-p c =
           c.byte_at.ensures c.loop-left-test.true (omega arith),
     )
 
-pub read_key-k-requires : goal.read_key-k-requires
-read_key-k-requires c =
+pub read_key-requires : goal.read_key-requires
+read_key-requires c =
     let i = next_inside 91 c.loop-left.left c.args.text.now c.loop-left.p _
     c.byte_at.ensures c.loop-left-test.true (omega arith) in
     let z = some_left 91 c.loop-left.left c.args.text.now c.loop-left.p _ c.byte_at.ensures c.loop-left-test.true in
@@ -42,16 +42,16 @@ read_key-k-requires c =
     (storing_long _ _ _ _ _ _ _ _ c.loop-left.invariant.0) (omega (arith, z, c.loop-left.invariant.1))
     (omega (arith, z, c.loop-left.invariant.1)) (omega (arith, i))
 
-pub shape_of-out-in_default : goal.shape_of-out-in_default
-shape_of-out-in_default c =
-    omega (arith, c.read_key-k.auto.out, storing_long _ _ _ _ _ _ _ _ c.loop-left.invariant.0)
+pub shape_of-out-in_err-next : goal.shape_of-out-in_err-next
+shape_of-out-in_err-next c =
+    omega (arith, c.read_key.auto.out, storing_long _ _ _ _ _ _ _ _ c.loop-left.invariant.0)
 
-pub returns-in_default : goal.returns-in_default
-returns-in_default c =
-    nothing (pass_none distinct (storing_none _ _ _ _ _ _ _ _ c.loop-left.invariant.0
+pub returns-in_err-next : goal.returns-in_err-next
+returns-in_err-next c =
+    rw c.from_residual.ensures (nothing (pass_none distinct (storing_none _ _ _ _ _ _ _ _ c.loop-left.invariant.0
     (each_unread 91 c.loop-left.left c.args.text.now c.loop-left.p _
     c.byte_at.ensures c.loop-left-test.true good_key
-    (stored_not c.read_key-k.ensures c.in_default.is))))
+    (stored_not c.read_key.ensures c.in_err-next.was)))))
 
 pub overflow_sub-left : goal.overflow_sub-left
 overflow_sub-left c =
@@ -68,7 +68,7 @@ loop-left-smaller c =
 
 pub loop-left-preserved : goal.loop-left-preserved
 loop-left-preserved c =
-    let u = stored_to c.read_key-k.ensures c.in-To.is in
+    let u = stored_to c.read_key.ensures c.in_ok-next.was in
     let z = some_left 91 c.loop-left.left c.args.text.now c.loop-left.p _
     c.byte_at.ensures c.loop-left-test.true in
     let l = storing_long _ _ _ _ _ _ _ _ c.loop-left.invariant.0 in

@@ -13,23 +13,26 @@ pub returns-then-not-all_print : goal.returns-then-not-all_print
 returns-then-not-all_print c =
     rw (pack_none c.args.s.now (packed_strange _ _ (sym c.all_print.ensures ∙ not-true _ c.if-not-all_print.true-raw))) nothing
 
-pub convert_parts-r-requires : goal.convert_parts-r-requires
-convert_parts-r-requires c =
+pub convert_parts-requires : goal.convert_parts-requires
+convert_parts-requires c =
     (omega (arith, c.requires, room_request), omega arith)
 
-pub returns-in_default : goal.returns-in_default
+pub returns-in_err-next : goal.returns-in_err-next
 unfolding parts_by whether◌then◌else◌
-returns-in_default c =
-    rw (pack_none c.args.s.now (packed_unread _ _
-    (sym c.all_print.ensures ∙ not-false _ c.if-not-all_print.false-raw)
-    c.convert_parts-r.ensures c.in_default.is)) nothing
+returns-in_err-next c =
+    rw (
+      c.from_residual.ensures,
+      pack_none c.args.s.now (packed_unread _ _
+          (sym c.all_print.ensures ∙ not-false _ c.if-not-all_print.false-raw)
+          c.convert_parts.ensures c.in_err-next.was),
+    ) nothing
 
 pub returns-then-next-s : goal.returns-then-next-s
 unfolding parts_by whether◌then◌else◌
 returns-then-next-s c =
     rw (pack_none c.args.s.now (packed_longer _ _
     (sym c.all_print.ensures ∙ not-false _ c.if-not-all_print.false-raw)
-    c.convert_parts-r.ensures c.in-To.is c.if-next-s.true)) nothing
+    c.convert_parts.ensures c.in_ok-next.was c.if-next-s.true)) nothing
 
 pub slice_bounds-is_good-end : goal.slice_bounds-is_good-end
 unfolding parts_by whether◌then◌else◌
@@ -38,7 +41,7 @@ slice_bounds-is_good-end c =
       arith,
       c.requires,
       request_short c.args.s.now (sym c.all_print.ensures ∙ not-false _
-          c.if-not-all_print.false-raw) c.convert_parts-r.ensures c.in-To.is c.if-next-s.false,
+          c.if-not-all_print.false-raw) c.convert_parts.ensures c.in_ok-next.was c.if-next-s.false,
     )
 
 pub slice_bounds-is_good-end-2 : goal.slice_bounds-is_good-end-2
@@ -48,19 +51,19 @@ slice_bounds-is_good-end-2 c =
       arith,
       c.requires,
       request_short c.args.s.now (sym c.all_print.ensures ∙ not-false _
-          c.if-not-all_print.false-raw) c.convert_parts-r.ensures c.in-To.is c.if-next-s.false,
+          c.if-not-all_print.false-raw) c.convert_parts.ensures c.in_ok-next.was c.if-next-s.false,
     )))
 
 pub returns-then-not-is_good : goal.returns-then-not-is_good
 unfolding parts_by whether◌then◌else◌
 returns-then-not-is_good c =
     rw (request_refused c.args.s.now (sym c.all_print.ensures ∙ not-false _
-    c.if-not-all_print.false-raw) c.convert_parts-r.ensures c.in-To.is
+    c.if-not-all_print.false-raw) c.convert_parts.ensures c.in_ok-next.was
     c.if-next-s.false (sym c.is_good.ensures ∙ not-true _ c.if-not-is_good.true-raw)) nothing
 
 pub returns : goal.returns
 unfolding parts_by whether◌then◌else◌
 returns c =
     request_fills c.args.s.now (sym c.all_print.ensures ∙ not-false _ c.if-not-all_print.false-raw)
-    c.convert_parts-r.ensures c.in-To.is c.if-next-s.false
+    c.convert_parts.ensures c.in_ok-next.was c.if-next-s.false
     (sym c.is_good.ensures ∙ not-false _ c.if-not-is_good.false-raw)

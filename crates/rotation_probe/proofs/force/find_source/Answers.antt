@@ -1,16 +1,13 @@
-use Rattle.rotation_probe.specs.Source.{placed}
-use Rattle.rotation_probe.proofs.Sources.{source_refused, source_placed, source_part}
+use Rattle.refusal.proofs.Numbers.{err_is}
+use Rattle.rotation_probe.proofs.Sources.{source_refused, source_factory, source_part}
 use Rattle.rotation_probe.proofs.force.find_source.Goals as goal
 
-pub returns-then-number : goal.returns-then-number
-returns-then-number c = source_refused _ _ _ _ c.probe_refusal-number.ensures c.if-number.true
+pub returns-in_err-check_kind : goal.returns-in_err-check_kind
+returns-in_err-check_kind c =
+    rw (err_is c.from_residual.result _ c.from_residual.ensures.1) (source_refused _ _ _ _ c.in_err-check_kind.ensures)
 
 pub returns-in_default : goal.returns-in_default
-unfolding placed
-returns-in_default c =
-    source_placed _ _ _ _ c.probe_refusal-number.ensures c.if-number.false _ c.in_force-force.ensures _ c.in_default.is
+returns-in_default c = source_factory _ _ _ c.in_ok-check_kind.ensures _ c.in_force.ensures c.in_default.is
 
 pub returns : goal.returns
-returns c =
-    source_part _ _ _ _ c.probe_refusal-number.ensures c.if-number.false _
-    c.in_force-force.ensures _ _ _ c.in-Text.is c.slot_start-start.ensures
+returns c = source_part _ _ _ c.in_ok-check_kind.ensures _ c.in_force.ensures _ c.in-Some.is _ c.slot_start-start.ensures

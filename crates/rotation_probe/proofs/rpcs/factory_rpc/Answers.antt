@@ -1,8 +1,10 @@
+use Rattle.std.proofs.Common.{refl}
+use Rattle.refusal.proofs.Numbers.{never_clear}
 use Rattle.rotation_probe.proofs.Probes.{factory_refused, factory_permits}
 use Rattle.rotation_probe.proofs.rpcs.factory_rpc.Goals as goal
 
-pub returns-then-number : goal.returns-then-number
-returns-then-number c = factory_refused _ _ c.request_refusal-number.ensures c.if-number.true
+pub returns-in-Ok : goal.returns-in-Ok
+returns-in-Ok c = factory_permits _ _ c.in-Ok.ensures refl
 
-pub returns : goal.returns
-returns c = factory_permits _ _ c.request_refusal-number.ensures c.if-number.false
+pub returns-in-Err : goal.returns-in-Err
+returns-in-Err c = rw c.number.ensures (factory_refused _ _ c.in-Err.ensures (λ z. never_clear c.in-Err.refusal z))

@@ -13,7 +13,3 @@ returns-in-Deny c = rw c.in-Deny.is
 pub returns-in-Default : goal.returns-in-Default
 unfolding column_of
 returns-in-Default c = rw c.in-Default.is
-
-pub returns-in-Refused : goal.returns-in-Refused
-unfolding column_of
-returns-in-Refused c = rw c.in-Refused.is

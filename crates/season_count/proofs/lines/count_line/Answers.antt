@@ -11,8 +11,8 @@ use Rattle.season_count.proofs.lines.count_line.Goals as goal
 pub slice_bounds-read_line-end : goal.slice_bounds-read_line-end
 slice_bounds-read_line-end c = sym (length-take-le _ _ c.reach-to.ensures.within)
 
-pub read_line-l-requires : goal.read_line-l-requires
-read_line-l-requires c = (
+pub read_line-requires : goal.read_line-requires
+read_line-requires c = (
   from_within _ _ _ c.requires.5 c.reach-to.ensures,
   line_room_lem _ _ _ c.requires.5 c.reach-to.ensures _ c.requires.3,
 )
@@ -22,22 +22,22 @@ unfolding Counts-line
 returns-in_default c =
     record {
       counts_line = bad_line _ _ _ c.requires.5 c.reach-to.ensures
-          (line_unhex _ _ _ c.read_line-l.ensures.value
+          (line_unhex _ _ _ c.read_line.ensures.value
           (from_below _ _ _ c.requires.5 c.reach-to.ensures) c.in_default.is);
-      key_len_unchanged = (refl, line_long _ _ _ c.requires.5 c.reach-to.ensures _ _ c.requires.3 c.read_line-l.ensures.out_after);
+      key_len_unchanged = (refl, line_long _ _ _ c.requires.5 c.reach-to.ensures _ _ c.requires.3 c.read_line.ensures.out_after);
     }
 
 pub slice_bounds-judge-end : goal.slice_bounds-judge-end
 slice_bounds-judge-end c =
     size_within _ _ _ c.requires.5 c.reach-to.ensures _ _ c.requires.3
-    c.read_line-l.ensures.out_after (line_read _ _ _ c.read_line-l.ensures.value
-    (from_within _ _ _ c.requires.5 c.reach-to.ensures) _ _ c.in-Frame.is)
+    c.read_line.ensures.out_after (line_read _ _ _ c.read_line.ensures.value
+    (from_within _ _ _ c.requires.5 c.reach-to.ensures) _ c.in-Some.is)
 
 pub slice_bounds-judge-end-2 : goal.slice_bounds-judge-end-2
 slice_bounds-judge-end-2 c =
     sym (length-take-le _ _ (size_within _ _ _ c.requires.5 c.reach-to.ensures _ _ c.requires.3
-    c.read_line-l.ensures.out_after (line_read _ _ _ c.read_line-l.ensures.value
-    (from_within _ _ _ c.requires.5 c.reach-to.ensures) _ _ c.in-Frame.is)))
+    c.read_line.ensures.out_after (line_read _ _ _ c.read_line.ensures.value
+    (from_within _ _ _ c.requires.5 c.reach-to.ensures) _ c.in-Some.is)))
 
 pub judge-j-requires : goal.judge-j-requires
 judge-j-requires c =
@@ -48,12 +48,12 @@ unfolding Counts-line
 returns-in_default-j c =
     record {
       counts_line = no_request _ _ _ c.requires.5 c.reach-to.ensures _ _ c.requires.3
-          c.read_line-l.ensures.out_after (line_read _ _ _ c.read_line-l.ensures.value
-          (from_within _ _ _ c.requires.5 c.reach-to.ensures) _ _ c.in-Frame.is)
+          c.read_line.ensures.out_after (line_read _ _ _ c.read_line.ensures.value
+          (from_within _ _ _ c.requires.5 c.reach-to.ensures) _ c.in-Some.is)
           (judged_bad _ _ _ _ _ _ _ _ _ _ _ c.judge-j.ensures.judges c.in_default-j.is);
       key_len_unchanged = (
         c.judge-j.ensures.key_len_unchanged,
-        line_long _ _ _ c.requires.5 c.reach-to.ensures _ _ c.requires.3 c.read_line-l.ensures.out_after,
+        line_long _ _ _ c.requires.5 c.reach-to.ensures _ _ c.requires.3 c.read_line.ensures.out_after,
       );
     }
 
@@ -64,14 +64,14 @@ count_rule-requires c =
 pub bounds-line-0 : goal.bounds-line-0
 bounds-line-0 c =
     some_line _ _ _ c.requires.5 c.reach-to.ensures _ _ c.requires.3
-    c.read_line-l.ensures.out_after (line_read _ _ _ c.read_line-l.ensures.value
-    (from_within _ _ _ c.requires.5 c.reach-to.ensures) _ _ c.in-Frame.is)
+    c.read_line.ensures.out_after (line_read _ _ _ c.read_line.ensures.value
+    (from_within _ _ _ c.requires.5 c.reach-to.ensures) _ c.in-Some.is)
 
 pub count_cell-requires : goal.count_cell-requires
 count_cell-requires c =
     let mode = mode_fits _ _ _ c.requires.5 c.reach-to.ensures _ _ c.requires.3
-    c.read_line-l.ensures.out_after (line_read _ _ _ c.read_line-l.ensures.value
-    (from_within _ _ _ c.requires.5 c.reach-to.ensures) _ _ c.in-Frame.is) _ _ _ _ _ _ _ _ _ _ _
+    c.read_line.ensures.out_after (line_read _ _ _ c.read_line.ensures.value
+    (from_within _ _ _ c.requires.5 c.reach-to.ensures) _ c.in-Some.is) _ _ _ _ _ _ _ _ _ _ _
     (judged_answer _ _ _ _ _ _ _ _ _ _ _ c.judge-j.ensures.judges _ _ c.in-Answer.is) in (mode.0, mode.1, c.requires.4.cells)
 
 pub returns : goal.returns
@@ -79,12 +79,12 @@ unfolding Counts-line
 returns c =
     record {
       counts_line = counted_line _ _ _ c.requires.5 c.reach-to.ensures _ _ c.requires.3
-          c.read_line-l.ensures.out_after (line_read _ _ _ c.read_line-l.ensures.value
-          (from_within _ _ _ c.requires.5 c.reach-to.ensures) _ _ c.in-Frame.is) _ _ _ _ _ _ _ _ _ _ _
+          c.read_line.ensures.out_after (line_read _ _ _ c.read_line.ensures.value
+          (from_within _ _ _ c.requires.5 c.reach-to.ensures) _ c.in-Some.is) _ _ _ _ _ _ _ _ _ _ _
           (judged_answer _ _ _ _ _ _ _ _ _ _ _ c.judge-j.ensures.judges _ _ c.in-Answer.is) _ _ _ _
           c.count_rule.ensures c.count_cell.ensures;
       key_len_unchanged = (
         c.judge-j.ensures.key_len_unchanged,
-        line_long _ _ _ c.requires.5 c.reach-to.ensures _ _ c.requires.3 c.read_line-l.ensures.out_after,
+        line_long _ _ _ c.requires.5 c.reach-to.ensures _ _ c.requires.3 c.read_line.ensures.out_after,
       );
     }

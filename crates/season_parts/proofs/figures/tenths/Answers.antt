@@ -1,12 +1,9 @@
-use borrow.Author.Tests.{eq-eqb, ne_eqb}
-use Rattle.text.specs.Test.{whether◌then◌else◌}
+-- `tenths` is the definition.
+use Rattle.std.proofs.Common.{◌∙◌}
 use Rattle.season_parts.specs.Figures.{tenths}
+use Rattle.season_parts.proofs.Quotients.{quotient}
 use Rattle.season_parts.proofs.figures.tenths.Goals as goal
 
-pub returns-then-all-eq0 : goal.returns-then-all-eq0
-unfolding tenths whether◌then◌else◌
-returns-then-all-eq0 c = rw (eq-eqb _ _ c.if-all-eq0.true)
-
-pub returns-else-all-eq0 : goal.returns-else-all-eq0
-unfolding tenths whether◌then◌else◌
-returns-else-all-eq0 c = rw (ne_eqb _ _ c.if-all-eq0.false)
+pub returns : goal.returns
+unfolding tenths
+returns c = c.unwrap_or.ensures ∙ quotient c.checked_div.result _ c.args.all c.checked_div.ensures

@@ -1,7 +1,6 @@
 use borrow.Author.Tests.{ltb-true}
 use native.Mathlib.Omega.{arith}
 use mathlib.Core.Path.{sym, ◌∙◌}
-use Prim.Native.Nat.{◌-◌}
 use Rattle.season_sum.proofs.Sums.{adding_start, adding_done, adding_stops, adding_more}
 use Rattle.season_sum.proofs.adding.add.Goals as goal
 

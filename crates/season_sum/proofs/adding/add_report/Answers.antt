@@ -2,8 +2,6 @@ use Prim.Native.Nat.{ℕ}
 use lib.ListN.{length-replicate}
 use Rattle.limits.specs.Sizes.{report_lines}
 use Rattle.season_sum.proofs.Reports.{report_long, report_added, report_refused}
-use native.Mathlib.Omega.{arith}
-use mathlib.Core.Logic.{⊎_elim}
 use Rattle.season_sum.proofs.adding.add_report.Goals as goal
 
 pub add-requires : goal.add-requires

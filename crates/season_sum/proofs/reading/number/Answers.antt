@@ -1,6 +1,5 @@
 use native.Mathlib.Omega.{arith}
 use mathlib.Core.Path.{refl, sym, ◌∙◌}
-use Prim.Native.Nat.{◌-◌}
 use Rattle.season_sum.specs.Steps.{bad}
 use Rattle.season_sum.proofs.Numbers.{continued, number_none, number_ends, number_stops, number_more}
 use Rattle.season_sum.proofs.reading.number.Goals as goal

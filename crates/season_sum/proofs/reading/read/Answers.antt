@@ -1,5 +1,4 @@
 use native.Mathlib.Omega.{arith}
-use Prim.Native.Nat.{◌-◌}
 use Rattle.season_sum.proofs.Lines.{reading_start, reading_done, reading_long, reading_short, reading_stops, reading_on}
 use Rattle.season_sum.proofs.reading.read.Goals as goal
 

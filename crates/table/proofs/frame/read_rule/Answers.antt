@@ -1,5 +1,6 @@
 -- `read_rule` equals its definition.
 use borrow.Author.Tests.{not-true, not-false}
+use Rattle.path_frame.specs.Walked.{walk_said}
 use Rattle.table.proofs.Rules.{read_short, read_wrong, read_subjectless, read_idless, read_originless, read_pathless, read_off, read_rule}
 use Rattle.table.proofs.frame.read_rule.Goals as goal
 
@@ -10,41 +11,41 @@ pub returns-then-not-known : goal.returns-then-not-known
 returns-then-not-known c =
     read_wrong _ c.requires c.if-f-lt-FRAME_SUBJECT.false (not-true _ c.if-not-known.true-raw)
 
+pub returns-in_err-subject : goal.returns-in_err-subject
+returns-in_err-subject c =
+    rw c.from_residual.ensures
+    (read_subjectless _ c.requires c.if-f-lt-FRAME_SUBJECT.false (not-false _ c.if-not-known.false-raw) _ c.string_end.ensures c.in_err-subject.was)
+
+pub returns-in_err-id : goal.returns-in_err-id
+returns-in_err-id c =
+    rw c.from_residual-in_err-id.ensures
+    (read_idless _ c.requires c.if-f-lt-FRAME_SUBJECT.false (not-false _ c.if-not-known.false-raw) _
+    c.string_end.ensures _ c.in_ok-subject.was _ c.string_end-2.ensures c.in_err-id.was)
+
+pub returns-in_err-origin : goal.returns-in_err-origin
+returns-in_err-origin c =
+    rw c.from_residual-in_err-origin.ensures
+    (read_originless _ c.requires c.if-f-lt-FRAME_SUBJECT.false (not-false _ c.if-not-known.false-raw) _
+    c.string_end.ensures _ c.in_ok-subject.was _ c.string_end-2.ensures
+    _ c.in_ok-id.was _ c.string_end-3.ensures c.in_err-origin.was)
+
 pub returns-in_default : goal.returns-in_default
+unfolding walk_said
 returns-in_default c =
-    read_subjectless _ c.requires c.if-f-lt-FRAME_SUBJECT.false (not-false _ c.if-not-known.false-raw) _
-    c.string_end-s.ensures c.in_default.is
-
-pub returns-in_default-i : goal.returns-in_default-i
-returns-in_default-i c =
-    read_idless _ c.requires c.if-f-lt-FRAME_SUBJECT.false (not-false _ c.if-not-known.false-raw) _
-    c.string_end-s.ensures _ c.in-At.is _ c.string_end-i.ensures c.in_default-i.is
-
-pub returns-in_default-o : goal.returns-in_default-o
-returns-in_default-o c =
-    read_originless _ c.requires c.if-f-lt-FRAME_SUBJECT.false (not-false _ c.if-not-known.false-raw) _
-    c.string_end-s.ensures _ c.in-At.is _ c.string_end-i.ensures
-    _ c.in-At-i.is _ c.string_end-o.ensures c.in_default-o.is
-
-pub returns-in_default-p : goal.returns-in_default-p
-returns-in_default-p c =
     read_pathless _ c.requires c.if-f-lt-FRAME_SUBJECT.false (not-false _ c.if-not-known.false-raw) _
-    c.string_end-s.ensures _ c.in-At.is _ c.string_end-i.ensures
-    _ c.in-At-i.is _ c.string_end-o.ensures _ c.in-At-o.is _
-    c.read_path-p.ensures c.in_default-p.is
+    c.string_end.ensures _ c.in_ok-subject.was _ c.string_end-2.ensures
+    _ c.in_ok-id.was _ c.string_end-3.ensures _ c.in_ok-origin.was c.in_default.ensures
 
-pub returns-then-next-f : goal.returns-then-next-f
-returns-then-next-f c =
+pub returns-then-path-f : goal.returns-then-path-f
+unfolding walk_said
+returns-then-path-f c =
     read_off _ c.requires c.if-f-lt-FRAME_SUBJECT.false (not-false _ c.if-not-known.false-raw) _
-    c.string_end-s.ensures _ c.in-At.is _
-    c.string_end-i.ensures _ c.in-At-i.is _
-    c.string_end-o.ensures _ c.in-At-o.is _
-    c.read_path-p.ensures _ _ c.in-To.is c.if-next-f.true
+    c.string_end.ensures _ c.in_ok-subject.was _ c.string_end-2.ensures _ c.in_ok-id.was _
+    c.string_end-3.ensures _ c.in_ok-origin.was _ _ c.in-Some.ensures c.if-path-f.true
 
 pub returns : goal.returns
+unfolding walk_said
 returns c =
-    read_rule _ c.requires c.if-f-lt-FRAME_SUBJECT.false (not-false _ c.if-not-known.false-raw) _
-    c.string_end-s.ensures _ c.in-At.is _
-    c.string_end-i.ensures _ c.in-At-i.is _
-    c.string_end-o.ensures _ c.in-At-o.is _
-    c.read_path-p.ensures _ _ c.in-To.is c.if-next-f.false
+    rw c.code_of.ensures (read_rule _ c.requires c.if-f-lt-FRAME_SUBJECT.false (not-false _ c.if-not-known.false-raw) _
+    c.string_end.ensures _ c.in_ok-subject.was _ c.string_end-2.ensures _ c.in_ok-id.was _
+    c.string_end-3.ensures _ c.in_ok-origin.was _ _ c.in-Some.ensures c.if-path-f.false)

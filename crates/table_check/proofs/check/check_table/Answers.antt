@@ -2,10 +2,8 @@
 use Rattle.table_check.proofs.Calls.{outcome_refused, outcome_accepted}
 use Rattle.table_check.proofs.check.check_table.Goals as goal
 
-pub returns-in_default : goal.returns-in_default
-returns-in_default c =
-    outcome_accepted _ _ _ _ _ _ _ _ c.load-l.ensures _ _ c.in_default.is
+pub returns-in-Ok : goal.returns-in-Ok
+returns-in-Ok c = outcome_accepted _ _ _ c.load.ensures c.in-Ok.is
 
-pub returns : goal.returns
-returns c =
-    outcome_refused _ _ _ _ _ _ _ _ c.load-l.ensures _ _ c.in-Refused.is
+pub returns-in-Err : goal.returns-in-Err
+returns-in-Err c = rw c.number.ensures (outcome_refused _ _ _ c.load.ensures _ c.in-Err.is)

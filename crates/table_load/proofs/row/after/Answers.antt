@@ -1,33 +1,23 @@
 -- `after` equals its definition.
 use native.Mathlib.Omega.{arith}
-use borrow.Author.Tests.{eq-eqb, ne_eqb}
+use borrow.Author.Tests.{ne_eqb}
 use Rattle.text.specs.Test.{whether◌then◌else◌}
 use Rattle.table_load.specs.Held.{counts_after}
 use Rattle.table_load.proofs.row.after.Goals as goal
 
-pub overflow_add-result : goal.overflow_add-result
-overflow_add-result c = omega (arith, c.requires.0)
-
-pub returns-then-kind-eq-KIND_GROUP : goal.returns-then-kind-eq-KIND_GROUP
+pub returns-in-2 : goal.returns-in-2
 unfolding counts_after whether◌then◌else◌
-returns-then-kind-eq-KIND_GROUP c = rw (eq-eqb _ _ c.if-kind-eq-KIND_GROUP.true)
+returns-in-2 c = rw c.in-2.is
 
-pub overflow_add-result-then-kind-eq-KIND_MEMBER : goal.overflow_add-result-then-kind-eq-KIND_MEMBER
-overflow_add-result-then-kind-eq-KIND_MEMBER c = omega (arith, c.requires.1)
-
-pub returns-then-kind-eq-KIND_MEMBER : goal.returns-then-kind-eq-KIND_MEMBER
+pub returns-in-3 : goal.returns-in-3
 unfolding counts_after whether◌then◌else◌
-returns-then-kind-eq-KIND_MEMBER c = rw (ne_eqb _ _ c.if-kind-eq-KIND_GROUP.false, eq-eqb _ _ c.if-kind-eq-KIND_MEMBER.true)
+returns-in-3 c = rw c.in-3.is
 
-pub overflow_add-result-then-kind-eq-KIND_RULE : goal.overflow_add-result-then-kind-eq-KIND_RULE
-overflow_add-result-then-kind-eq-KIND_RULE c = omega (arith, c.requires.2)
-
-pub returns-then-kind-eq-KIND_RULE : goal.returns-then-kind-eq-KIND_RULE
+pub returns-in-4 : goal.returns-in-4
 unfolding counts_after whether◌then◌else◌
-returns-then-kind-eq-KIND_RULE c =
-    rw (ne_eqb _ _ c.if-kind-eq-KIND_GROUP.false, ne_eqb _ _ c.if-kind-eq-KIND_MEMBER.false, eq-eqb _ _ c.if-kind-eq-KIND_RULE.true)
+returns-in-4 c = rw c.in-4.is
 
-pub returns : goal.returns
+pub returns-in_default : goal.returns-in_default
 unfolding counts_after whether◌then◌else◌
-returns c =
-    rw (ne_eqb _ _ c.if-kind-eq-KIND_GROUP.false, ne_eqb _ _ c.if-kind-eq-KIND_MEMBER.false, ne_eqb _ _ c.if-kind-eq-KIND_RULE.false)
+returns-in_default c =
+    rw (ne_eqb c.args.kind 2 (λ e. absurd (omega arith)), ne_eqb c.args.kind 3 (λ e. absurd (omega arith)), ne_eqb c.args.kind 4 (λ e. absurd (omega arith)))

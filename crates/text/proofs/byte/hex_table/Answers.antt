@@ -1,4 +1,4 @@
-use Rattle.std.proofs.Common.{◌-◌, arith}
+use Rattle.std.proofs.Common.{arith}
 use Rattle.text.proofs.HexTables.{table_start, table_digit, table_digits, table_letter, table_end}
 use Rattle.text.proofs.byte.hex_table.Goals as goal
 

@@ -7,9 +7,9 @@ pub overflow_mul-x : goal.overflow_mul-x
 overflow_mul-x c =
     omega (
       arith,
-      product (c.loop-left.x + c.at.result) c.loop-left.y (omega (arith, c.at.ensures.1)) c.loop-left.invariant.2,
+      product (c.loop-i.x + c.at.result) c.loop-i.y (omega (arith, c.at.ensures.1)) c.loop-i.invariant.1,
     )
 
 pub overflow_mul-y : goal.overflow_mul-y
 overflow_mul-y c =
-    omega (arith, product (c.loop-left.y + c.at-in-loop-left.result) c.loop-left.x (omega (arith, c.at-in-loop-left.ensures.1)) c.loop-left.invariant.1)
+    omega (arith, product (c.loop-i.y + c.at-in-loop-i.result) c.loop-i.x (omega (arith, c.at-in-loop-i.ensures.1)) c.loop-i.invariant.0)

@@ -1,38 +1,39 @@
 use native.Mathlib.Omega.{arith}
-use Rattle.verdict.proofs.Order.{unless_small}
-use mathlib.Core.Path.{sym}
-use Prim.Native.Nat.{zero-le}
-use Rattle.verdict.specs.Cover.{wild}
-use Rattle.table_place.specs.Place.{str_end, key_in}
-use Rattle.table_place.proofs.Cursor.{str_grows, keys_room, keys_again}
-use Rattle.verdict_judge.proofs.Counting.{count_turn, count_end}
+use mathlib.Core.Path.{◌≡◌, sym, ap, ◌∙◌}
+use Prim.Native.Nat.{◌+◌}
+use lib.ListN.{length}
+use Rattle.text.specs.Test.{whether◌then◌else◌, only}
+use Rattle.verdict.specs.Cover.{wild, given}
+use Rattle.verdict.specs.Order.{one_unless}
+use Rattle.verdict_compare.specs.Place.{key, keys}
+use Rattle.verdict_judge.proofs.Counting.{given_cons, given_few}
 use Rattle.verdict_judge.proofs.rule.count_given.Goals as goal
 
-pub loop-left-init : goal.loop-left-init
-loop-left-init c = (c.requires, zero-le, omega arith)
-
-pub count_key-n-requires : goal.count_key-n-requires
-count_key-n-requires c = (keys_room _ _ _ c.loop-left-test.true c.loop-left.invariant.0).1
+pub loop-key-init : goal.loop-key-init
+loop-key-init c = rw c.into_iter-key-iterator.ensures.into_iter_gives (omega arith)
 
 pub overflow_add-n : goal.overflow_add-n
+unfolding whether◌then◌else◌
 overflow_add-n c =
-    let w = unless_small (wild (key_in c.args.f.now c.loop-left.q)) in
-    let k = keys_room _ _ _ c.loop-left-test.true c.loop-left.invariant.0 in
-    let x = str_grows c.args.f.now c.loop-left.q in omega arith
+    let few = given_few c.args.own in
+    let w : one_unless (wild (key c.in-Some.key)) ≡ 1 = rw (sym c.is_wild.ensures ∙ c.if-not-is_wild.true) in
+    let t = rw (c.in-Some.ensures.steps, given_cons (key c.in-Some.key) (keys c.next.new.self)) at c.loop-key.invariant in
+    let r = c.ranges in omega arith
 
-pub key_end-q-requires : goal.key_end-q-requires
-key_end-q-requires c = (keys_room _ _ _ c.loop-left-test.true c.loop-left.invariant.0).1
+pub loop-key-preserved-then-not-is_wild : goal.loop-key-preserved-then-not-is_wild
+unfolding whether◌then◌else◌
+loop-key-preserved-then-not-is_wild c =
+    let w : one_unless (wild (key c.in-Some.key)) ≡ 1 = rw (sym c.is_wild.ensures ∙ c.if-not-is_wild.true) in
+    let t = rw (c.in-Some.ensures.steps, given_cons (key c.in-Some.key) (keys c.next.new.self)) at c.loop-key.invariant in
+    t ∙ omega arith
 
-pub loop-left-preserved : goal.loop-left-preserved
-loop-left-preserved c =
-    let w = unless_small (wild (key_in c.args.f.now c.loop-left.q)) in
-    let x = str_grows c.args.f.now c.loop-left.q in
-    let y = str_grows c.args.f.now (str_end c.args.f.now c.loop-left.q) in (
-      keys_again _ _ _ _ c.loop-left-test.true c.loop-left.invariant.0 c.key_end-q.ensures,
-      omega arith,
-      count_turn _ _ _ c.loop-left-test.true _ _ _ _ c.key_end-q.ensures c.count_key-n.ensures c.loop-left.invariant.2,
-    )
+pub loop-key-preserved : goal.loop-key-preserved
+unfolding whether◌then◌else◌
+loop-key-preserved c =
+    let w : one_unless (wild (key c.in-Some.key)) ≡ 0 = rw (sym c.is_wild.ensures ∙ c.if-not-is_wild.false) in
+    let t = rw (c.in-Some.ensures.steps, given_cons (key c.in-Some.key) (keys c.next.new.self)) at c.loop-key.invariant in
+    t ∙ omega arith
 
 pub returns : goal.returns
-returns c =
-    sym (count_end c.args.f.now _ c.loop-left.q _ _ c.loop-left-test.false c.loop-left.invariant.2)
+unfolding only
+returns c = sym (rw c.in-None.ensures.steps.0 at c.loop-key.invariant ∙ omega arith)

@@ -1,17 +1,17 @@
-use Rattle.verdict_request.proofs.Answers.{default_is, permit_is, deny_is}
+use mathlib.Core.Path.{sym, ◌∙◌}
+use Rattle.text.specs.Test.{whether◌then◌else◌}
+use Rattle.verdict_judge.specs.Best.{numbered, held}
+use Rattle.verdict_request.specs.Calls.{decided_by}
 use Rattle.verdict_request.proofs.answer.decided.Goals as goal
 
-pub returns-then-b-eq0 : goal.returns-then-b-eq0
-returns-then-b-eq0 c =
-    default_is c.args.f.now c.args.b c.if-b-eq0.true
+pub returns-in_default : goal.returns-in_default
+unfolding held decided_by
+returns-in_default c = rw c.in_default.is
 
-pub permitted-requires : goal.permitted-requires
-permitted-requires c = c.requires
+pub returns-then-is_permit : goal.returns-then-is_permit
+unfolding held numbered decided_by whether◌then◌else◌
+returns-then-is_permit c = rw (c.in-Some.is, sym c.is_permit.ensures ∙ c.if-is_permit.true)
 
-pub returns-then-permitted : goal.returns-then-permitted
-returns-then-permitted c =
-    permit_is c.args.f.now c.args.b c.if-b-eq0.false _ c.permitted.ensures c.if-permitted.true
-
-pub returns : goal.returns
-returns c =
-    deny_is c.args.f.now c.args.b c.if-b-eq0.false _ c.permitted.ensures c.if-permitted.false
+pub returns-else-is_permit : goal.returns-else-is_permit
+unfolding held numbered decided_by whether◌then◌else◌
+returns-else-is_permit c = rw (c.in-Some.is, sym c.is_permit.ensures ∙ c.if-is_permit.false)

@@ -1,14 +1,16 @@
-use Rattle.verdict_request.proofs.Answers.{mixed_is, all_is, none_is}
+use Rattle.verdict.specs.Verdict.{word, answer}
+use Rattle.verdict_judge.specs.Best.{numbered, held}
+use Rattle.verdict_request.specs.Calls.{spread}
 use Rattle.verdict_request.proofs.answer.spread_of.Goals as goal
 
-pub returns-then-b-ne0 : goal.returns-then-b-ne0
-returns-then-b-ne0 c =
-    mixed_is c.args.f.now c.args.b _ c.if-b-ne0.true
+pub returns-in-Some : goal.returns-in-Some
+unfolding held numbered spread answer
+returns-in-Some c = rw c.in-Some.is
 
 pub returns-then-v : goal.returns-then-v
-returns-then-v c =
-    all_is c.args.f.now c.args.b _ c.if-b-ne0.false c.if-v.true
+unfolding held spread answer word
+returns-then-v c = rw (c.in_default.is, c.if-v.true)
 
 pub returns : goal.returns
-returns c =
-    none_is c.args.f.now c.args.b _ c.if-b-ne0.false c.if-v.false
+unfolding held spread answer word
+returns c = rw (c.in_default.is, c.if-v.false)

@@ -1,8 +1,0 @@
-use mathlib.Core.Path.{ap, ◌∙◌}
-use Rattle.rotation.specs.declared.Stepped.{Stepped}
-use Rattle.burgee.specs.Record.{answered}
-use Rattle.burgee.proofs.records.upload_step.Goals as goal
-
-pub returns : goal.returns
-returns c =
-    (c.of_stepped.ensures ∙ ap (λ (s : Stepped). answered s) c.upload.ensures.0, c.upload.ensures.1)

@@ -1,0 +1,42 @@
+// The rules of a loaded table, and one of them: a place carries the proof that it can be read, whatever stands there.
+ghost use Rattle.std.specs.Prelude.{◌≡◌, ◌≤◌, length};
+ghost use Rattle.table_rows.specs.Rules.{rule_in, rule_end};
+ghost use Rattle.verdict.specs.Rank.{rank};
+ghost use Rattle.verdict_judge.specs.Rules.{Short, Safe};
+
+use table::RuleNumber;
+
+#[derive(Clone, Copy)]
+pub struct Rules<'a> {
+    // The decoded bytes.
+    pub bytes: &'a [u8],
+    // Where each rule stands.
+    pub starts: &'a [u16],
+    // The number of the group of each whose subject is one.
+    pub holders: &'a [u8],
+    pub count: usize,
+    ghost safe: { Safe bytes.now starts.now holders.now count },
+}
+
+#[derive(Clone, Copy)]
+pub struct Rule<'a> {
+    pub bytes: &'a [u8],
+    pub at: usize,
+    ghost inside: { rule_end bytes.now at ≤ length bytes.now },
+    ghost short: { Short bytes.now },
+}
+
+// A rule with its number.
+#[derive(Clone, Copy)]
+pub struct Numbered<'a> {
+    pub number: RuleNumber,
+    pub rule: Rule<'a>,
+}
+
+// The best rule so far, and its rank as the weight.
+#[derive(Clone, Copy)]
+pub struct Best<'a> {
+    pub found: Numbered<'a>,
+    pub weight: usize,
+    ghost ranked: { weight ≡ rank (rule_in found.rule.bytes.now found.rule.at) },
+}
