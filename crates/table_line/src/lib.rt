@@ -19,19 +19,17 @@ fn decode(text: &[u8], from: usize, out: &mut [u8], at: usize) -> usize
     ensures value { result ≡ length (digits (drop from text.now)) }
     ensures out_after { out.new ≡ put out.old at (digits (drop from text.now)) }
 {
-    let mut i = from;
-    let mut k = at;
-    while i + 1 < text.len() {
+    let pairs = (text.len() - from) / 2;
+    for k in 0..pairs {
+        let i = from + 2 * k;
         let high = text::byte::hex_value(text[i]);
         let low = text::byte::hex_value(text[i + 1]);
         if (15 < high) | (15 < low) {
-            return k - at;
+            return k;
         }
-        out[k] = high * 16 + low;
-        k += 1;
-        i += 2;
+        out[at + k] = high * 16 + low;
     }
-    k - at
+    pairs
 }
 
 // The line that starts at `from`, if it is a hex line. Its digits are decoded into out from `at` on.

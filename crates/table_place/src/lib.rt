@@ -26,10 +26,8 @@ fn keys_end(f: &[u8], at: usize, k: usize) -> usize
     ensures { result ≡ keys_end k f.now at }
 {
     let mut q = at;
-    let mut left = k;
-    while 0 < left {
+    for _ in 0..k {
         q = key_end(f, q);
-        left -= 1;
     }
     q
 }

@@ -3,7 +3,7 @@ ghost use Rattle.std.specs.Prelude.{◌≡◌};
 ghost use Rattle.text.specs.Byte.{hex_value, is_name, is_print};
 ghost use Rattle.text.specs.HexTable.{HexTable};
 
-// The value of a hex digit, and 16 for any other byte.
+// The value of a hex digit, and 16 for any other byte: the definition that the clause names, and the table below, have it so, and the function cannot fail.
 pub fn hex_value(b: u8) -> u8
     ensures { result ≡ hex_value b }
 {
@@ -23,15 +23,11 @@ pub fn hex_table() -> [u8; 256]
     ensures { HexTable result }
 {
     let mut table = [16u8; 256];
-    let mut b = b'0';
-    while b <= b'9' {
+    for b in b'0'..=b'9' {
         table[b as usize] = hex_value(b);
-        b += 1;
     }
-    b = b'a';
-    while b <= b'f' {
+    for b in b'a'..=b'f' {
         table[b as usize] = hex_value(b);
-        b += 1;
     }
     table
 }

@@ -7,7 +7,7 @@ pub mod word;
 ghost use Rattle.std.specs.Prelude.{◌≡◌, ◌≤◌, ◌<◌};
 ghost use Rattle.text_hash.specs.Mix.{Small, middle, mix, max_places, place_of};
 
-// The factors, odd numbers.
+// The factors, odd numbers. That they are small stands in the contracts: `factors` of table_rows/specs, a definition, makes a seed of two numbers alone.
 #[derive(Clone, Copy)]
 pub struct Seed {
     pub first: usize,

@@ -6,20 +6,14 @@ ghost use Rattle.text_hash.specs.Mix.{word_at, words_in};
 pub fn count(n: usize) -> usize
     ensures { result ≡ words_in n }
 {
-    if n % 4 == 0 {
-        return n / 4;
-    }
-    n / 4 + 1
+    n.div_ceil(4)
 }
 
-// Byte number i, 0 past the end.
+// Byte number i; 0 past the end, as if the string went on with it.
 fn byte(t: &[u8], i: usize) -> usize
     ensures { (result ≡ get_or t.now i 0) × (result < 256) }
 {
-    if i < t.len() {
-        return t[i] as usize;
-    }
-    0
+    t.get(i).copied().unwrap_or(0) as usize
 }
 
 // The four bytes from i on.
@@ -33,7 +27,7 @@ fn whole(t: &[u8], i: usize) -> usize
         + t[i + 3] as usize * 16777216
 }
 
-// Word number k, which begins before the end; 0 for bytes past it.
+// Word number k, which begins before the end; as if the string went on with 0.
 pub fn at(t: &[u8], k: usize) -> usize
     requires { 4 * k < length t.now }
     ensures { (result ≡ word_at t.now (4 * k)) × (result < 4294967296) }

@@ -1,5 +1,5 @@
 -- `hex_table` has the value of each byte: of those that are no digit from the start, of the digits and letters by the loops.
-use Rattle.std.proofs.Common.{◌-◌, ◌≤◌}
+use Rattle.std.proofs.Common.{◌≤◌}
 use Rattle.text.proofs.HexTables.{Filled}
 use Rattle.text.proofs.byte.hex_table.Given as goal
 
@@ -7,12 +7,6 @@ use Rattle.text.proofs.byte.hex_table.Given as goal
 abbrev pub invariant-loop-b : goal.invariant-loop-b
 invariant-loop-b l = (l.b ≤ 58) × Filled l.table l.b 97
 
-abbrev pub decreases-loop-b : goal.decreases-loop-b
-decreases-loop-b l = 58 - l.b
-
 -- all digits have, and the letters below b
 abbrev pub invariant-loop-b-2 : goal.invariant-loop-b-2
 invariant-loop-b-2 l = (l.b ≤ 103) × Filled l.table 58 l.b
-
-abbrev pub decreases-loop-b-2 : goal.decreases-loop-b-2
-decreases-loop-b-2 l = 103 - l.b
