@@ -1,7 +1,7 @@
 // Path text to path bytes.
 //
-// Each function that reads a part of the format stores it as bytes, and its contract bounds them twice, `Room` before and `Stores` after: so many
-// bytes at most (`limits` computes how many), and so many more than were read of the text.
+// Each function that reads a part of the format stores it as bytes, from `to` on in the buffer that is lent, since there is no heap; and its contract bounds
+// them twice, `Room` before and `Stores` after: so many bytes at most (`limits` computes how many), and so many more than were read of the text.
 ghost use Rattle.std.specs.Prelude.{◌≡◌, ℕ, false, [], ◌∷◌, ◌+◌, ◌≤◌, length, drop, get_or, position};
 ghost use Rattle.std.proofs.Math.Option.{some};
 ghost use Rattle.limits.specs.Limits.{max_string};
@@ -34,18 +34,18 @@ pub struct Stored {
     pub end: usize,
 }
 
-// The next byte of a value, or its ].
+// The next byte of a value, or its ]: two outcomes beside the third, that neither stands there, so that no Option of the library tells them.
 #[derive(Clone, Copy)]
 pub enum Item {
     Byte { byte: u8, next: usize },
     End,
 }
 
-// The byte at `at`, and 0 past the end.
+// The byte at `at`, and 0, which no part of the format has, past the end. Callers compare it with one byte: an Option would be compared by reference at each.
 fn byte_at(s: &[u8], at: usize) -> u8
     ensures { result ≡ get_or s.now at 0 }
 {
-    if at < s.len() { s[at] } else { 0 }
+    s.get(at).copied().unwrap_or(0)
 }
 
 // Where the first byte stands that is none of a name.
@@ -123,6 +123,7 @@ fn read_plain(text: &[u8], at: usize, out: &mut [u8], to: usize) -> Option<Store
 {
     let mut p = at;
     let mut q = to;
+    // `left` is the limit, and no index: the loop ends at the ], and a `for` to the limit would need a way out beside it
     let mut left = limits::MAX_STRING;
     loop {
         match read_item(text, p)? {
@@ -189,6 +190,7 @@ fn read_keys(text: &[u8], at: usize, out: &mut [u8], to: usize) -> Option<Stored
     let start = to + 1;
     let mut p = at;
     let mut q = start;
+    // it ends at the limit or the first other byte, and how many turns it made is stored: a `for` would need a `break`, and count them beside its own number
     let mut left = limits::MAX_KEYS;
     while (0 < left) & (byte_at(text, p) == b'[') {
         let Stored { next, end } = read_key(text, p + 1, out, q)?;
@@ -223,6 +225,7 @@ fn read_elements(text: &[u8], out: &mut [u8]) -> Option<Stored>
 {
     let mut p = 0;
     let mut q = 1;
+    // as in `read_keys`
     let mut left = limits::MAX_ELEMENTS;
     while (0 < left) & (byte_at(text, p) == b'/') {
         let Stored { next, end } = read_element(text, p + 1, out, q)?;
