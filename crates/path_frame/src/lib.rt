@@ -39,6 +39,8 @@ pub fn read_key(f: &[u8], at: usize) -> Option<Key>
     })
 }
 
+// The frame, where the keys or elements start and how many they are travel together: they are the arguments of `times`, which the contracts name.
+
 // One of the `count` keys from `at` on has the name. (False where they do not read.)
 #[tactic(auto, using(crate::proofs::Walks::having), unfolding(crate::specs::Walked::key_said))]
 fn has_key(f: &[u8], at: usize, count: usize, name: &[u8]) -> bool

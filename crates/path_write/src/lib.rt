@@ -68,17 +68,12 @@ fn write_keys(f: &[u8], from: usize, count: usize, out: &mut [u8], to: usize) ->
 {
     let mut place = Place { from, to };
     for _ in 0..count {
-        let Some(middle) = text::frame::string_end(f, place.from) else {
+        let Some(key) = path_frame::read_key(f, place.from) else {
             return place;
         };
-        let Some(end) = text::frame::string_end(f, middle) else {
-            return place;
-        };
-        let name = &f[place.from + 1..middle];
-        let value = &f[middle + 1..end];
         place = Place {
-            from: end,
-            to: write_key(name, value, out, place.to),
+            from: key.next,
+            to: write_key(key.name, key.value, out, place.to),
         };
     }
     place
@@ -128,8 +123,7 @@ fn write_path(f: &[u8], out: &mut [u8]) -> usize
         out[0] = b'/';
         return 1;
     }
-    let e = write_elements(f, 1, count, out, 0);
-    e.to
+    write_elements(f, 1, count, out, 0).to
 }
 
 // The text of a good path, made apart, and copied where it fits.

@@ -4,7 +4,7 @@ ghost use Rattle.refusal.specs.Refusal.{at_line};
 
 use crate::Refusal;
 
-// The refusal, and the line, counted from 1; 0 where it is about none.
+// The refusal, and the line, counted from 1; 0 where it is about none, as the C interface has it.
 #[derive(Clone, Copy, Debug, PartialEq, Eq)]
 pub struct Fault {
     pub refusal: Refusal,

@@ -51,7 +51,7 @@ pub enum Refusal {
 }
 
 impl Refusal {
-    // The number of the rules.
+    // The number of the rules, which the C interface gives.
     pub fn number(self) -> u8
         ensures { result ≡ number self }
     {

@@ -21,7 +21,7 @@ pub const FEW_BYTES: usize = limits::MAX_HEADER_LINES / 16;
 
 pub const FEW_PLACES: usize = FEW_BYTES / 3 + 1;
 
-// Stands for no line: no line starts there.
+// Stands for no line: no line starts there. The arrays lie on the stack, and an Option for each link would double them.
 pub const NO_LINE: u16 = limits::MAX_HEADER_LINES as u16;
 
 // How many bytes of a policy the factors are drawn from.

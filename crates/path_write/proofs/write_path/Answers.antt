@@ -18,11 +18,11 @@ pub returns-then-count-eq0 : goal.returns-then-count-eq0
 returns-then-count-eq0 c =
     root_wrote c.args.out.now c.args.f.now c.requires (omega (arith, c.if-f-eq0.false)) c.if-count-eq0.true
 
-pub write_elements-e-requires : goal.write_elements-e-requires
-write_elements-e-requires c =
+pub write_elements-requires : goal.write_elements-requires
+write_elements-requires c =
     more_room c.args.out.now c.args.f.now c.requires (omega (arith, c.if-f-eq0.false)) c.if-count-eq0.false
 
 pub returns : goal.returns
 returns c =
     more_wrote c.args.out.now c.args.f.now c.requires
-    (omega (arith, c.if-f-eq0.false)) c.if-count-eq0.false _ _ c.write_elements-e.ensures.wrote
+    (omega (arith, c.if-f-eq0.false)) c.if-count-eq0.false _ _ c.write_elements.ensures.wrote
