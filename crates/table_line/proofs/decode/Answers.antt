@@ -1,8 +1,8 @@
 use native.Mathlib.Omega.{arith}
 use mathlib.Core.Path.{◌≡◌}
-use Prim.Native.Nat.{◌+◌, ◌-◌, ◌*◌, ◌≤◌, ◌<◌}
+use Prim.Native.Nat.{◌+◌, ◌*◌, ◌≤◌, ◌<◌}
 use lib.ListN.{length}
-use Rattle.table_line.proofs.Digits.{digits_turn, digits_stop, digits_end, decode_start, decode_turn, decode_room, decode_done, value_fits}
+use Rattle.table_line.proofs.Digits.{digits_turn, digits_stop, digits_end, decode_start, decode_turn, decode_done, value_fits}
 use Rattle.table_line.proofs.decode.Goals as goal
 
 pub loop-k-init : goal.loop-k-init
