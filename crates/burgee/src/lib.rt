@@ -1,6 +1,7 @@
 #![tactic(auto)]
 
-// The C boundary: every function that crate `burgee_c` exports. Each takes numbers and byte slices and answers one word.
+// The C boundary: every function that crate `burgee_c` exports. Each takes numbers and byte slices, one by one, as the C interface has them, and answers one
+// word.
 pub mod policies;
 pub mod probes;
 pub mod records;

@@ -1,4 +1,5 @@
-// The C boundary of the probes, which judge a request on what is in force: a record's five numbers, the store, and a request.
+// The C boundary of the probes, which judge a request on what is in force: a record's five numbers, the store, and a request, one by one, as the calls of
+// the C interface have them. Within, they are a `Record` and a `Request`.
 ghost use Rattle.std.specs.Prelude.{◌≡◌};
 ghost use Rattle.burgee.specs.Calls.{ProbePath, ProbeTree, ProbeRpc, record_of, word};
 

@@ -5,9 +5,11 @@ use cli_console::input;
 use cli_show::console::Console;
 use cli_show::{TEXT_ROOM, WORD_ROOM};
 use cli_table::{explanation, paths, tables};
+use readable_parts::Direction;
 use rpc::Request;
 use std::process::ExitCode;
 
+// Each is called in its own way; a name that no command has is told in its place, so `Unknown` is one of them.
 #[derive(Clone, Copy)]
 enum Command {
     Table,
@@ -214,8 +216,8 @@ fn log(console: &mut Console) {
     let s = input::word(console, 2, &mut step);
     let direction = cli_console::lines::place(b"show\npack\n", &step[..s]);
     match direction {
-        1 => cli_readable::logs::convert(console, false, 3),
-        2 => cli_readable::logs::convert(console, true, 3),
+        1 => cli_readable::logs::convert(console, Direction::Show, 3),
+        2 => cli_readable::logs::convert(console, Direction::Pack, 3),
         _ => cli_console::say::usage(console, b"neither show nor pack: ", &step[..s], b"log"),
     }
 }

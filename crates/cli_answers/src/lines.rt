@@ -10,7 +10,8 @@ use table_facts::Row;
 use text_make::Text;
 use verdict_request::{PathAnswer, TreeAnswer};
 
-// Why no rule decides: none of the table matches, which an explanation says too, or there is no table.
+// Why no rule decides: none of the table matches, which an explanation says too, or there is no table. Three reasons with words of their own: none of them
+// is "no reason", so no Option is hidden in it.
 #[derive(Clone, Copy)]
 pub enum Fallback {
     Default,

@@ -12,34 +12,41 @@ enum Part {
     Usage,
 }
 
-// Where the word after the one at `at` begins; 0 where that is another word.
-fn after(page: &[u8], at: usize, word: &[u8]) -> usize
-    ensures { result ≤ length page.now }
-{
+// What is asked: how a command is called, or that step of it, or its page.
+#[derive(Clone, Copy)]
+struct Asked<'a> {
+    command: &'a [u8],
+    step: &'a [u8],
+    part: Part,
+}
+
+// Where the word after the one at `at` begins; none where that is another word.
+fn after(page: &[u8], at: usize, word: &[u8]) -> Option<usize> {
     if page.len() <= at {
-        return 0;
+        return None;
     }
     if page.len() - at <= word.len() {
-        return 0;
+        return None;
     }
     let end = at + word.len();
     if !text::string::is_same(&page[at..end], word) {
-        return 0;
+        return None;
     }
     if (page[end] == b' ') | (page[end] == b'\n') {
-        return end + 1;
+        return Some(end + 1);
     }
-    0
+    None
 }
 
 // Whether the line at `at` tells how the command is called, or that step of it.
 fn tells(page: &[u8], at: usize, command: &[u8], step: &[u8]) -> bool {
-    let name = after(page, at, b"burgee");
-    let next = after(page, name, command);
-    if (name == 0) | (next == 0) {
+    let Some(name) = after(page, at, b"burgee") else {
         return false;
-    }
-    (step.len() == 0) | (after(page, next, step) != 0)
+    };
+    let Some(next) = after(page, name, command) else {
+        return false;
+    };
+    (step.len() == 0) | after(page, next, step).is_some()
 }
 
 // Prints how a command is called, where that is asked.
@@ -60,7 +67,7 @@ fn line_end(page: &[u8], at: usize) -> usize
 }
 
 // Whether one of the lines that the page begins with tells how the command is called, or that step of it; each is printed where that is asked.
-fn tells_of(console: &mut Console, page: &[u8], command: &[u8], step: &[u8], part: Part) -> bool {
+fn tells_of(console: &mut Console, page: &[u8], asked: Asked) -> bool {
     let mut found = false;
     let mut at = 0;
     while at < page.len() {
@@ -71,9 +78,9 @@ fn tells_of(console: &mut Console, page: &[u8], command: &[u8], step: &[u8], par
         if page.len() <= end {
             return found;
         }
-        if tells(page, at, command, step) {
+        if tells(page, at, asked.command, asked.step) {
             found = true;
-            tell(console, &page[at..end], part);
+            tell(console, &page[at..end], asked.part);
         }
         at = end + 1;
     }
@@ -81,18 +88,16 @@ fn tells_of(console: &mut Console, page: &[u8], command: &[u8], step: &[u8], par
 }
 
 // Prints what is asked of the page, if it tells of the command: the lines of the step, or all of the command where it has no such step.
-fn print(console: &mut Console, command: &[u8], step: &[u8], part: Part, page: &[u8]) -> bool {
-    if let Part::Page = part {
-        if !tells_of(console, page, command, b"", part) {
+fn print(console: &mut Console, asked: Asked, page: &[u8]) -> bool {
+    let of_command = Asked { step: b"", ..asked };
+    if let Part::Page = asked.part {
+        if !tells_of(console, page, of_command) {
             return false;
         }
         cli_show::word(console, page);
         return true;
     }
-    if tells_of(console, page, command, step, part) {
-        return true;
-    }
-    tells_of(console, page, command, b"", part)
+    tells_of(console, page, asked) || tells_of(console, page, of_command)
 }
 
 fn all(console: &mut Console) {
@@ -126,12 +131,10 @@ fn all(console: &mut Console) {
     );
 }
 
-fn table(console: &mut Console, command: &[u8], step: &[u8], part: Part) -> bool {
+fn table(console: &mut Console, asked: Asked) -> bool {
     print(
         console,
-        command,
-        step,
-        part,
+        asked,
         b"burgee table FILE\n\
         \n\
         Checks a rule table: accepted, and how many groups, members and rules it has;\n\
@@ -145,12 +148,10 @@ fn table(console: &mut Console, command: &[u8], step: &[u8], part: Part) -> bool
     )
 }
 
-fn conversion(console: &mut Console, command: &[u8], step: &[u8], part: Part) -> bool {
+fn conversion(console: &mut Console, asked: Asked) -> bool {
     print(
         console,
-        command,
-        step,
-        part,
+        asked,
         b"burgee show FILE\n\
         burgee pack FILE [TABLE]\n\
         \n\
@@ -181,12 +182,10 @@ fn conversion(console: &mut Console, command: &[u8], step: &[u8], part: Part) ->
     )
 }
 
-fn groups(console: &mut Console, command: &[u8], step: &[u8], part: Part) -> bool {
+fn groups(console: &mut Console, asked: Asked) -> bool {
     print(
         console,
-        command,
-        step,
-        part,
+        asked,
         b"burgee groups FILE USER\n\
         \n\
         How many groups of a rule table list the user, and the number and name of each.\n\
@@ -199,12 +198,10 @@ fn groups(console: &mut Console, command: &[u8], step: &[u8], part: Part) -> boo
     )
 }
 
-fn verdict(console: &mut Console, command: &[u8], step: &[u8], part: Part) -> bool {
+fn verdict(console: &mut Console, asked: Asked) -> bool {
     print(
         console,
-        command,
-        step,
-        part,
+        asked,
         b"burgee verdict FILE USER read|write ORIGIN PATH\n\
         \n\
         What the user may do at one path: permit or deny, and the deciding rule's number and id,\n\
@@ -223,12 +220,10 @@ fn verdict(console: &mut Console, command: &[u8], step: &[u8], part: Part) -> bo
     )
 }
 
-fn tree(console: &mut Console, command: &[u8], step: &[u8], part: Part) -> bool {
+fn tree(console: &mut Console, asked: Asked) -> bool {
     print(
         console,
-        command,
-        step,
-        part,
+        asked,
         b"burgee tree FILE USER read|write ORIGIN PATH\n\
         \n\
         What the user may do at a path and at every path beneath it, also those that no machine has yet: ALL, NONE or MIXED.\n\
@@ -243,12 +238,10 @@ fn tree(console: &mut Console, command: &[u8], step: &[u8], part: Part) -> bool 
     )
 }
 
-fn explain(console: &mut Console, command: &[u8], step: &[u8], part: Part) -> bool {
+fn explain(console: &mut Console, asked: Asked) -> bool {
     print(
         console,
-        command,
-        step,
-        part,
+        asked,
         b"burgee explain FILE USER read|write ORIGIN PATH\n\
         \n\
         The verdict, and then every rule that matches, in ranking order: the first decides, and of each other one\n\
@@ -271,12 +264,10 @@ fn explain(console: &mut Console, command: &[u8], step: &[u8], part: Part) -> bo
     )
 }
 
-fn report(console: &mut Console, command: &[u8], step: &[u8], part: Part) -> bool {
+fn report(console: &mut Console, asked: Asked) -> bool {
     print(
         console,
-        command,
-        step,
-        part,
+        asked,
         b"burgee report TABLE LOG\n\
         \n\
         The season report over a table and a log of requests (burgee log show and pack): 262 lines, each a decimal number. How often\n\
@@ -294,12 +285,10 @@ fn report(console: &mut Console, command: &[u8], step: &[u8], part: Part) -> boo
     )
 }
 
-fn report_sum(console: &mut Console, command: &[u8], step: &[u8], part: Part) -> bool {
+fn report_sum(console: &mut Console, asked: Asked) -> bool {
     print(
         console,
-        command,
-        step,
-        part,
+        asked,
         b"burgee report-sum REPORT ..\n\
         \n\
         The sum of season reports, line by line, as a report. A report is 262 lines, each a decimal number without leading zeros\n\
@@ -316,12 +305,10 @@ fn report_sum(console: &mut Console, command: &[u8], step: &[u8], part: Part) ->
     )
 }
 
-fn season(console: &mut Console, command: &[u8], step: &[u8], part: Part) -> bool {
+fn season(console: &mut Console, asked: Asked) -> bool {
     print(
         console,
-        command,
-        step,
-        part,
+        asked,
         b"burgee season TABLE LOG\n\
         \n\
         A page on a table and a log of requests, for a person: the rules that decided, by falling count, each with its share of all requests\n\
@@ -354,12 +341,10 @@ fn season(console: &mut Console, command: &[u8], step: &[u8], part: Part) -> boo
     )
 }
 
-fn path(console: &mut Console, command: &[u8], step: &[u8], part: Part) -> bool {
+fn path(console: &mut Console, asked: Asked) -> bool {
     print(
         console,
-        command,
-        step,
-        part,
+        asked,
         b"burgee path read TEXT\n\
         burgee path write BYTES\n\
         \n\
@@ -376,12 +361,10 @@ fn path(console: &mut Console, command: &[u8], step: &[u8], part: Part) -> bool 
     )
 }
 
-fn policy(console: &mut Console, command: &[u8], step: &[u8], part: Part) -> bool {
+fn policy(console: &mut Console, asked: Asked) -> bool {
     print(
         console,
-        command,
-        step,
-        part,
+        asked,
         b"burgee policy FILE\n\
         \n\
         Checks an RPC policy: accepted, and how many rules each list has;\n\
@@ -397,12 +380,10 @@ fn policy(console: &mut Console, command: &[u8], step: &[u8], part: Part) -> boo
     )
 }
 
-fn rpc(console: &mut Console, command: &[u8], step: &[u8], part: Part) -> bool {
+fn rpc(console: &mut Console, asked: Asked) -> bool {
     print(
         console,
-        command,
-        step,
-        part,
+        asked,
         b"burgee rpc FILE IDENTITY PATH [HEADERS-FILE]\n\
         \n\
         Whether a policy permits an RPC: permit or deny, and the deciding rule's list, number and name,\n\
@@ -430,12 +411,10 @@ fn rpc(console: &mut Console, command: &[u8], step: &[u8], part: Part) -> bool {
     )
 }
 
-fn log(console: &mut Console, command: &[u8], step: &[u8], part: Part) -> bool {
+fn log(console: &mut Console, asked: Asked) -> bool {
     print(
         console,
-        command,
-        step,
-        part,
+        asked,
         b"burgee log show FILE\n\
         burgee log pack FILE\n\
         \n\
@@ -461,12 +440,10 @@ fn log(console: &mut Console, command: &[u8], step: &[u8], part: Part) -> bool {
     )
 }
 
-fn rotate(console: &mut Console, command: &[u8], step: &[u8], part: Part) -> bool {
+fn rotate(console: &mut Console, asked: Asked) -> bool {
     print(
         console,
-        command,
-        step,
-        part,
+        asked,
         b"burgee rotate new FILE policy|table\n\
         burgee rotate show FILE\n\
         burgee rotate start FILE\n\
@@ -519,12 +496,10 @@ fn rotate(console: &mut Console, command: &[u8], step: &[u8], part: Part) -> boo
     )
 }
 
-fn about_version(console: &mut Console, command: &[u8], step: &[u8], part: Part) -> bool {
+fn about_version(console: &mut Console, asked: Asked) -> bool {
     print(
         console,
-        command,
-        step,
-        part,
+        asked,
         b"burgee version\n\
         \n\
         The version of this program, which is that of include/burgee.h; also burgee --version.\n\
@@ -540,22 +515,22 @@ pub fn version(console: &mut Console) {
 }
 
 // What is to be printed of the page that tells of a command; false where no page does.
-fn find(console: &mut Console, command: &[u8], step: &[u8], part: Part) -> bool {
-    table(console, command, step, part)
-        | conversion(console, command, step, part)
-        | groups(console, command, step, part)
-        | verdict(console, command, step, part)
-        | tree(console, command, step, part)
-        | explain(console, command, step, part)
-        | report(console, command, step, part)
-        | report_sum(console, command, step, part)
-        | season(console, command, step, part)
-        | path(console, command, step, part)
-        | policy(console, command, step, part)
-        | rpc(console, command, step, part)
-        | log(console, command, step, part)
-        | rotate(console, command, step, part)
-        | about_version(console, command, step, part)
+fn find(console: &mut Console, asked: Asked) -> bool {
+    table(console, asked)
+        | conversion(console, asked)
+        | groups(console, asked)
+        | verdict(console, asked)
+        | tree(console, asked)
+        | explain(console, asked)
+        | report(console, asked)
+        | report_sum(console, asked)
+        | season(console, asked)
+        | path(console, asked)
+        | policy(console, asked)
+        | rpc(console, asked)
+        | log(console, asked)
+        | rotate(console, asked)
+        | about_version(console, asked)
 }
 
 // One command's help, or all of it; false where there is no such command.
@@ -564,10 +539,20 @@ pub fn on(console: &mut Console, command: &[u8]) -> bool {
         all(console);
         return true;
     }
-    find(console, command, b"", Part::Page)
+    let asked = Asked {
+        command,
+        step: b"",
+        part: Part::Page,
+    };
+    find(console, asked)
 }
 
 // Prints to standard error how a command is called, or that step of it.
 pub fn usage(console: &mut Console, command: &[u8], step: &[u8]) {
-    let _ = find(console, command, step, Part::Usage);
+    let asked = Asked {
+        command,
+        step,
+        part: Part::Usage,
+    };
+    let _ = find(console, asked);
 }

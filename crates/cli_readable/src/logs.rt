@@ -8,22 +8,22 @@ use cli_show::Stream;
 use cli_show::console::Console;
 use readable::Unconverted;
 use readable_log::Run;
+use readable_parts::Direction;
 
 // Room for what is printed at once.
 const OUT_ROOM: usize = cli_parts::ROOM;
 
 // The longest line that can be good, with its LF: of a log, or of readable text.
-fn longest(packing: bool) -> usize {
-    if packing {
-        limits::MAX_READABLE_LINE + 1
-    } else {
-        limits::MAX_LOG_LINE
+fn longest(direction: Direction) -> usize {
+    match direction {
+        Direction::Show => limits::MAX_LOG_LINE,
+        Direction::Pack => limits::MAX_READABLE_LINE + 1,
     }
 }
 
 // Prints the line with which `rest` begins; of one that is longer than any good line, only that it is.
-fn quote(console: &mut Console, packing: bool, rest: &[u8]) {
-    if longest(packing) <= text_search::find(rest, 0, b'\n') {
+fn quote(console: &mut Console, direction: Direction, rest: &[u8]) {
+    if longest(direction) <= text_search::find(rest, 0, b'\n') {
         cli_show::word_to(
             console,
             Stream::Error,
@@ -35,7 +35,7 @@ fn quote(console: &mut Console, packing: bool, rest: &[u8]) {
 }
 
 // Refuses the line with this number, with which `rest` begins.
-fn refuse(console: &mut Console, packing: bool, number: usize, rest: &[u8]) {
+fn refuse(console: &mut Console, direction: Direction, number: usize, rest: &[u8]) {
     if limits::MAX_LOG_LINES < number {
         crate::tell(
             console,
@@ -46,32 +46,34 @@ fn refuse(console: &mut Console, packing: bool, number: usize, rest: &[u8]) {
         );
         return;
     }
-    if packing {
-        crate::tell(console, Unconverted::Unread { line: number });
-    } else {
-        crate::tell(
-            console,
-            Unconverted::Refused {
-                number: 51,
-                line: number,
-            },
-        );
-    }
-    quote(console, packing, rest);
+    let why = match direction {
+        Direction::Show => Unconverted::Refused {
+            number: 51,
+            line: number,
+        },
+        Direction::Pack => Unconverted::Unread { line: number },
+    };
+    crate::tell(console, why);
+    quote(console, direction, rest);
 }
 
 // Converts and prints lines of a text, `most` at most.
-fn print_run(console: &mut Console, packing: bool, text: &[u8], most: usize) -> Run
+fn print_run(console: &mut Console, direction: Direction, text: &[u8], most: usize) -> Run
     ensures { Advances text.now most result }
 {
     let mut out = [0u8; OUT_ROOM];
-    let run = readable_log::convert(packing, text, most, &mut out);
+    let run = readable_log::convert(direction, text, most, &mut out);
     cli_show::first(console, &out, run.made);
     run
 }
 
 // Converts and prints whole lines, the first of which has this number. Answers the number of the line after them; none where one of them was refused.
-fn print_lines(console: &mut Console, packing: bool, text: &[u8], first: usize) -> Option<usize>
+fn print_lines(
+    console: &mut Console,
+    direction: Direction,
+    text: &[u8],
+    first: usize,
+) -> Option<usize>
     requires { first ≤ max_log_lines + 1 }
     ensures { IfSome result (λ number. number ≤ max_log_lines + 1) }
 {
@@ -80,14 +82,14 @@ fn print_lines(console: &mut Console, packing: bool, text: &[u8], first: usize) 
     while from < text.len() {
         let run = print_run(
             console,
-            packing,
+            direction,
             &text[from..],
             limits::MAX_LOG_LINES + 1 - number,
         );
         from += run.next;
         number += run.count;
         if run.stopped | ((from < text.len()) & (limits::MAX_LOG_LINES < number)) {
-            refuse(console, packing, number, &text[from..]);
+            refuse(console, direction, number, &text[from..]);
             return None;
         }
     }
@@ -96,7 +98,7 @@ fn print_lines(console: &mut Console, packing: bool, text: &[u8], first: usize) 
 
 // burgee log show FILE
 // burgee log pack FILE
-pub fn convert(console: &mut Console, packing: bool, argument: usize) {
+pub fn convert(console: &mut Console, direction: Direction, argument: usize) {
     let Some(mut source) = input::open(console, argument) else {
         return;
     };
@@ -113,13 +115,13 @@ pub fn convert(console: &mut Console, packing: bool, argument: usize) {
         }
         to = got.count;
         from = cli_parts::whole_length(&buf[..to]);
-        let Some(after) = print_lines(console, packing, &buf[..from], number) else {
+        let Some(after) = print_lines(console, direction, &buf[..from], number) else {
             return;
         };
         number = after;
-        if (to < cli_parts::ROOM) | (longest(packing) <= to - from) {
+        if (to < cli_parts::ROOM) | (longest(direction) <= to - from) {
             if from < to {
-                refuse(console, packing, number, &buf[from..to]);
+                refuse(console, direction, number, &buf[from..to]);
             }
             return;
         }

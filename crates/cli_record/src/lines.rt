@@ -8,6 +8,7 @@ use text_make::Text;
 // Room for the lines.
 const ROOM: usize = 128;
 
+// The kind and the rotation are told in words of their own: what the two have in common is the test.
 fn add_kind(kind: u32, text: &mut Text<ROOM>)
     requires { length text.old + 12 ≤ ROOM }
     ensures added { text.new ≡ text.old ++ kind_line kind }

@@ -20,8 +20,8 @@ const ROOM: usize = WORD_ROOM + 64;
 // How many bytes are copied at once.
 const COPY_ROOM: usize = 65536;
 
-// A new file beside the one that is saved: whether it may take another's place, the argument that names that one, the number in its own name, and the
-// folder of both.
+// A new file beside the one that is saved: whether it may take another's place (the rest holds in either case), the argument that names that one, the
+// number in its own name, and the folder of both.
 #[derive(Drop)]
 pub struct Beside {
     pub may_replace: bool,
@@ -37,7 +37,7 @@ pub struct Saving {
     pub file: File,
 }
 
-// What stands at a name.
+// What stands at a name: each is met in its own way.
 #[derive(Drop)]
 enum Place {
     Free,

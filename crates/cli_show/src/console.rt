@@ -4,7 +4,7 @@ use crate::marks::Outcome;
 #[derive(Drop)]
 pub struct Console {
     pub rt: HostRuntime,
-    // Whether standard output still takes what is written.
+    // Whether standard output still takes what is written; the rest goes on where it does not.
     pub is_open: bool,
     // The worst that was told.
     pub outcome: Outcome,

@@ -2,6 +2,7 @@
 use crate::console::Console;
 use std::process::ExitCode;
 
+// Three steps, each worse than the one before: what counts is their order.
 #[derive(Clone, Copy, PartialEq, Eq, PartialOrd, Ord)]
 pub enum Outcome {
     Answered,

@@ -17,6 +17,8 @@ use Rattle.table_line.specs.Lines.{lines}
 use Rattle.table.specs.Text.{check}
 use Rattle.table.specs.declared.Checked.{Checked}
 use Rattle.table.specs.declared.Checked.TheVariants as checked
+use Rattle.readable_parts.specs.declared.Direction.TheVariants.{Show, Pack}
+use Rattle.readable_lines.specs.declared.Source.TheVariants.{Table}
 use Rattle.readable_lines.specs.Lines.{shown_line, packed_line, shown_for, packed_for, line_by}
 use Rattle.readable.specs.Texts.{onward, ending, storing, stored, shown_as, show_answer, show_lent, made_answer, made_lent, pack_answer, pack_lent, packed_end, packed_table}
 use Rattle.readable.specs.Converted.{Converted}
@@ -39,7 +41,7 @@ module _ (t : Str) (out : List ℕ) (c : Checked) (i : c ≡ check t) where
   unfolding show_answer show_lent
   show_refused n l g = let h : check t ≡ checked.Refused n l = sym i ∙ g in (rw h, rw h)
 
-  module _ (g : c ≡ checked.Accepted) (out' : List ℕ) (e : Ended) (x : e ≡ ending (line_by false false) (length out) 1 0 (lines t)) (y : out' ≡ put out 0 (stored (line_by false false) (length out) 0 (lines t))) where
+  module _ (g : c ≡ checked.Accepted) (out' : List ℕ) (e : Ended) (x : e ≡ ending (line_by Table Show) (length out) 1 0 (lines t)) (y : out' ≡ put out 0 (stored (line_by Table Show) (length out) 0 (lines t))) where
     pub show_ended : (r : Converted) → r ≡ shown_as e → (r ≡ show_answer (check t) t out) × (out' ≡ show_lent (check t) t out)
     unfolding show_answer show_lent line_by shown_for shown_line whether◌then◌else◌
     show_ended r k = let h : check t ≡ checked.Accepted = sym i ∙ g in (k ∙ rw (h, x), rw h y)
@@ -93,7 +95,7 @@ module _ (g : Str → Option Str) (room : ℕ) where
           rw (j, u) (omega (arith, r.0, length-append w (stored g room (at + length w) ls)), r.1))
           (λ u. let k' : ended.Full ≡ ended.All m = rw u at k in let z : ◌≡◌ {A = ℕ} 0 1 = cc in absurd (omega arith))
 
-module _ (text : Str) (out z table : List ℕ) (e : Ended) (x : e ≡ ending (line_by false true) (length z) 1 0 (lines text)) (y : table ≡ put z 0 (stored (line_by false true) (length z) 0 (lines text))) (l : length z ≡ max_table_text) where
+module _ (text : Str) (out z table : List ℕ) (e : Ended) (x : e ≡ ending (line_by Table Pack) (length z) 1 0 (lines text)) (y : table ≡ put z 0 (stored (line_by Table Pack) (length z) 0 (lines text))) (l : length z ≡ max_table_text) where
   end_is : packed_end text ≡ e
   unfolding packed_end line_by packed_for packed_line whether◌then◌else◌
   end_is = sym (rw l at x)
@@ -107,8 +109,8 @@ module _ (text : Str) (out z table : List ℕ) (e : Ended) (x : e ≡ ending (li
   pack_full g = (rw (end_is, g), rw (end_is, g))
 
   module _ (n : ℕ) (g : e ≡ ended.All n) where
-    sizes : (n ≡ 0 + length (stored (line_by false true) (length z) 0 (lines text))) × (n ≤ length z)
-    sizes = stored_length (line_by false true) (length z) (lines text) 1 0 n (omega arith) (sym x ∙ g)
+    sizes : (n ≡ 0 + length (stored (line_by Table Pack) (length z) 0 (lines text))) × (n ≤ length z)
+    sizes = stored_length (line_by Table Pack) (length z) (lines text) 1 0 n (omega arith) (sym x ∙ g)
 
     pub pack_size : n ≤ max_table_text
     pack_size = omega (arith, sizes.1)

@@ -1,12 +1,16 @@
 #![tactic(auto)]
 
 // The readable form of a rule table: `show` makes it, `pack` makes the table's text of it.
-ghost use Rattle.std.specs.Prelude.{◌≡◌, false, ◌≤◌, ◌<◌, length};
+ghost use Rattle.std.specs.Prelude.{◌≡◌, ◌≤◌, ◌<◌, length};
 ghost use Rattle.limits.specs.Limits.{max_table_text};
+ghost use Rattle.readable_parts.specs.declared.Direction.TheVariants.{Show};
+ghost use Rattle.readable_lines.specs.declared.Source.TheVariants.{Table};
 ghost use Rattle.readable_lines.specs.Lines.{line_by};
 ghost use Rattle.readable.specs.Texts.{Converts, Shows, Makes, Packs, ended_of, converted_of};
 
 use path_read::reader::Stored;
+use readable_lines::Source;
+use readable_parts::Direction;
 use table::Checked;
 
 // Why nothing was made of a text.
@@ -29,16 +33,17 @@ pub enum Stopped {
 }
 
 // Converts the lines one after another into out.
-fn convert_lines(packing: bool, text: &[u8], out: &mut [u8]) -> Result<usize, Stopped>
-    requires { packing ≡ false → length text.now ≤ max_table_text }
-    ensures { Converts (line_by false packing) text.now out.old out.new (ended_of result) }
+fn convert_lines(direction: Direction, text: &[u8], out: &mut [u8]) -> Result<usize, Stopped>
+    requires { direction ≡ Show → length text.now ≤ max_table_text }
+    ensures { Converts (line_by Table direction) text.now out.old out.new (ended_of result) }
 {
     let mut piece = [0u8; readable_lines::MAX_MADE_LINE];
     let mut from = 0;
     let mut at = 0;
     let mut number = 1;
+    // where the next line starts is known once this one is converted, so no iterator goes over them
     while from < text.len() {
-        let line = readable_lines::convert_line(false, packing, text, from, &mut piece);
+        let line = readable_lines::convert_line(Source::Table, direction, text, from, &mut piece);
         let Some(Stored { next, end }) = line else {
             return Err(Stopped::Unread { line: number });
         };
@@ -61,7 +66,7 @@ pub fn show(table: &[u8], out: &mut [u8]) -> Result<usize, Unconverted>
     if let Checked::Refused { number, line } = c {
         return Err(Unconverted::Refused { number, line });
     }
-    match convert_lines(false, table, out) {
+    match convert_lines(Direction::Show, table, out) {
         Ok(n) => Ok(n),
         Err(Stopped::Unread { line }) => Err(Unconverted::Unread { line }),
         Err(Stopped::Full) => Err(Unconverted::NoRoom),
@@ -88,7 +93,7 @@ pub fn pack(text: &[u8], out: &mut [u8]) -> Result<usize, Unconverted>
     ensures { Packs text.now out.old out.new (converted_of result) }
 {
     let mut table = [0u8; limits::MAX_TABLE_TEXT];
-    match convert_lines(true, text, &mut table) {
+    match convert_lines(Direction::Pack, text, &mut table) {
         Ok(n) => hand_out(&table[..n], out),
         Err(Stopped::Unread { line }) => Err(Unconverted::Unread { line }),
         Err(Stopped::Full) => Err(Unconverted::Refused { number: 1, line: 0 }),

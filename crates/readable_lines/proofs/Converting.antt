@@ -27,6 +27,7 @@ use Rattle.table.specs.Frame.{unknown, whole}
 use Rattle.readable_parts.specs.Parts.{Parts, part_of}
 use Rattle.readable_lines.specs.Form.{parts, form_by, request_form, printed, shown_by, shown_frame, kind_by, packed_by, packed_frame}
 use Rattle.readable_parts.specs.Steps.{longest, Puts, puts, stops}
+use Rattle.readable_parts.specs.declared.Direction.TheVariants.{Show, Pack}
 use Rattle.readable_lines.specs.Steps.{max_made_frame, parts_by, room_for, Fills, fills, nothing, closed, kind_said}
 use Rattle.readable_parts.proofs.Stored.{put_to, put_not, front}
 
@@ -179,7 +180,7 @@ pub frame_empty : (f : Str) → length f ≤ 0 → shown_frame f ≡ none
 frame_empty [] h = unfold shown_frame shown_by form_by whether◌then◌else◌ unknown whole printed in refl
 frame_empty (x ∷ f) h = absurd (omega arith)
 
-module _ (f : Str) {d d' : List ℕ} {q : MaybeStored} (e : Puts max_readable_line (form_by (parts_by false) (get_or f 0 0)) f 1 d 0 d' q) where
+module _ (f : Str) {d d' : List ℕ} {q : MaybeStored} (e : Puts max_readable_line (form_by (parts_by Show) (get_or f 0 0)) f 1 d 0 d' q) where
   pub frame_unread : q ≡ None → shown_frame f ≡ none
   unfolding shown_frame parts_by whether◌then◌else◌
   frame_unread g = shown_unread _ f 1 e g
@@ -218,7 +219,7 @@ module _ (r : Reader Str) (s : Str) where
 
 module _ (s : Str) where
   -- the kind byte before what is packed
-  kinded : (k : ℕ) → k ≡ kind_by (get_or s 0 0) → {o : Option Str} → packed_by (form_by (parts_by true) k) s ≡ o → packed_frame s ≡ map (λ (f : Str). k ∷ f) o
+  kinded : (k : ℕ) → k ≡ kind_by (get_or s 0 0) → {o : Option Str} → packed_by (form_by (parts_by Pack) k) s ≡ o → packed_frame s ≡ map (λ (f : Str). k ∷ f) o
   unfolding packed_frame parts_by whether◌then◌else◌
   kinded k i e = rw (← i, e)
 
@@ -236,7 +237,7 @@ module _ (s : Str) where
   unfolding packed_by form_by whole whether◌then◌else◌ unknown
   line_kindless i = kinded 0 i {o = none} (by (all is_print s) (λ u. rw u refl) (λ u. rw u refl))
 
-  module _ (a : all is_print s ≡ true) (k : ℕ) (i : k ≡ kind_by (get_or s 0 0)) (d d' : List ℕ) (r : MaybeStored) (e : Puts max_readable_line (form_by (parts_by true) k) s 0 d 1 d' r) where
+  module _ (a : all is_print s ≡ true) (k : ℕ) (i : k ≡ kind_by (get_or s 0 0)) (d d' : List ℕ) (r : MaybeStored) (e : Puts max_readable_line (form_by (parts_by Pack) k) s 0 d 1 d' r) where
     pub line_unread : r ≡ None → packed_frame s ≡ none
     line_unread g = kinded k i (packed_unread _ s a e g)
 

@@ -1,10 +1,14 @@
 -- A line of a table or of a log, and its readable line.
-use Rattle.std.specs.Prelude.{◌-◌, Bool, [], ◌∷◌, ◌++◌, eqb, length, take, get_or}
+use Rattle.std.specs.Prelude.{◌-◌, [], ◌∷◌, ◌++◌, eqb, length, take, get_or}
 use Rattle.std.proofs.Math.Option.{Option, none, some, bind, map}
 use Rattle.text.specs.Test.{whether◌then◌else◌}
 use Rattle.text.specs.String.{Str}
 use Rattle.table_line.specs.Lines.{frame}
 use Rattle.readable_parts.specs.Parts.{hex_text}
+use Rattle.readable_parts.specs.declared.Direction.{Direction}
+use Rattle.readable_parts.specs.declared.Direction.TheVariants.{Show, Pack}
+use Rattle.readable_lines.specs.declared.Source.{Source}
+use Rattle.readable_lines.specs.declared.Source.TheVariants.{Table, Log}
 use Rattle.readable_lines.specs.Form.{shown_frame, packed_frame}
 use Rattle.readable_lines.specs.Request.{shown_request, packed_request}
 
@@ -43,12 +47,15 @@ packed_log_line = packed_line_by packed_request
 
 -- ---- any of the four, for programs
 
--- of a log, or of a table
-unfoldable pub shown_for : Bool → (Str → Option Str)
-shown_for log = whether log then shown_request else shown_frame
+-- of a table, or of a log
+unfoldable pub shown_for : Source → (Str → Option Str)
+shown_for Table = shown_frame
+shown_for Log = shown_request
 
-unfoldable pub packed_for : Bool → (Str → Option Str)
-packed_for log = whether log then packed_request else packed_frame
+unfoldable pub packed_for : Source → (Str → Option Str)
+packed_for Table = packed_frame
+packed_for Log = packed_request
 
-unfoldable pub line_by : Bool → Bool → (Str → Option Str)
-line_by log packing = whether packing then packed_line_by (packed_for log) else shown_line_by (shown_for log)
+unfoldable pub line_by : Source → Direction → (Str → Option Str)
+line_by source Show = shown_line_by (shown_for source)
+line_by source Pack = packed_line_by (packed_for source)

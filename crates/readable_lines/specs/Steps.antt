@@ -1,5 +1,5 @@
 -- The answers of the programs that convert line by line, said of what is read there.
-use Rattle.std.specs.Prelude.{ℕ, ◌+◌, ◌*◌, ◌≤◌, ◌<◌, ◌≡◌, Bool, List, [], ◌∷◌, eqb, length, take, drop, Some, None}
+use Rattle.std.specs.Prelude.{ℕ, ◌+◌, ◌*◌, ◌≤◌, ◌<◌, ◌≡◌, List, [], ◌∷◌, eqb, length, take, drop, Some, None}
 use Rattle.std.proofs.Math.Option.{Option, none, some}
 use Rattle.limits.specs.Sizes.{max_readable_line}
 use Rattle.text.specs.Test.{◌and◌, whether◌then◌else◌, all}
@@ -12,6 +12,8 @@ use Rattle.path_read.specs.Steps.{MaybeStored, reached}
 use Rattle.std.specs.Prelude as program
 use Rattle.readable_parts.specs.Parts.{Parts, shown, packed}
 use Rattle.readable_parts.specs.Steps.{longest}
+use Rattle.readable_parts.specs.declared.Direction.{Direction}
+use Rattle.readable_parts.specs.declared.Direction.TheVariants.{Show, Pack}
 
 -- a frame that is made of a readable line: its kind byte, and its parts
 abbrev pub max_made_frame : ℕ
@@ -22,8 +24,9 @@ abbrev pub max_made_line : ℕ
 max_made_line = 2 * max_made_frame + 1
 
 -- the readers for either direction
-unfoldable pub parts_by : Bool → Parts
-parts_by packing = whether packing then packed else shown
+unfoldable pub parts_by : Direction → Parts
+parts_by Show = shown
+parts_by Pack = packed
 
 -- the longest that such parts can be
 unfoldable pub room_for : Str → ℕ

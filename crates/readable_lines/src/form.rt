@@ -7,10 +7,11 @@ ghost use Rattle.readable_parts.specs.Steps.{longest, Puts};
 ghost use Rattle.readable_lines.specs.Steps.{max_made_frame, parts_by, room_for, Fills, closed, kind_said};
 
 use path_read::reader::Stored;
+use readable_parts::Direction;
 
-// The part that c names, packed or shown.
+// The part that c names.
 fn convert_part(
-    packing: bool,
+    direction: Direction,
     c: u8,
     s: &[u8],
     at: usize,
@@ -18,17 +19,17 @@ fn convert_part(
     to: usize,
 ) -> Option<Stored>
     requires { (to + longest c ≤ length out.old) × (at ≤ length s.now) }
-    ensures { Puts (longest c) (part_of (parts_by packing) c) s.now at out.old to out.new result }
+    ensures { Puts (longest c) (part_of (parts_by direction) c) s.now at out.old to out.new result }
 {
-    if packing {
-        return readable_packed::part(c, s, at, out, to);
+    match direction {
+        Direction::Show => readable_parts::shown::part(c, s, at, out, to),
+        Direction::Pack => readable_packed::part(c, s, at, out, to),
     }
-    readable_parts::shown::part(c, s, at, out, to)
 }
 
 // The parts that the form names, one after another.
 pub fn convert_parts(
-    packing: bool,
+    direction: Direction,
     form: &[u8],
     s: &[u8],
     at: usize,
@@ -36,19 +37,19 @@ pub fn convert_parts(
     to: usize,
 ) -> Option<Stored>
     requires { (to + room_for form.now ≤ length out.old) × (at ≤ length s.now) }
-    ensures { Puts (room_for form.now) (parts (parts_by packing) form.now)
+    ensures { Puts (room_for form.now) (parts (parts_by direction) form.now)
         s.now at out.old to out.new result }
 {
     let mut done = Stored { next: at, end: to };
     for c in form {
-        done = convert_part(packing, *c, s, done.next, out, done.end)?;
+        done = convert_part(direction, *c, s, done.next, out, done.end)?;
     }
     Some(done)
 }
 
 // The parts of a frame of that kind.
 fn by_kind(
-    packing: bool,
+    direction: Direction,
     kind: u8,
     s: &[u8],
     at: usize,
@@ -56,13 +57,13 @@ fn by_kind(
     to: usize,
 ) -> Option<Stored>
     requires { (to + max_readable_line ≤ length out.old) × (at ≤ length s.now) }
-    ensures { Puts max_readable_line (form_by (parts_by packing) kind) s.now at out.old to out.new result }
+    ensures { Puts max_readable_line (form_by (parts_by direction) kind) s.now at out.old to out.new result }
 {
     match kind {
-        1 => convert_parts(packing, b"version S time T", s, at, out, to),
-        2 => convert_parts(packing, b"group S", s, at, out, to),
-        3 => convert_parts(packing, b"member S S", s, at, out, to),
-        4 => convert_parts(packing, b"rule A M K S id S origin S P", s, at, out, to),
+        1 => convert_parts(direction, b"version S time T", s, at, out, to),
+        2 => convert_parts(direction, b"group S", s, at, out, to),
+        3 => convert_parts(direction, b"member S S", s, at, out, to),
+        4 => convert_parts(direction, b"rule A M K S id S origin S P", s, at, out, to),
         _ => None,
     }
 }
@@ -90,7 +91,7 @@ pub fn show_frame(f: &[u8], out: &mut [u8]) -> Option<usize>
     if f.len() == 0 {
         return None;
     }
-    let shown = by_kind(false, f[0], f, 1, out, 0)?;
+    let shown = by_kind(Direction::Show, f[0], f, 1, out, 0)?;
     close_shown(shown, f.len(), out)
 }
 
@@ -120,7 +121,7 @@ pub fn pack_frame(s: &[u8], out: &mut [u8]) -> Option<usize>
         return None;
     }
     let kind = kind_by(s[0])?;
-    let Stored { next, end } = by_kind(true, kind, s, 0, out, 1)?;
+    let Stored { next, end } = by_kind(Direction::Pack, kind, s, 0, out, 1)?;
     if next != s.len() {
         return None;
     }

@@ -7,6 +7,7 @@ ghost use Rattle.readable_lines.specs.Steps.{max_made_frame, Fills};
 
 use crate::form;
 use path_read::reader::Stored;
+use readable_parts::Direction;
 
 // Whether the frame holds a good request.
 fn is_good(f: &[u8]) -> bool
@@ -26,7 +27,7 @@ pub fn show_request(f: &[u8], out: &mut [u8]) -> Option<usize>
     if !is_good(f) {
         return None;
     }
-    let shown = form::convert_parts(false, b"M S origin S P", f, 0, out, 0)?;
+    let shown = form::convert_parts(Direction::Show, b"M S origin S P", f, 0, out, 0)?;
     form::close_shown(shown, f.len(), out)
 }
 
@@ -38,7 +39,14 @@ pub fn pack_request(s: &[u8], out: &mut [u8]) -> Option<usize>
     if !text::string::all_print(s) {
         return None;
     }
-    let Stored { next, end } = form::convert_parts(true, b"M S origin S P", s, 0, out, 0)?;
+    let Stored { next, end } = form::convert_parts(
+        Direction::Pack,
+        b"M S origin S P",
+        s,
+        0,
+        out,
+        0,
+    )?;
     if next != s.len() {
         return None;
     }

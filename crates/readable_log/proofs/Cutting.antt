@@ -2,18 +2,21 @@
 use Prim.Native.Nat.{ℕ, suc, ◌+◌, ◌-◌, ◌≤◌, ◌<◌}
 use native.Mathlib.Omega.{arith}
 use mathlib.Core.Path.{◌≡◌, refl, sym, ◌∙◌}
-use mathlib.Core.Bool.{Bool, true, false, not, ◌&&◌}
+use mathlib.Core.Bool.{true, false}
 use mathlib.Core.List.{List, [], ◌∷◌}
 use mathlib.Core.Option.{Option, none, some}
-use borrow.Author.Tests.{ltb-true, ltb-false, not-true}
+use borrow.Author.Tests.{ltb-true, ltb-false}
 use lib.Dec.{eqb, ltb}
 use lib.ListN.{length, take, drop, length-drop}
 use lib.Seq.{take_all, drop-drop, drop-length, length-take-le}
 use Rattle.limits.specs.Sizes.{max_log_line}
+use Rattle.readable_parts.specs.declared.Direction.{Direction}
+use Rattle.readable_parts.specs.declared.Direction.TheVariants.{Show, Pack}
+use Rattle.readable_lines.specs.declared.Source.TheVariants.{Log}
 use Rattle.text.specs.Test.{whether◌then◌else◌}
 use Rattle.text.specs.String.{Str}
 use Rattle.text.specs.Frame.{part}
-use Rattle.text.proofs.Tests.{by, and_left, and_right}
+use Rattle.text.proofs.Tests.{by}
 use Rattle.text_search.specs.Search.{until, is}
 use Rattle.text_search.proofs.Searching.{until_fits}
 use Rattle.table_line.specs.Lines.{lines, onto}
@@ -25,7 +28,7 @@ use Rattle.readable_lines.specs.Steps.{Lays, lays, fails}
 use Rattle.readable_lines.proofs.Lining.{unended_line}
 use Rattle.readable_lines.proofs.Stored.{laid_to, laid_not}
 use Rattle.readable_laws.proofs.LogLines.{shown_line_good, good_line_short}
-use Rattle.readable_log.specs.Run.{LineEnds}
+use Rattle.readable_log.specs.Run.{overlong, LineEnds}
 
 -- ---- where a line ends
 
@@ -108,13 +111,12 @@ too_long : (l : Str) → max_log_line < length l → (o : Option Str) → shown_
 too_long l h none e = refl
 too_long l h (some r) e = let q = shown_line_good l r e in absurd (omega (arith, good_line_short l q.0 q.1))
 
-module _ (packing : Bool) (n : ℕ) where
-  pub long_line : (not packing && ltb max_log_line n) ≡ true → (l : Str) → length l ≡ n → line_by true packing l ≡ none
-  unfolding line_by shown_for shown_log_line whether◌then◌else◌
-  long_line h l e =
-      let p : packing ≡ false = not-true packing (and_left _ _ h) in
-      let k : max_log_line < n = ltb-true _ _ (and_right (not packing) _ h) in
-      rw p (too_long l (omega arith) (shown_log_line l) refl)
+pub long_line : (d : Direction) (n : ℕ) → overlong d n ≡ true → (l : Str) → length l ≡ n → line_by Log d l ≡ none
+unfolding overlong line_by shown_for shown_log_line
+long_line Show n h l e = let k : max_log_line < n = ltb-true _ _ h in too_long l (omega arith) (shown_log_line l) refl
+long_line Pack n h l e = absurd (let y : ◌≡◌ {A = ℕ} 0 1 = cc in omega arith)
 
-  pub short_line : (not packing && ltb max_log_line n) ≡ false → packing ≡ false → n ≤ max_log_line
-  short_line h p = ltb-false max_log_line n (rw p at h)
+pub short_line : (d : Direction) (n : ℕ) → overlong d n ≡ false → d ≡ Show → n ≤ max_log_line
+unfolding overlong
+short_line Show n h p = ltb-false max_log_line n h
+short_line Pack n h p = grind arith

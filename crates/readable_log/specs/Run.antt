@@ -1,9 +1,12 @@
 -- What is answered of lines that were converted one after another.
-use Rattle.std.specs.Prelude.{ℕ, ◌≤◌, ◌<◌, ◌≡◌, true, false, List, [], ◌∷◌, ◌++◌, length, take, drop}
+use Rattle.std.specs.Prelude.{ℕ, ◌≤◌, ◌<◌, ◌≡◌, Bool, true, false, List, [], ◌∷◌, ◌++◌, ltb, length, take, drop}
 use Rattle.std.proofs.Math.Option.{Option, none, some}
+use Rattle.limits.specs.Sizes.{max_log_line}
 use Rattle.text.specs.String.{Str}
 use Rattle.text.specs.Frame.{part}
 use Rattle.table_line.specs.Lines.{lines}
+use Rattle.readable_parts.specs.declared.Direction.{Direction}
+use Rattle.readable_parts.specs.declared.Direction.TheVariants.{Show, Pack}
 use Rattle.readable_lines.specs.Steps.{max_made_line}
 use Rattle.readable_log.specs.declared.Run.{Run}
 
@@ -17,6 +20,11 @@ before (some w) (some v) = some (w ++ v)
 unfoldable pub converted : (Str → Option Str) → List Str → Option Str
 converted g [] = some []
 converted g (l ∷ ls) = before (g l) (converted g ls)
+
+-- a line of so many bytes is longer than any that can be shown; a readable one may be of any length
+unfoldable pub overlong : Direction → ℕ → Bool
+overlong Show n = ltb max_log_line n
+overlong Pack n = false
 
 -- the first line of the text from `from` on goes up to `end`
 pub record LineEnds (text : Str) (from end : ℕ) : Type 0 where

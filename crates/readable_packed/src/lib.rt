@@ -1,12 +1,14 @@
 #![tactic(auto)]
 
-// The parts of a readable line, as the bytes of a frame: each function stores the bytes of the part at `at` of s into out from `to` on.
+// The parts of a readable line, as the bytes of a frame: each function stores the bytes of the part at `at` of s into out from `to` on,
+// as those of readable_parts do.
 ghost use Rattle.std.specs.Prelude.{◌≡◌, ◌+◌, ◌≤◌, length};
 ghost use Rattle.limits.specs.Sizes.{max_quoted};
 ghost use Rattle.readable_parts.specs.Parts.{packed, part_of, stands_at, packed_string, packed_time, packed_code};
 ghost use Rattle.readable_parts.specs.Steps.{Puts, longest};
 
 use path_read::reader::Stored;
+use readable_parts::Direction;
 use table_line::Line;
 
 // In brackets.
@@ -88,7 +90,7 @@ pub fn part(c: u8, s: &[u8], at: usize, out: &mut [u8], to: usize) -> Option<Sto
     match c {
         b'S' => string(s, at, out, to),
         b'T' => time(s, at, out, to),
-        b'P' => readable_parts::ending::path(true, s, at, out, to),
+        b'P' => readable_parts::ending::path(Direction::Pack, s, at, out, to),
         b'A' => code(s, at, 0, b"deny", b"permit", out, to),
         b'M' => code(s, at, 1, b"read", b"write", out, to),
         b'K' => code(s, at, 0, b"user", b"group", out, to),

@@ -1,6 +1,6 @@
 -- A path with which a frame or a line ends: it is made in the part of the buffer where it is to stand.
 use mathlib.Core.Path.{◌≡◌, refl, sym, ap, ◌∙◌}
-use mathlib.Core.Bool.{Bool, true, false}
+use mathlib.Core.Bool.{true, false}
 use mathlib.Core.List.{List, [], ◌++◌, append-nil}
 use mathlib.Core.Option.{Option, none, some}
 use Prim.Native.Nat.{ℕ, ◌+◌, ◌-◌, ◌≤◌, ◌<◌}
@@ -21,6 +21,8 @@ use Rattle.path_read.specs.Filled.{Filled}
 use Rattle.path_read.specs.Filled.{Length, Refused}
 use Rattle.path_read.specs.Steps.{reached}
 use Rattle.readable_parts.specs.Parts.{rest, of_rest}
+use Rattle.readable_parts.specs.declared.Direction.{Direction}
+use Rattle.readable_parts.specs.declared.Direction.TheVariants.{Show, Pack}
 use Rattle.readable_parts.specs.Steps.{Puts, puts, path_for}
 
 -- what a call on path text answers
@@ -98,6 +100,6 @@ module _ (g : Str → Option Str) (s : Str) (at : ℕ) (i : at < length s) where
           ap (λ (z : List ℕ). take to d ++ (z ++ drop (length d - to) (drop to d))) (j ∙ a.4) ∙ part_put d to a.0 (omega arith) in
           puts {to = to} {end = to + n} (rest_is (some a.0) a.1) (record { ends = omega (arith, a.2); same = k }) (b (from s at) a.0 a.1) (omega arith)
 
-pub path_bound : (pack : Bool) (t w : Str) → path_for pack t ≡ some w → length w ≤ max_path_text
-path_bound true t w e = omega (arith, bytes_bound t w e)
-path_bound false t w e = text_bound t w e
+pub path_bound : (d : Direction) (t w : Str) → path_for d t ≡ some w → length w ≤ max_path_text
+path_bound Pack t w e = omega (arith, bytes_bound t w e)
+path_bound Show t w e = text_bound t w e

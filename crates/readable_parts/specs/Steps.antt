@@ -1,5 +1,5 @@
 -- The answers of the programs that convert part by part, said of what is read there.
-use Rattle.std.specs.Prelude.{ℕ, ◌≤◌, ◌≡◌, Bool, true, false, List, eqb, length, None}
+use Rattle.std.specs.Prelude.{ℕ, ◌≤◌, ◌≡◌, List, eqb, length, None}
 use Rattle.std.proofs.Math.Option.{Option}
 use Rattle.limits.specs.Sizes.{max_path_text, max_quoted}
 use Rattle.text.specs.Test.{whether◌then◌else◌}
@@ -8,6 +8,8 @@ use Rattle.text.specs.Frame.{got, unread, Reader}
 use Rattle.text.specs.Steps.{Wrote}
 use Rattle.path_read.specs.Calls.{bytes_for, text_for}
 use Rattle.path_read.specs.Steps.{MaybeStored, reached}
+use Rattle.readable_parts.specs.declared.Direction.{Direction}
+use Rattle.readable_parts.specs.declared.Direction.TheVariants.{Show, Pack}
 
 -- the longest that a part can be, as text or in a frame: a string in brackets, escaped; 16 digits; the longest path text; `permit`
 unfoldable pub longest : ℕ → ℕ
@@ -28,6 +30,6 @@ pub data Puts (most : ℕ) (r : Reader Str) (s : Str) (at : ℕ) : List ℕ → 
   stops : {d : List ℕ} {to : ℕ} {d' : List ℕ} → r s at ≡ unread → Puts most r s at d to d' None
 
 -- what is made of a path: the bytes of its text, or the text of its bytes
-abbrev pub path_for : Bool → Str → Option Str
-path_for true = bytes_for
-path_for false = text_for
+abbrev pub path_for : Direction → Str → Option Str
+path_for Pack = bytes_for
+path_for Show = text_for

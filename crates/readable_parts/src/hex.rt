@@ -1,4 +1,4 @@
-// Bytes as hex digits.
+// Bytes as hex digits. The theorems on readable texts speak of `hex_text`; a library's hex would need a lemma that it means the same, and is no shorter here.
 ghost use Rattle.std.specs.Prelude.{◌≡◌, ◌+◌, ◌≤◌, ◌<◌, length};
 ghost use Rattle.text.specs.Steps.{Wrote};
 ghost use Rattle.readable_parts.specs.Parts.{hex_digit, hex_text};

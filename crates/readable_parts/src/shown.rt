@@ -1,9 +1,11 @@
-// The parts of a frame, as text: each function stores the text of the part at `at` of f into out from `to` on.
+// The parts of a frame, as text: each function stores the text of the part at `at` of f into out from `to` on, and answers where it ended in both. The buffer
+// is lent by the caller of all; a writer that held it would be no plainer, since the answer has to say where the frame is read on too.
 ghost use Rattle.std.specs.Prelude.{◌+◌, ◌≤◌, length};
 ghost use Rattle.limits.specs.Sizes.{max_quoted};
 ghost use Rattle.readable_parts.specs.Parts.{shown, part_of, shown_string, shown_time, shown_code};
 ghost use Rattle.readable_parts.specs.Steps.{Puts, longest};
 
+use crate::Direction;
 use path_read::reader::Stored;
 
 // In brackets.
@@ -72,7 +74,7 @@ pub fn part(c: u8, f: &[u8], at: usize, out: &mut [u8], to: usize) -> Option<Sto
     match c {
         b'S' => string(f, at, out, to),
         b'T' => time(f, at, out, to),
-        b'P' => crate::ending::path(false, f, at, out, to),
+        b'P' => crate::ending::path(Direction::Show, f, at, out, to),
         b'A' => code(f, at, 0, b"deny", b"permit", out, to),
         b'M' => code(f, at, 1, b"read", b"write", out, to),
         b'K' => code(f, at, 0, b"user", b"group", out, to),

@@ -6,7 +6,7 @@ ghost use Rattle.rotation_probe.specs.Source.{source_of, source_as};
 use refusal::Refusal;
 use rotation::{Kind, Record};
 
-// A part of the store.
+// A part of the store. It is copied, as a Range is not.
 #[derive(Clone, Copy)]
 pub struct Part {
     pub start: usize,

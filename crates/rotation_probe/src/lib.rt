@@ -18,7 +18,8 @@ use verdict_concern::Asker;
 use verdict_judge::rules::Rules;
 use verdict_request::{PathAnswer, TreeAnswer};
 
-// Kind 2 without a text: as a table without rules, which denies all.
+// Kind 2 without a text: as a table without rules, which denies all. The same rules and asker stand in `factory_tree` too: a function that handed them out
+// would have to say in its contract all that is written here.
 fn factory_path(user: &[u8], mode: u32, origin: &[u8], path: &[u8]) -> Result<PathAnswer, Fault>
     ensures { path_answer_of result ≡ path_answer Accepted (request_refusal user.now mode origin.now path.now) none }
 {
@@ -56,7 +57,7 @@ fn factory_tree(user: &[u8], mode: u32, origin: &[u8], path: &[u8]) -> Result<Tr
     verdict_call::loaded::tree_answer(rules, asker, path)
 }
 
-// The action for one path.
+// The action for one path. What this and `probe_tree` share is `find_source`; the rest is the calls that differ.
 pub fn probe_path(
     r: Record,
     store: &[u8],

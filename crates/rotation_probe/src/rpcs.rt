@@ -8,7 +8,7 @@ ghost use Rattle.rotation_probe.specs.Rpc.{factory_rpc, probe_rpc};
 use rotation::{Kind, Record};
 use rpc::{Request, Verdict};
 
-// The answer of an RPC probe.
+// The answer of an RPC probe: an answer without a text, one by a text, or a refusal.
 #[derive(Clone, Copy)]
 pub enum RpcAnswer {
     // Without a text: everything is permitted, and no rule named.

@@ -1,15 +1,15 @@
 -- `pack` answers and leaves what the definitions say.
 use native.Mathlib.Omega.{arith}
-use mathlib.Core.Path.{refl, sym, ap, ◌∙◌}
+use Prim.Native.Nat.{ℕ}
+use mathlib.Core.Path.{◌≡◌, sym, ap, ◌∙◌}
 use lib.Seq.{length-take-le}
-use Rattle.text.proofs.Tests.{clash}
 use Rattle.std.specs.Prelude.{Err}
 use Rattle.readable.specs.Texts.{ended_of}
 use Rattle.readable.proofs.Calling.{pack_unread, pack_full, pack_size, pack_made}
 use Rattle.readable.proofs.pack.Goals as goal
 
 pub convert_lines-requires : goal.convert_lines-requires
-convert_lines-requires c = λ z. clash refl z
+convert_lines-requires c = λ z. let y : ◌≡◌ {A = ℕ} 0 1 = cc in omega (arith, y)
 
 pub slice_bounds-table-end : goal.slice_bounds-table-end
 slice_bounds-table-end c =

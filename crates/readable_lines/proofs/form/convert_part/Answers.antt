@@ -1,13 +1,11 @@
 -- `convert_part` goes by the direction.
-use Rattle.text.specs.Test.{whether◌then◌else◌}
 use Rattle.readable_lines.specs.Steps.{parts_by}
 use Rattle.readable_lines.proofs.form.convert_part.Goals as goal
 
-pub returns-then-packing : goal.returns-then-packing
-unfolding parts_by whether◌then◌else◌
-returns-then-packing c = rw c.if-packing.true c.part.ensures
+pub returns-in-Show : goal.returns-in-Show
+unfolding parts_by
+returns-in-Show c = rw c.in-Show.is c.part.ensures
 
-pub returns : goal.returns
-unfolding parts_by whether◌then◌else◌
-returns c =
-    rw c.if-packing.false c.part-2.ensures
+pub returns-in-Pack : goal.returns-in-Pack
+unfolding parts_by
+returns-in-Pack c = rw c.in-Pack.is c.part-in-Pack.ensures

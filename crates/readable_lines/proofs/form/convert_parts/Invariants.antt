@@ -5,4 +5,4 @@ use Rattle.readable_lines.proofs.form.convert_parts.Given as goal
 
 -- The parts of the form before the index are converted, as far as `done` says. Those from there on, read from `done.next` on, complete the line.
 abbrev pub invariant-loop-c : goal.invariant-loop-c
-invariant-loop-c l = Going (parts_by l.packing) l.form l.s l.at l.initial.out l.to l.c-index l.done.next l.out l.done.end
+invariant-loop-c l = Going (parts_by l.direction) l.form l.s l.at l.initial.out l.to l.c-index l.done.next l.out l.done.end

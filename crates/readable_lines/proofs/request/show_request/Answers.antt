@@ -6,6 +6,7 @@ use borrow.Author.Tests.{not-true, not-false}
 use Rattle.text.specs.Test.{whether◌then◌else◌}
 use Rattle.readable_parts.proofs.Stored.{put_by}
 use Rattle.readable_lines.specs.Form.{parts, request_form}
+use Rattle.readable_parts.specs.declared.Direction.TheVariants.{Show}
 use Rattle.readable_lines.specs.Steps.{parts_by, nothing}
 use Rattle.readable_lines.proofs.Converting.{room_request, shown_room, shown_unread, shown_fills}
 use Rattle.readable_lines.proofs.Requests.{request_bad, request_shown}
@@ -21,7 +22,7 @@ convert_parts-requires c =
 
 pub close_shown-requires : goal.close_shown-requires
 close_shown-requires c =
-    shown_room (parts (parts_by false) request_form) _ _ (put_by _ _ c.convert_parts.ensures refl room_request) c.in_ok-shown.was c.requires
+    shown_room (parts (parts_by Show) request_form) _ _ (put_by _ _ c.convert_parts.ensures refl room_request) c.in_ok-shown.was c.requires
 
 pub returns : goal.returns
 unfolding parts_by whether◌then◌else◌
