@@ -7,7 +7,6 @@ ghost use Rattle.readable_lines.specs.Lines.{line_by};
 ghost use Rattle.readable.specs.Texts.{Converts, Shows, Makes, Packs, ended_of, converted_of};
 
 use path_read::reader::Stored;
-use table::Checked;
 
 // Why nothing was made of a text.
 #[derive(Clone, Copy, Debug, PartialEq, Eq)]
@@ -58,8 +57,11 @@ pub fn show(table: &[u8], out: &mut [u8]) -> Result<usize, Unconverted>
     ensures { Shows table.now out.old out.new (converted_of result) }
 {
     let c = table_check::check_table(table);
-    if let Checked::Refused { number, line } = c {
-        return Err(Unconverted::Refused { number, line });
+    if let Err(fault) = c {
+        return Err(Unconverted::Refused {
+            number: fault.refusal.number(),
+            line: fault.line,
+        });
     }
     match convert_lines(false, table, out) {
         Ok(n) => Ok(n),
@@ -73,8 +75,11 @@ fn hand_out(table: &[u8], out: &mut [u8]) -> Result<usize, Unconverted>
     ensures { Makes table.now out.old out.new (converted_of result) }
 {
     let c = table_check::check_table(table);
-    if let Checked::Refused { number, line } = c {
-        return Err(Unconverted::Refused { number, line });
+    if let Err(fault) = c {
+        return Err(Unconverted::Refused {
+            number: fault.refusal.number(),
+            line: fault.line,
+        });
     }
     if out.len() < table.len() {
         return Err(Unconverted::NoRoom);

@@ -6,7 +6,7 @@ use Rattle.text.specs.String.{Str}
 use Rattle.table.specs.Frame.{Entry, entry_of}
 use Rattle.table.specs.Refusal.{Earlier, with}
 use Rattle.table.specs.Text.{check, table_of}
-use Rattle.table.specs.declared.Checked.TheVariants as checked
+use Rattle.table.specs.Checked as checked
 use Rattle.table_load.specs.declared.row.Counts.{Counts}
 use Rattle.table_load.specs.declared.row.Sets.{Sets}
 use Rattle.table_load.specs.declared.loaded.Table.{Table}

@@ -14,7 +14,7 @@ pub mod row;
 
 pub use loaded::Table;
 
-// Reads the text line by line, and stops at the first faulty line.
+// Reads the text line by line, and stops at the first faulty line. The lines end where they end, so none can be numbered before it is read.
 pub fn load(text: &[u8], table: &mut Table) -> Result<(), Fault>
     ensures { Outcome text.now result table.new }
 {
