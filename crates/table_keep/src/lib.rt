@@ -15,7 +15,7 @@ use refusal::Refusal;
 pub mod lookup;
 pub mod row;
 
-pub use lookup::{Lookup, GroupNames, HINT_PLACES};
+pub use lookup::{GroupNames, HINT_PLACES, Lookup};
 pub use row::Row;
 
 // The set of members: sorted keys, their count, and a place for each hash.

@@ -37,9 +37,12 @@ pub fn load(text: &[u8], table: &mut Table) -> Result<(), Fault>
     let mut from = 0;
     let mut line = 1;
     while from < text.len() {
-        let Some(Line { len, next }) =
-            table_line::read_line(text, from, &mut table.frames, table.used)
-        else {
+        let Some(Line { len, next }) = table_line::read_line(
+            text,
+            from,
+            &mut table.frames,
+            table.used,
+        ) else {
             return Err(Fault::at(Refusal::NotHexLine, line));
         };
         let end = table.used + len;
