@@ -55,6 +55,7 @@ SPOKEN = {
     ("rotation_probe/Answer", "answer_of"),
     ("rpc/Answer", "decision_of"),
     ("rpc/Answer", "answer_of"),
+    ("table/Checked", "checked_as"),
     ("table/Counted", "counted_as"),
 }
 DECLARED = re.compile(r"^ *(unfoldable |abbrev |pub (record|data) |(record|data) \S.* where$)")

@@ -4,6 +4,7 @@ ghost use Rattle.std.specs.Prelude.{◌≡◌};
 ghost use Rattle.path_read.specs.Calls.{filled_of};
 ghost use Rattle.verdict_request.specs.Answers.{path_answer_of, tree_answer_of};
 ghost use Rattle.burgee.specs.Word.{refusal_word, filled_word, checked_word, counted_word, path_word, tree_word, reported_word};
+ghost use Rattle.table.specs.Checked.{checked_as};
 ghost use Rattle.table.specs.Counted.{counted_as};
 ghost use Rattle.burgee.specs.Word.{policy_word, rpc_word, rpc_probe_word};
 ghost use Rattle.refusal.specs.Refusal.{code};
@@ -15,7 +16,7 @@ use refusal::{Fault, Refusal};
 use rotation_probe::rpcs::RpcAnswer;
 use rpc::Verdict;
 use season::Reported;
-use table::{Checked, Groups};
+use table::Groups;
 use verdict_request::{PathAnswer, TreeAnswer};
 
 pub fn of_refusal(number: u8, line: usize) -> u64
@@ -33,12 +34,12 @@ pub fn of_filled(f: Result<usize, Refusal>) -> u64
     }
 }
 
-pub fn of_checked(c: Checked) -> u64
-    ensures { result ≡ checked_word c }
+pub fn of_checked(c: Result<(), Fault>) -> u64
+    ensures { result ≡ checked_word (checked_as c) }
 {
     match c {
-        Checked::Accepted => 0,
-        Checked::Refused { number, line } => of_refusal(number, line),
+        Ok(()) => 0,
+        Err(fault) => of_refusal(fault.refusal.number(), fault.line),
     }
 }
 

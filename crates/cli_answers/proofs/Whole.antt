@@ -19,8 +19,8 @@ use Rattle.table.specs.Table as table
 use Rattle.table.specs.Frame.{Entry, version, group, member, rule}
 use Rattle.table.specs.Refusal.{Line, not_hex, unreadable, reads, line_of, Earlier, unsized_short, past_limit, refusal, first, with, after}
 use Rattle.table.specs.Text.{unless, judge, check, all_told, table as table_from, table_of}
-use Rattle.table.specs.declared.Checked.{Checked}
-use Rattle.table.specs.declared.Checked.TheVariants.{Accepted, Refused}
+use Rattle.table.specs.Checked.{Checked}
+use Rattle.table.specs.Checked.{Accepted, Refused}
 use Rattle.table.proofs.Numbers.{refusal_clear}
 use Rattle.table_facts.specs.Facts.{name_of}
 use Rattle.table_facts.specs.declared.Row.{Row}

@@ -3,7 +3,7 @@ use Rattle.std.specs.Prelude.{◌≡◌, ◌++◌}
 use Rattle.text.specs.String.{Str}
 use Rattle.table.specs.Text.{check, table_of}
 use Rattle.table.specs.Group.{groups_of}
-use Rattle.table.specs.declared.Checked.TheVariants.{Accepted}
+use Rattle.table.specs.Checked.{Accepted}
 use Rattle.cli_answers.specs.Rows.{group_lines}
 
 -- a line for each of them was added to d, if the table is accepted

@@ -6,7 +6,7 @@ use Rattle.limits.specs.Limits.{max_string}
 use Rattle.text.specs.String.{Str}
 use Rattle.table.specs.Table.{Rule}
 use Rattle.table.specs.Text.{check, table_of}
-use Rattle.table.specs.declared.Checked.TheVariants.{Accepted}
+use Rattle.table.specs.Checked.{Accepted}
 use Rattle.table_facts.specs.Facts.{name_of}
 use Rattle.table_facts.specs.declared.Row.TheVariants as row
 use Rattle.cli_answers.proofs.Whole.{whole, whole_names}

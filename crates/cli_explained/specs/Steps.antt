@@ -6,7 +6,7 @@ use Rattle.text.specs.String.{Str}
 use Rattle.path.specs.Path.{Path}
 use Rattle.path_read.specs.TextReader.{read_text}
 use Rattle.table.specs.Text.{check, table_of}
-use Rattle.table.specs.declared.Checked.TheVariants.{Accepted}
+use Rattle.table.specs.Checked.{Accepted}
 use Rattle.verdict_judge.specs.Rules.{Placed}
 use Rattle.verdict_request.specs.Calls.{asked}
 use Rattle.verdict_explain.specs.Ranking.{RuleNumbers}

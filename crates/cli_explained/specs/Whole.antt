@@ -3,7 +3,7 @@ use Rattle.std.specs.Prelude.{ℕ, ◌≡◌}
 use Rattle.limits.specs.Limits.{max_string}
 use Rattle.text.specs.String.{Str}
 use Rattle.table.specs.Text.{check, table_of}
-use Rattle.table.specs.declared.Checked.TheVariants.{Accepted}
+use Rattle.table.specs.Checked.{Accepted}
 use Rattle.text_make.specs.Text.{up_to}
 use Rattle.cli_explained.specs.Explained.{rule_of}
 

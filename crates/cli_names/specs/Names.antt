@@ -6,8 +6,8 @@ use Rattle.text.specs.Byte.{within}
 use Rattle.text.specs.String.{Str, bytes, same}
 use Rattle.table.specs.Table.{Table, Member, Rule}
 use Rattle.table.specs.Group.{bad_user}
-use Rattle.table.specs.declared.Checked.{Checked}
-use Rattle.table.specs.declared.Checked.TheVariants.{Accepted, Refused}
+use Rattle.table.specs.Checked.{Checked}
+use Rattle.table.specs.Checked.{Accepted, Refused}
 
 -- ---- the users of a table
 

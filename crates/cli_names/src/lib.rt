@@ -68,12 +68,10 @@ fn find_subjects(f: &[u8], starts: &[u16], n: usize, places: &mut [u16]) -> usiz
         × (length places.new ≡ length places.old) }
 {
     let mut m = 0;
-    let mut i = 0;
-    while i < n {
+    for i in 0..n {
         let s = starts[i] as usize;
         let by_user = f[s + table::RULE_SUBJECT_KIND] != table::SUBJECT_GROUP;
         m = push_where(by_user, places, m, (s + table::RULE_SUBJECT) as u16);
-        i += 1;
     }
     m
 }
@@ -99,12 +97,10 @@ fn gather(f: &[u8], starts: &[u16], n: usize, user: &[u8], kept: &mut [u16], m: 
     ensures { Gathered f.now starts.now n user.now kept.old m kept.new result }
 {
     let mut count = m;
-    let mut i = 0;
-    while i < n {
+    for i in 0..n {
         let at = starts[i];
         let wanted = is_new(f, at as usize, user, kept, count);
         count = push_where(wanted, kept, count, at);
-        i += 1;
     }
     count
 }

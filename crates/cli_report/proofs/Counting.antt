@@ -9,7 +9,7 @@ use Rattle.limits.specs.Limits.{max_rules, max_log_lines}
 use Rattle.text.specs.String.{Str}
 use Rattle.table_line.specs.Lines.{lines}
 use Rattle.table.specs.Text.{table_of}
-use Rattle.table.specs.declared.Checked.TheVariants.{Accepted}
+use Rattle.table.specs.Checked.{Accepted}
 use Rattle.table_load.specs.declared.loaded.Table.{Table}
 use Rattle.table_load.specs.Loaded.{Kept, bytes}
 use Rattle.verdict.specs.Verdict.{Request}

@@ -3,7 +3,7 @@ use Rattle.std.specs.Prelude.{ℕ, ◌≡◌, List, []}
 use Rattle.text.specs.String.{Str}
 use Rattle.table.specs.Table.{Table}
 use Rattle.table.specs.Text.{check, table_of}
-use Rattle.table.specs.declared.Checked.TheVariants.{Accepted}
+use Rattle.table.specs.Checked.{Accepted}
 use Rattle.request_log.specs.Log.{check_log, log_of}
 use Rattle.season_count.specs.Counts.{UpTo}
 use Rattle.season_count.specs.Counting.{CountsOf}

@@ -5,7 +5,6 @@ use cli_show::{TEXT_ROOM, WORD_ROOM};
 use refusal::Fault;
 use rotation::{Kind, Record};
 use rotation_upload::Uploaded;
-use table::Checked;
 
 // Writes the record and the store to the file, and behind them what is left to read of `from`; prints the record where all went well.
 fn keep(console: &mut Console, r: Record, store: &[u8], from: &mut Source) {
@@ -65,10 +64,11 @@ fn make(console: &mut Console, r: Record) {
 // Keeps what an upload makes of record and store, or prints why it is refused.
 fn settle_upload(console: &mut Console, s: Uploaded, store: &[u8], text: &[u8], from: &mut Source) {
     match s.answer {
-        Checked::Accepted => keep(console, s.next, store, from),
-        Checked::Refused { number, line } => {
+        Ok(()) => keep(console, s.next, store, from),
+        Err(fault) => {
+            let number = fault.refusal.number();
             if number < 30 {
-                cli_console::refused::of_text(console, text, number, line);
+                cli_console::refused::of_text(console, text, number, fault.line);
             } else {
                 cli_policy::fault::tell(console, text, number);
             }

@@ -8,7 +8,7 @@ use lib.ListN.{length, take, length-append}
 use Rattle.text.specs.Test.{whether◌then◌else◌}
 use Rattle.text.specs.String.{Str}
 use Rattle.table.specs.Text.{check, table_of}
-use Rattle.table.specs.declared.Checked.TheVariants as checked
+use Rattle.table.specs.Checked as checked
 use Rattle.table_rows.specs.Rules.{rules_in}
 use Rattle.table_load.specs.declared.loaded.Table.{Table}
 use Rattle.table_load.specs.Loaded.{Kept, bytes}

@@ -4,7 +4,7 @@ use Rattle.limits.specs.Limits.{max_rules}
 use Rattle.text.specs.Test.{whether◌then◌else◌}
 use Rattle.text.specs.String.{Str}
 use Rattle.table.specs.Text.{check, table_of}
-use Rattle.table.specs.declared.Checked.TheVariants.{Accepted}
+use Rattle.table.specs.Checked.{Accepted}
 use Rattle.cli_season_rules.specs.Steps.{max_rule_line, max_decided_line}
 use Rattle.cli_season.specs.Page.{none_line, page}
 

@@ -7,8 +7,8 @@ use Rattle.text.specs.String.{Str}
 use Rattle.table.specs.Table.{Table}
 use Rattle.table.specs.Text.{check, table_of}
 use Rattle.table.specs.Group.{groups_of, count_for, group_count}
-use Rattle.table.specs.declared.Checked.{Checked}
-use Rattle.table.specs.declared.Checked.TheVariants as checked
+use Rattle.table.specs.Checked.{Checked}
+use Rattle.table.specs.Checked as checked
 use Rattle.table.specs.Counted.{Counted}
 use Rattle.table.specs.Counted as counted
 use Rattle.table.specs.declared.GroupNumber.{GroupNumber}

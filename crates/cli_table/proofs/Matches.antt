@@ -15,8 +15,8 @@ use Rattle.path.specs.Path.{Path}
 use Rattle.path_read.specs.TextReader.{read_text}
 use Rattle.table.specs.Text.{check, table_of}
 use Rattle.table.specs.Group.{bad_user}
-use Rattle.table.specs.declared.Checked.{Checked}
-use Rattle.table.specs.declared.Checked.TheVariants as checked
+use Rattle.table.specs.Checked.{Checked}
+use Rattle.table.specs.Checked as checked
 use Rattle.table.specs.declared.RuleNumber.{RuleNumber}
 use Rattle.table_place.specs.Place.{path_in}
 use Rattle.table_rows.specs.Rules.{rules_in}

@@ -9,8 +9,8 @@ use Rattle.text.specs.Test.{whether◌then◌else◌}
 use Rattle.text.specs.String.{Str}
 use Rattle.text.proofs.Tests.{by}
 use Rattle.path_read.specs.Calls.{bytes_for, text_for, answer, lent}
-use Rattle.table.specs.declared.Checked.{Checked}
-use Rattle.table.specs.declared.Checked.TheVariants.{Accepted, Refused}
+use Rattle.table.specs.Checked.{Checked}
+use Rattle.table.specs.Checked.{Accepted, Refused}
 use Rattle.season.specs.Calls.{fault, report_of, answered, stored, season_answer, season_lent}
 use Rattle.rotation.specs.Calls.{stepped, start, upload, stored_by, upload_store, finalize, close}
 use Rattle.rotation.specs.declared.Record.{Record}

@@ -26,8 +26,8 @@ use Rattle.table.specs.Table as table
 use Rattle.table.specs.Refusal.{Line, not_hex, unreadable, reads, line_of, Earlier, refusal, first, after}
 use Rattle.table.specs.Text.{unless, judge, check, table_of}
 use Rattle.table.specs.Group.{lists, numbered, memberships, groups_of, counted, bad_user, count_for, group_count}
-use Rattle.table.specs.declared.Checked.{Checked}
-use Rattle.table.specs.declared.Checked.TheVariants as checked
+use Rattle.table.specs.Checked.{Checked}
+use Rattle.table.specs.Checked as checked
 use Rattle.table.specs.Counted.{Counted}
 use Rattle.table.specs.Counted as count
 use Rattle.verdict.specs.Order.{Numbered, better, earlier, choose}

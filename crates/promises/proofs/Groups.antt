@@ -11,7 +11,7 @@ use Rattle.text.proofs.Tests.{by, clash}
 use Rattle.table.specs.Table.{Member}
 use Rattle.table.specs.Text.{check, table_of}
 use Rattle.table.specs.Group.{lists, numbered, memberships, groups_of, counted, bad_user, count_for, group_count}
-use Rattle.table.specs.declared.Checked.TheVariants.{Accepted, Refused}
+use Rattle.table.specs.Checked.{Accepted, Refused}
 use Rattle.table.specs.Counted.{Count, Declined}
 use Rattle.promises.specs.First.{First, here, later}
 use Rattle.promises.specs.Groups.{GroupPromise, CountRefusals}

@@ -10,8 +10,8 @@ use Rattle.text.specs.String.{Str}
 use Rattle.text.specs.Fill.{put}
 use Rattle.text.specs.Refusal.{◌when◌else◌, clear}
 use Rattle.table.specs.Text.{unless, is_accepted}
-use Rattle.table.specs.declared.Checked.{Checked}
-use Rattle.table.specs.declared.Checked.TheVariants.{Accepted, Refused}
+use Rattle.table.specs.Checked.{Checked}
+use Rattle.table.specs.Checked.{Accepted, Refused}
 use Rattle.rotation.specs.State.{short_store, bad_record, record_refusal, slot_start, candidate_slot}
 use Rattle.rotation.specs.Calls.{start_refusal, off_refusal, finalize_refusal, started, uploaded, finalized, closed, stepped, start, upload_answer, upload, stored_by, upload_store, finalize, close}
 use Rattle.rotation.specs.Machine.{Call, Start, Upload, Finalize, Close, Machine, machine_refusal, machine_next, Lent, machine_of, Whole, offered, machine_answer, machine_step, answers, leaves, Follows, end}

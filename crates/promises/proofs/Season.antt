@@ -16,8 +16,8 @@ use Rattle.path_read.specs.Text.{path_text}
 use Rattle.table_line.specs.Lines.{lines}
 use Rattle.table.specs.Table.{Table}
 use Rattle.table.specs.Text.{check, table_of}
-use Rattle.table.specs.declared.Checked.{Checked}
-use Rattle.table.specs.declared.Checked.TheVariants.{Accepted, Refused}
+use Rattle.table.specs.Checked.{Checked}
+use Rattle.table.specs.Checked.{Accepted, Refused}
 use Rattle.verdict.specs.Verdict.{Request, decider}
 use Rattle.verdict_order.specs.Reordering.{ReorderedLines}
 use Rattle.verdict_order.proofs.Reordered.{accepted_again, tables_reordered, accepted_orderly, accepted_whole}

@@ -15,7 +15,7 @@ use Rattle.path_read.specs.TextReader.{read_text}
 use Rattle.path_read.proofs.RoundTrip.{no_stray, no_key_twice, text_reader}
 use Rattle.table.specs.Text.{check, table_of}
 use Rattle.table.specs.Group.{bad_user}
-use Rattle.table.specs.declared.Checked.TheVariants.{Accepted, Refused}
+use Rattle.table.specs.Checked.{Accepted, Refused}
 use Rattle.verdict.specs.Verdict.{decider, tree}
 use Rattle.verdict.specs.Laws.{of_bytes}
 use Rattle.verdict.proofs.OfBytes.{path_of_bytes}

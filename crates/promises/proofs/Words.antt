@@ -10,8 +10,8 @@ use Rattle.text.specs.Test.{◌and◌, ◌or◌, whether◌then◌else◌}
 use Rattle.text.proofs.Tests.{by}
 use Rattle.path_read.specs.Filled.{Filled}
 use Rattle.path_read.specs.Filled as filled
-use Rattle.table.specs.declared.Checked.{Checked}
-use Rattle.table.specs.declared.Checked.TheVariants as checked
+use Rattle.table.specs.Checked.{Checked}
+use Rattle.table.specs.Checked as checked
 use Rattle.table.specs.Counted.{Counted}
 use Rattle.table.specs.Counted as counted
 use Rattle.verdict_request.specs.PathAnswer.{PathAnswer}

@@ -5,8 +5,8 @@ use Prim.Native.String.{String}
 use Rattle.text.specs.String.{Str, bytes, joined}
 use Rattle.path.specs.Path.{Key, Elem, Path}
 use Rattle.table.specs.Table.{Member, Rule, Table}
-use Rattle.table.specs.declared.Checked.{Checked}
-use Rattle.table.specs.declared.Checked.TheVariants.{Accepted}
+use Rattle.table.specs.Checked.{Checked}
+use Rattle.table.specs.Checked.{Accepted}
 use Rattle.verdict.specs.Verdict.{decider}
 use Rattle.verdict_request.specs.Calls.{decided_by, path_verdict, tree_verdict}
 use Rattle.verdict_request.specs.PathAnswer.{PathAnswer}

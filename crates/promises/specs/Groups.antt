@@ -5,7 +5,7 @@ use Rattle.text.specs.String.{Str}
 use Rattle.table.specs.Table.{Table}
 use Rattle.table.specs.Text.{check, table_of}
 use Rattle.table.specs.Group.{lists, bad_user, group_count}
-use Rattle.table.specs.declared.Checked.TheVariants.{Accepted, Refused}
+use Rattle.table.specs.Checked.{Accepted, Refused}
 use Rattle.table.specs.Counted.{Count, NoGroup, Declined}
 use Rattle.promises.specs.First.{First}
 

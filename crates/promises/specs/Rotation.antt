@@ -6,7 +6,7 @@ use Rattle.std.specs.Prelude.{ℕ, ◌≡◌, true, false, List, [], ◌∷◌, 
 use Rattle.std.proofs.Math.Option.{Option, some}
 use Rattle.text.specs.String.{Str}
 use Rattle.text.specs.Fill.{put}
-use Rattle.table.specs.declared.Checked.TheVariants.{Accepted, Refused}
+use Rattle.table.specs.Checked.{Accepted, Refused}
 use Rattle.rotation.specs.State.{short_store, bad_record, slot_start, candidate_slot, in_force}
 use Rattle.rotation.specs.Calls.{started, uploaded, finalized, closed}
 use Rattle.rotation.specs.Machine.{Call, Start, Upload, Finalize, Close, Lent, held_text, force_text, Whole, answers, leaves, Follows, end}

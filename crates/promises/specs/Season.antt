@@ -15,7 +15,7 @@ use Rattle.path_read.specs.Text.{path_text}
 use Rattle.table_line.specs.Lines.{lines}
 use Rattle.table.specs.Table.{Rule, Table}
 use Rattle.table.specs.Text.{check, table_of}
-use Rattle.table.specs.declared.Checked.TheVariants.{Accepted, Refused}
+use Rattle.table.specs.Checked.{Accepted, Refused}
 use Rattle.verdict.specs.Verdict.{Request}
 use Rattle.verdict_order.specs.Reordering.{ReorderedLines}
 use Rattle.verdict_request.specs.Calls.{request_refusal, path_verdict}

@@ -10,7 +10,7 @@ use Rattle.text.specs.String.{Str}
 use Rattle.text.specs.Refusal.{clear}
 use Rattle.table.specs.Table.{Table}
 use Rattle.table.specs.Text.{check, table_of}
-use Rattle.table.specs.declared.Checked.TheVariants.{Accepted, Refused}
+use Rattle.table.specs.Checked.{Accepted, Refused}
 use Rattle.verdict.specs.Order.{Numbered}
 use Rattle.verdict.specs.Verdict.{Request, decider, Tree, tree}
 use Rattle.verdict.specs.Laws.{Decided, TreeDecided, SameAnswers}

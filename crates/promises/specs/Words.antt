@@ -9,8 +9,8 @@ use Rattle.path_read.specs.Filled.{Filled}
 use Rattle.path_read.specs.Filled as filled
 use Rattle.table.specs.Text.{check}
 use Rattle.table.specs.Group.{group_count}
-use Rattle.table.specs.declared.Checked.{Checked}
-use Rattle.table.specs.declared.Checked.TheVariants as checked
+use Rattle.table.specs.Checked.{Checked}
+use Rattle.table.specs.Checked as checked
 use Rattle.table.specs.Counted.{Counted}
 use Rattle.table.specs.Counted as counted
 use Rattle.verdict_request.specs.Calls.{path_verdict, tree_verdict}

@@ -15,8 +15,8 @@ use Rattle.text.specs.Fill.{put}
 use Rattle.text.proofs.Tests.{by}
 use Rattle.table_line.specs.Lines.{lines}
 use Rattle.table.specs.Text.{check}
-use Rattle.table.specs.declared.Checked.{Checked}
-use Rattle.table.specs.declared.Checked.TheVariants as checked
+use Rattle.table.specs.Checked.{Checked}
+use Rattle.table.specs.Checked as checked
 use Rattle.readable_parts.specs.declared.Direction.TheVariants.{Show, Pack}
 use Rattle.readable_lines.specs.declared.Source.TheVariants.{Table}
 use Rattle.readable_lines.specs.Lines.{shown_line, packed_line, shown_for, packed_for, line_by}

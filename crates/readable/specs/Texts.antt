@@ -7,8 +7,8 @@ use Rattle.text.specs.String.{Str}
 use Rattle.text.specs.Fill.{put}
 use Rattle.table_line.specs.Lines.{lines}
 use Rattle.table.specs.Text.{check}
-use Rattle.table.specs.declared.Checked.{Checked}
-use Rattle.table.specs.declared.Checked.TheVariants as checked
+use Rattle.table.specs.Checked.{Checked}
+use Rattle.table.specs.Checked as checked
 use Rattle.readable_lines.specs.Lines.{shown_line, packed_line}
 use Rattle.readable.specs.Converted.{Converted, Length, Refused, Unread, NoRoom}
 use Rattle.readable.specs.Ended as ended

@@ -11,7 +11,6 @@ ghost use Rattle.readable.specs.Texts.{Converts, Shows, Makes, Packs, ended_of, 
 use path_read::reader::Stored;
 use readable_lines::Source;
 use readable_parts::Direction;
-use table::Checked;
 
 // Why nothing was made of a text.
 #[derive(Clone, Copy, Debug, PartialEq, Eq)]
@@ -63,8 +62,11 @@ pub fn show(table: &[u8], out: &mut [u8]) -> Result<usize, Unconverted>
     ensures { Shows table.now out.old out.new (converted_of result) }
 {
     let c = table_check::check_table(table);
-    if let Checked::Refused { number, line } = c {
-        return Err(Unconverted::Refused { number, line });
+    if let Err(fault) = c {
+        return Err(Unconverted::Refused {
+            number: fault.refusal.number(),
+            line: fault.line,
+        });
     }
     match convert_lines(Direction::Show, table, out) {
         Ok(n) => Ok(n),
@@ -78,8 +80,11 @@ fn hand_out(table: &[u8], out: &mut [u8]) -> Result<usize, Unconverted>
     ensures { Makes table.now out.old out.new (converted_of result) }
 {
     let c = table_check::check_table(table);
-    if let Checked::Refused { number, line } = c {
-        return Err(Unconverted::Refused { number, line });
+    if let Err(fault) = c {
+        return Err(Unconverted::Refused {
+            number: fault.refusal.number(),
+            line: fault.line,
+        });
     }
     if out.len() < table.len() {
         return Err(Unconverted::NoRoom);

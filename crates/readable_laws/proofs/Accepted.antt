@@ -25,7 +25,7 @@ use Rattle.table.specs.Table.{Rule}
 use Rattle.table.specs.Frame.{Entry, version, group, member, rule, unknown, code, version_body, group_body, member_body, rule_body, rule_entry, body, entry, whole, entry_of}
 use Rattle.table.specs.Refusal.{reads, framed, decoded, line_of, Earlier, unsized_short, past_limit, stray, strays, misplaces, same_id, repeats, refusal, first, after}
 use Rattle.table.specs.Text.{unless, judge, check}
-use Rattle.table.specs.declared.Checked.TheVariants.{Accepted, Refused}
+use Rattle.table.specs.Checked.{Accepted, Refused}
 use Rattle.table.proofs.Numbers.{refusal_clear}
 use Rattle.readable_parts.specs.Parts.{part_of, hex_text, shown}
 use Rattle.readable_lines.specs.Form.{form_by, printed, shown_by, shown_frame}

@@ -25,7 +25,7 @@ use Rattle.table_line.specs.Lines.{lines, frame}
 use Rattle.table.specs.Frame.{Entry, version, group, member, rule, unknown, version_body, group_body, member_body, rule_body, rule_entry, body, entry_of}
 use Rattle.table.specs.Refusal.{reads, framed, decoded, line_of, Earlier, kind_of, out_of_order, unsized_short, past_limit, refusal, first, with, after}
 use Rattle.table.specs.Text.{unless, judge, check}
-use Rattle.table.specs.declared.Checked.TheVariants.{Accepted, Refused}
+use Rattle.table.specs.Checked.{Accepted, Refused}
 use Rattle.table.proofs.Numbers.{refusal_clear}
 use Rattle.readable_parts.specs.Parts.{part_of, rest, of_rest, quoted, hex_text, shown_string, shown_time, shown_path, shown_code, shown_plain, shown}
 use Rattle.readable_lines.specs.Form.{parts, form_by, shown_by, shown_frame}

@@ -13,8 +13,8 @@ use Rattle.text.specs.Fill.{put}
 use Rattle.text.proofs.Tests.{by}
 use Rattle.table_line.specs.Lines.{lines}
 use Rattle.table.specs.Text.{check}
-use Rattle.table.specs.declared.Checked.{Checked}
-use Rattle.table.specs.declared.Checked.TheVariants as checked
+use Rattle.table.specs.Checked.{Checked}
+use Rattle.table.specs.Checked as checked
 use Rattle.readable_lines.specs.Lines.{shown_line}
 use Rattle.readable.specs.Texts.{ending, stored, shown_as, show_answer, show_lent, made_answer, made_lent, pack_answer, pack_lent, packed_end, packed_table}
 use Rattle.readable.specs.Converted.{Length, Refused, Unread, NoRoom}

@@ -18,7 +18,7 @@ use Rattle.text.proofs.Tests.{by, and_l, and_r, and_left}
 use Rattle.table_line.specs.Lines.{lines, onto, frame}
 use Rattle.table.specs.Refusal.{decoded, line_of, Earlier, refusal, first, after}
 use Rattle.table.specs.Text.{unless, judge, check}
-use Rattle.table.specs.declared.Checked.TheVariants.{Accepted, Refused}
+use Rattle.table.specs.Checked.{Accepted, Refused}
 use Rattle.readable_parts.specs.Parts.{hex_digit, hex_pair, hex_text}
 use Rattle.readable_lines.specs.Form.{shown_by, shown_frame, packed_frame}
 use Rattle.readable_lines.specs.Lines.{lined, unlined, shown_line_by, packed_line_by, shown_line, packed_line}

@@ -5,8 +5,8 @@ use Rattle.limits.specs.Limits.{max_log_lines}
 use Rattle.text.specs.Test.{whether◌then◌else◌, absent}
 use Rattle.text.specs.String.{Str}
 use Rattle.table_line.specs.Lines.{lines}
-use Rattle.table.specs.declared.Checked.{Checked}
-use Rattle.table.specs.declared.Checked.TheVariants.{Accepted, Refused}
+use Rattle.table.specs.Checked.{Checked}
+use Rattle.table.specs.Checked.{Accepted, Refused}
 use Rattle.verdict.specs.Verdict.{Request}
 use Rattle.request_log.specs.Request.{request_of}
 

@@ -16,8 +16,8 @@ use Rattle.text.specs.Refusal.{◌when◌else◌, clear}
 use Rattle.text.proofs.Tests.{by, clash, or_false_l, or_false_r, and_false}
 use Rattle.text.proofs.Filling.{put_length}
 use Rattle.table.specs.Text.{unless, is_accepted}
-use Rattle.table.specs.declared.Checked.{Checked}
-use Rattle.table.specs.declared.Checked.TheVariants.{Accepted, Refused}
+use Rattle.table.specs.Checked.{Checked}
+use Rattle.table.specs.Checked.{Accepted, Refused}
 use Rattle.rotation.specs.State.{no_length, given, off, on, short_store, bad_kind, bad_slot, bad_length, bad_record, record_refusal, slot_start, candidate_slot, text_in, in_force, at_rest}
 use Rattle.rotation.specs.Calls.{start_refusal, off_refusal, no_candidate, finalize_refusal, started, uploaded, finalized, closed, stepped, start, upload_answer, upload, stored_by, upload_store, finalize, close}
 use Rattle.rotation.specs.Machine.{Call, Start, Upload, Finalize, Close, Machine, machine_refusal, machine_next, Lent, held_text, machine_of, force_text, Whole, offered, machine_answer, machine_step, answers, leaves, Follows, end}

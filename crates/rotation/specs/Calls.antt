@@ -4,8 +4,8 @@ use Rattle.text.specs.String.{Str}
 use Rattle.text.specs.Fill.{put}
 use Rattle.text.specs.Refusal.{◌when◌else◌, clear}
 use Rattle.table.specs.Text.{unless}
-use Rattle.table.specs.declared.Checked.{Checked}
-use Rattle.table.specs.declared.Checked.TheVariants.{Accepted, Refused}
+use Rattle.table.specs.Checked.{Checked}
+use Rattle.table.specs.Checked.{Accepted, Refused}
 use Rattle.rotation.specs.State.{no_length, given, off, on, record_refusal, slot_start, candidate_slot, at_rest}
 use Rattle.rotation.specs.declared.Record.{Record}
 use Rattle.refusal.specs.Refusal.{number}

@@ -5,8 +5,8 @@ use Rattle.text.specs.Test.{whether◌then◌else◌, absent}
 use Rattle.text.specs.String.{Str}
 use Rattle.text.specs.Refusal.{◌when◌else◌, clear}
 use Rattle.table.specs.Text.{unless, is_accepted}
-use Rattle.table.specs.declared.Checked.{Checked}
-use Rattle.table.specs.declared.Checked.TheVariants.{Accepted}
+use Rattle.table.specs.Checked.{Checked}
+use Rattle.table.specs.Checked.{Accepted}
 use Rattle.rotation.specs.State.{given, on, short_store, bad_record, candidate_slot, text_in, InForce, Text, Factory}
 use Rattle.rotation.specs.Calls.{start, upload, upload_store, finalize, close}
 use Rattle.rotation.specs.declared.Record.{Record}

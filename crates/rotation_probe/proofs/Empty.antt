@@ -15,7 +15,7 @@ use Rattle.verdict.specs.Order.{choose}
 use Rattle.verdict.specs.Verdict.{Request, decider, action, permits, word, answer, tree, NONE}
 use Rattle.verdict.specs.Orderly.{Orderly}
 use Rattle.table_rows.specs.Rules.{rules_in}
-use Rattle.table.specs.declared.Checked.TheVariants.{Accepted}
+use Rattle.table.specs.Checked.{Accepted}
 use Rattle.verdict_request.specs.Calls.{path_answer, tree_answer}
 use Rattle.verdict_judge.specs.Rules.{Safe}
 use Rattle.table_membership.specs.Set.{UserGroups}

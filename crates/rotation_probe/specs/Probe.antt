@@ -4,7 +4,7 @@ use Rattle.std.proofs.Math.Option.{none}
 use Rattle.text.specs.Test.{whether◌then◌else◌}
 use Rattle.text.specs.String.{Str}
 use Rattle.text.specs.Refusal.{clear}
-use Rattle.table.specs.declared.Checked.TheVariants.{Accepted}
+use Rattle.table.specs.Checked.{Accepted}
 use Rattle.verdict.specs.Verdict.{NONE}
 use Rattle.verdict_request.specs.Calls.{request_refusal, path_answer, path_verdict, tree_answer, tree_verdict}
 use Rattle.verdict_request.specs.PathAnswer.{PathAnswer}

@@ -6,7 +6,7 @@ pub mod rpcs;
 
 ghost use Rattle.std.specs.Prelude.{◌≡◌};
 ghost use Rattle.std.proofs.Math.Option.{none};
-ghost use Rattle.table.specs.declared.Checked.TheVariants.{Accepted};
+ghost use Rattle.table.specs.Checked.{Accepted};
 ghost use Rattle.verdict.specs.Verdict.{NONE};
 ghost use Rattle.verdict_request.specs.Calls.{request_refusal, path_answer, tree_answer};
 ghost use Rattle.verdict_request.specs.Answers.{path_answer_of, tree_answer_of};

@@ -6,7 +6,7 @@ use Rattle.text.specs.Test.{whether◌then◌else◌}
 use Rattle.text.proofs.Tests.{by, clash}
 use Rattle.text.proofs.Choices.{when_true, when_false}
 use Rattle.table.specs.Text.{unless}
-use Rattle.table.specs.declared.Checked.TheVariants.{Accepted}
+use Rattle.table.specs.Checked.{Accepted}
 use Rattle.refusal.specs.Refusal.{number, at_line}
 use Rattle.refusal.specs.declared.Refusal.{Refusal}
 use Rattle.refusal.proofs.Numbers.{never_clear}

@@ -3,8 +3,8 @@ use Rattle.std.specs.Prelude.{ℕ, eqb}
 use Rattle.text.specs.Test.{whether◌then◌else◌}
 use Rattle.text.specs.String.{Str}
 use Rattle.table.specs.Text.{check}
-use Rattle.table.specs.declared.Checked.{Checked}
-use Rattle.table.specs.declared.Checked.TheVariants as checked
+use Rattle.table.specs.Checked.{Checked, checked_as}
+use Rattle.table.specs.Checked as checked
 use Rattle.policy.specs.Policy.{policy_refusal}
 use Rattle.policy_check.specs.Answer.{check_of}
 use Rattle.rotation.specs.Calls.{Stepped}
@@ -23,4 +23,4 @@ offered_check kind text = whether eqb kind 1 then of_policy (check_of (policy_re
 
 -- an upload's answer as the programs have it
 abbrev pub as_step : Uploaded → Stepped
-as_step u = record { next = u.next; answer = u.answer }
+as_step u = record { next = u.next; answer = checked_as u.answer }

@@ -5,56 +5,36 @@ ghost use Rattle.std.specs.Prelude.{◌≡◌, ◌+◌, ◌≤◌, length};
 ghost use Rattle.limits.specs.Limits.{slot_length};
 ghost use Rattle.text.specs.Fill.{put};
 ghost use Rattle.rotation.specs.Calls.{upload_answer, upload, upload_store};
-ghost use Rattle.refusal.specs.Refusal.{code};
-ghost use Rattle.policy_check.specs.Answer.{check_of};
-ghost use Rattle.rotation_upload.specs.Offered.{of_policy, offered_check, as_step};
+ghost use Rattle.table.specs.Checked.{checked_as};
+ghost use Rattle.rotation_upload.specs.Offered.{offered_check, as_step};
 
-use refusal::Refusal;
+use refusal::Fault;
 use rotation::Record;
-use table::Checked;
 
 // What an upload makes of a record, and what it answers.
 #[derive(Clone, Copy)]
 pub struct Uploaded {
     pub next: Record,
-    pub answer: Checked,
+    pub answer: Result<(), Fault>,
 }
 
-// A policy's refusal carries no line.
-#[tactic(auto, using(crate::proofs::Offered::accepted_is, crate::proofs::Offered::refused_is))]
-fn of_policy(c: Result<(), Refusal>) -> Checked
-    ensures { result ≡ of_policy (check_of (code c)) }
-{
-    match c {
-        Ok(()) => Checked::Accepted,
-        Err(refusal) => Checked::Refused {
-            number: refusal.number(),
-            line: 0,
-        },
-    }
-}
-
-// The check of a text offered to a record of that kind.
-fn check_offered(kind: u32, text: &[u8]) -> Checked
-    ensures { result ≡ offered_check kind text.now }
+// The check of a text offered to a record of that kind. A policy's refusal carries no line.
+fn check_offered(kind: u32, text: &[u8]) -> Result<(), Fault>
+    ensures { checked_as result ≡ offered_check kind text.now }
 {
     if kind == 1 {
-        return of_policy(policy_check::check::check_policy(text));
+        policy_check::check::check_policy(text)?;
+        return Ok(());
     }
     table_check::check_table(text)
 }
 
 // What an upload to a store of n bytes answers: 11, 15 or 13, else the check of the text.
-fn answer(r: Record, n: usize, text: &[u8]) -> Checked
-    ensures { result ≡ upload_answer offered_check r n text.now }
+fn answer(r: Record, n: usize, text: &[u8]) -> Result<(), Fault>
+    ensures { checked_as result ≡ upload_answer offered_check r n text.now }
 {
-    match rotation_step::check_on(r, n) {
-        Ok(()) => check_offered(r.kind, text),
-        Err(refusal) => Checked::Refused {
-            number: refusal.number(),
-            line: 0,
-        },
-    }
+    rotation_step::check_on(r, n)?;
+    check_offered(r.kind, text)
 }
 
 // The text goes to the start of a slot.
@@ -71,7 +51,7 @@ pub fn upload(r: Record, store: &mut [u8], text: &[u8]) -> Uploaded
         × (store.new ≡ upload_store offered_check r store.old text.now) }
 {
     let answer = answer(r, store.len(), text);
-    let Checked::Accepted = answer else {
+    let Ok(()) = answer else {
         return Uploaded { next: r, answer };
     };
     store_at(rotation::slot_start(r.candidate_slot()), text, store);

@@ -18,7 +18,7 @@ use Rattle.text.proofs.Tests.{by, clash, on_cons}
 use Rattle.path.specs.Refusal.{good_path}
 use Rattle.path_read.specs.Text.{path_text}
 use Rattle.table_line.specs.Lines.{lines, frame}
-use Rattle.table.specs.declared.Checked.TheVariants.{Accepted}
+use Rattle.table.specs.Checked.{Accepted}
 use Rattle.verdict.specs.Verdict.{Request}
 use Rattle.verdict_request.specs.Calls.{request_refusal, request}
 use Rattle.request_log.specs.Request.{framed_request, framed_refusal, unrefused, good_request, request_of}

@@ -16,7 +16,7 @@ use Rattle.text.proofs.Tests.{by, bool_ext, same→≡, ≡→same}
 use Rattle.text.proofs.Order.{before_self}
 use Rattle.table_line.specs.Lines.{lines}
 use Rattle.table.specs.Table.{Rule, Table}
-use Rattle.table.specs.declared.Checked.TheVariants.{Accepted}
+use Rattle.table.specs.Checked.{Accepted}
 use Rattle.verdict.specs.Order.{earlier, Numbered}
 use Rattle.verdict.specs.Verdict.{Request, decider, action, permits}
 use Rattle.verdict.specs.Laws.{Best, Decided, Reordered, id_of, SameAnswers}

@@ -16,8 +16,8 @@ use Rattle.text.specs.Byte.{is_hex, hex_value}
 use Rattle.text.proofs.Tests.{by, clash, on_cons}
 use Rattle.table_line.specs.Lines.{lines, onto, pair, pairs, nonempty, frame}
 use Rattle.table.specs.Table.{Table}
-use Rattle.table.specs.declared.Checked.{Checked}
-use Rattle.table.specs.declared.Checked.TheVariants.{Accepted, Refused}
+use Rattle.table.specs.Checked.{Checked}
+use Rattle.table.specs.Checked.{Accepted, Refused}
 use Rattle.verdict.specs.Verdict.{Request}
 use Rattle.request_log.specs.Request.{good_request, request_of}
 use Rattle.request_log.specs.Log.{judge_log, check_log, before, requests_of, log_of}

@@ -4,8 +4,8 @@ use Rattle.text.specs.Test.{whether◌then◌else◌}
 use Rattle.text.specs.String.{Str}
 use Rattle.text.specs.Fill.{put}
 use Rattle.table.specs.Text.{check, table_of}
-use Rattle.table.specs.declared.Checked.{Checked}
-use Rattle.table.specs.declared.Checked.TheVariants as checked
+use Rattle.table.specs.Checked.{Checked}
+use Rattle.table.specs.Checked as checked
 use Rattle.request_log.specs.Log.{check_log, log_of}
 use Rattle.season.specs.Report.{report}
 use Rattle.season.specs.declared.Reported.{Reported}

@@ -2,8 +2,8 @@
 use Rattle.std.specs.Prelude.{ℕ, ◌+◌, List, [], ◌∷◌, ◌++◌, length}
 use Rattle.text.specs.String.{Str}
 use Rattle.table_line.specs.Lines.{lines}
-use Rattle.table.specs.declared.Checked.{Checked}
-use Rattle.table.specs.declared.Checked.TheVariants.{Accepted}
+use Rattle.table.specs.Checked.{Checked}
+use Rattle.table.specs.Checked.{Accepted}
 use Rattle.verdict.specs.Verdict.{Request}
 use Rattle.request_log.specs.Log.{judge_log, log_of}
 use Rattle.season.specs.Calls.{first_fault}

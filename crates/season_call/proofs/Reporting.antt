@@ -9,7 +9,7 @@ use Rattle.limits.specs.Limits.{max_rules}
 use Rattle.text.specs.Test.{only}
 use Rattle.text.specs.String.{Str, joined}
 use Rattle.table.specs.Text.{check, table_of}
-use Rattle.table.specs.declared.Checked.TheVariants as checked
+use Rattle.table.specs.Checked as checked
 use Rattle.table_load.specs.declared.loaded.Table.{Table as Loaded}
 use Rattle.table_load.specs.Loaded.{Kept, bytes}
 use Rattle.table_check.proofs.Calls.{count_requires, grouped}

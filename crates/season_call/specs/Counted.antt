@@ -2,7 +2,7 @@
 use Rattle.std.specs.Prelude.{ℕ, ◌≡◌, List, []}
 use Rattle.text.specs.String.{Str}
 use Rattle.table.specs.Table.{Table}
-use Rattle.table.specs.declared.Checked.TheVariants as checked
+use Rattle.table.specs.Checked as checked
 use Rattle.request_log.specs.Log.{check_log, log_of}
 use Rattle.season_count.specs.Loaded.{Is}
 use Rattle.season_count.specs.Counting.{CountsOf}

@@ -1,7 +1,7 @@
 -- What the programs that make the text of a report answer.
 use Rattle.std.specs.Prelude.{ℕ, List, [], ◌∷◌}
 use Rattle.text.specs.String.{joined}
-use Rattle.table.specs.declared.Checked.TheVariants.{Accepted}
+use Rattle.table.specs.Checked.{Accepted}
 use Rattle.season.specs.Report.{figure_line}
 use Rattle.season.specs.Calls.{answered, stored}
 use Rattle.season.specs.declared.Reported.{Reported}

@@ -15,7 +15,7 @@ use Rattle.text.specs.String.{Str}
 use Rattle.table_line.specs.Lines.{lines}
 use Rattle.table_line.proofs.FirstLine.{lines_cons}
 use Rattle.table.specs.Table.{Table}
-use Rattle.table.specs.declared.Checked.TheVariants.{Accepted, Refused}
+use Rattle.table.specs.Checked.{Accepted, Refused}
 use Rattle.verdict.specs.Verdict.{Request}
 use Rattle.request_log.specs.Request.{request_of}
 use Rattle.request_log.specs.Log.{judge_log, before, requests_of}

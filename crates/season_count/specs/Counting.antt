@@ -6,7 +6,7 @@ use Rattle.limits.specs.Sizes.{max_log_line}
 use Rattle.text.specs.String.{Str}
 use Rattle.table_line.specs.Lines.{lines}
 use Rattle.table.specs.Table.{Table}
-use Rattle.table.specs.declared.Checked.TheVariants as checked
+use Rattle.table.specs.Checked as checked
 use Rattle.verdict.specs.Verdict.{Request}
 use Rattle.request_log.specs.Request.{request_of}
 use Rattle.request_log.specs.Log.{judge_log, requests_of}

@@ -13,8 +13,8 @@ use Rattle.table.specs.Frame.{unknown, code, version_body, group_body, member_bo
 use Rattle.table.specs.Refusal.{framed, decoded, line_of, kind_of, out_of_order, unsized_short, past_limit, stray, strays, misplaces, same_member, same_id, repeats, listed, unlisted, refusal, first, with, after}
 use Rattle.table.specs.Text.{unless, judge, check, all_told, table, table_of}
 use Rattle.table.specs.Group.{lists, numbered, memberships, groups_of, counted, bad_user, count_for, group_count}
-use Rattle.table.specs.declared.Checked.{Checked}
-use Rattle.table.specs.declared.Checked.TheVariants.{Accepted, Refused}
+use Rattle.table.specs.Checked.{Checked}
+use Rattle.table.specs.Checked.{Accepted, Refused}
 use Rattle.table.specs.Counted.{Counted, Count, NoGroup, Declined}
 
 -- answers as numbers, to compare them in lists

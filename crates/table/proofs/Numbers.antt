@@ -14,6 +14,8 @@ use Rattle.text.proofs.Tests.{or_false_l, or_is}
 use Rattle.limits.specs.Limits.{max_short_string, max_string}
 use Rattle.path.specs.Refusal.{unsized, over_limit, stray_byte, misplaced, key_twice}
 use Rattle.path.specs.Walk.{least_refusal, path_refusal}
+use Rattle.path.specs.Path.{Path}
+use Rattle.std.specs.Prelude.{min}
 use Rattle.table.specs.Table.{Rule}
 use Rattle.table.specs.Frame.{Entry, rule}
 use Rattle.table.specs.Refusal.{Earlier, reads, out_of_order, kind_of, past_limit, strays, misplaces, repeats, unlisted, refusal, stray, unsized_short}
@@ -76,6 +78,41 @@ merged_path false false true n false false false true = refl
 merged_path false false true n false false false false = refl
 merged_path false false false n false false false true = refl
 merged_path false false false n false false false false = refl
+
+-- the number of the path and that of the rest: the smaller one
+min_merged : (five six eight nine over str mis two : Bool)
+    → min (least_refusal over str mis two) (merged clear five six eight nine) ≡ merged (least_refusal over str mis two) five six eight nine
+unfolding merged least_refusal whether◌then◌else◌
+min_merged true six eight nine true str mis two = refl
+min_merged true six eight nine false true mis two = refl
+min_merged true six eight nine false false true two = refl
+min_merged true six eight nine false false false true = refl
+min_merged true six eight nine false false false false = refl
+min_merged false true eight nine true str mis two = refl
+min_merged false true eight nine false true mis two = refl
+min_merged false true eight nine false false true two = refl
+min_merged false true eight nine false false false true = refl
+min_merged false true eight nine false false false false = refl
+min_merged false false true nine true str mis two = refl
+min_merged false false true nine false true mis two = refl
+min_merged false false true nine false false true two = refl
+min_merged false false true nine false false false true = refl
+min_merged false false true nine false false false false = refl
+min_merged false false false true true str mis two = refl
+min_merged false false false true false true mis two = refl
+min_merged false false false true false false true two = refl
+min_merged false false false true false false false true = refl
+min_merged false false false true false false false false = refl
+min_merged false false false false true str mis two = refl
+min_merged false false false false false true mis two = refl
+min_merged false false false false false false true two = refl
+min_merged false false false false false false false true = refl
+min_merged false false false false false false false false = refl
+
+pub least_merged : (five six eight nine : Bool) (p m n : ℕ) (x : Path) → p ≡ path_refusal x → m ≡ merged clear five six eight nine → n ≡ min p m → n ≡ merged p five six eight nine
+unfolding path_refusal
+least_merged five six eight nine p m n x e i k =
+    rw (k, i, e) (min_merged five six eight nine (over_limit x) (stray_byte x) (misplaced x) (key_twice x))
 
 module _ (b : Earlier) where
   -- from 5 on

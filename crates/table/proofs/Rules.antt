@@ -12,7 +12,9 @@ use Rattle.text.specs.String.{Str}
 use Rattle.text.specs.Frame.{got, unread, ◌>>=◌, ret, part, string}
 use Rattle.text.proofs.Tests.{by, clash, and_left, and_right, or_is}
 use Rattle.text.specs.Steps.{end_of}
-use Rattle.std.specs.Prelude.{Option, Some, None}
+use Rattle.std.specs.Prelude.{Option, Some, None, Result}
+use Rattle.refusal.specs.Refusal.{code as refusal_code}
+use Rattle.refusal.specs.declared.Refusal.{Refusal}
 use Rattle.text.proofs.Frames.{byte_got, byte_unread, string_ends, string_misses}
 use Rattle.path_frame.specs.Walked.{walked}
 use Rattle.path_frame.proofs.Walks.{walked_to, walked_not}
@@ -156,20 +158,20 @@ module _ (f : Str) (pre : (0 < length f) × (get_or f 0 0 ≡ 4)) where
             read_pathless e =
                 unread_is (path_unread f h k _ s (string_ends f 4 q a s b).0 _ i (string_ends f s u c i d).0 _ o (string_ends f i v g o j).0 (walked_not path_refusal (path f o) e))
 
-            module _ (p t : ℕ) (e : got p t ≡ walked path_refusal (path f o)) where
+            module _ (x : Result (Unit {0}) Refusal) (t : ℕ) (e : got (refusal_code x) t ≡ walked path_refusal (path f o)) where
               abbrev rule_of : Path → Rule
-              rule_of x = record { permit = eqb (get_or f 1 0) 1; mode = get_or f 2 0; by_group = eqb (get_or f 3 0) 1; subject = part f 5 s; id = part f (s + 1) i; origin = part f (i + 1) o; path = x }
+              rule_of q = record { permit = eqb (get_or f 1 0) 1; mode = get_or f 2 0; by_group = eqb (get_or f 3 0) 1; subject = part f 5 s; id = part f (s + 1) i; origin = part f (i + 1) o; path = q }
 
-              got_it : (x : Path) × (rule_body f 1 ≡ got (rule_of x) t) × (p ≡ path_refusal x)
+              got_it : (q : Path) × (rule_body f 1 ≡ got (rule_of q) t) × (refusal_code x ≡ path_refusal q)
               got_it =
-                  let z = walked_to path_refusal (path f o) p t e in
+                  let z = walked_to path_refusal (path f o) (refusal_code x) t e in
                   (z.0, rule_got f h k _ s (string_ends f 4 q a s b).0 _ i (string_ends f s u c i d).0 _ o (string_ends f i v g o j).0 z.0 t z.1, z.2)
 
               pub read_off : (t ≡ length f → ⊥) → RuleRead f None
               unfolding RuleRead
               read_off n = rule_off f pre.0 pre.1 _ t got_it.1 n
 
-              pub read_rule : t ≡ length f → RuleRead f (Some (record { subject = s; id = i; origin = o; fault = p }))
+              pub read_rule : t ≡ length f → RuleRead f (Some (record { subject = s; id = i; origin = o; fault = x }))
               unfolding RuleRead
               read_rule n =
                   let z = got_it in
@@ -187,7 +189,7 @@ module _ (f : Str) (pre : (0 < length f) × (get_or f 0 0 ≡ 4)) where
 
 -- what an answer of read_rule tells
 module _ (f : Str) (r : Option RuleFrame) (h : RuleRead f r) where
-  pub rule_told : (s : RuleFrame) → r ≡ Some s → RuleAt f s.subject s.id s.origin s.fault
+  pub rule_told : (s : RuleFrame) → r ≡ Some s → RuleAt f s.subject s.id s.origin (refusal_code s.fault)
   unfolding RuleRead
   rule_told s e = subst (RuleRead f) e h
 

@@ -6,8 +6,8 @@ use Rattle.path.specs.Refusal.{unsized}
 use Rattle.table.specs.Table.{Member, Table}
 use Rattle.table.specs.Refusal.{stray, same_member}
 use Rattle.table.specs.Text.{check, table_of}
-use Rattle.table.specs.declared.Checked.{Checked}
-use Rattle.table.specs.declared.Checked.TheVariants.{Accepted, Refused}
+use Rattle.table.specs.Checked.{Checked}
+use Rattle.table.specs.Checked.{Accepted, Refused}
 use Rattle.table.specs.Counted.{Counted, Count, NoGroup, Declined}
 
 -- a member line has that group and that user

@@ -6,3 +6,4 @@ pub mod Group
 pub mod Layout
 pub mod Walk
 pub mod Counted
+pub mod Checked

@@ -7,8 +7,8 @@ use Rattle.text.specs.Refusal.{clear}
 use Rattle.table_line.specs.Lines.{lines}
 use Rattle.table.specs.Table.{Table}
 use Rattle.table.specs.Refusal.{line_of, Earlier, refusal, first, after}
-use Rattle.table.specs.declared.Checked.{Checked}
-use Rattle.table.specs.declared.Checked.TheVariants.{Accepted, Refused}
+use Rattle.table.specs.Checked.{Checked}
+use Rattle.table.specs.Checked.{Accepted, Refused}
 
 -- ---- the answer
 

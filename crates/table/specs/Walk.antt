@@ -4,6 +4,7 @@ use Rattle.std.proofs.Math.Option.{none}
 use Rattle.text.specs.String.{Str}
 use Rattle.text.specs.Refusal.{◌when◌else◌, clear}
 use Rattle.text.specs.Frame.{got, part, string}
+use Rattle.refusal.specs.Refusal.{code}
 use Rattle.path.specs.Walk.{path_refusal}
 use Rattle.table.specs.Table.{Rule}
 use Rattle.table.specs.Layout.{after_kind, frame_subject_kind, frame_subject_name}
@@ -42,5 +43,5 @@ pub record RuleAt (f : Str) (s i o p : ℕ) : Type 0 where
 
 -- what the answer of `read_rule` says of the frame
 unfoldable pub RuleRead : Str → Option RuleFrame → Type 0
-RuleRead f (Some r) = RuleAt f r.subject r.id r.origin r.fault
+RuleRead f (Some r) = RuleAt f r.subject r.id r.origin (code r.fault)
 RuleRead f None = entry_of f ≡ none

@@ -11,7 +11,8 @@ ghost use Rattle.table.specs.Walk.{OfKind, merged, unsized_by, RuleRead};
 
 use refusal::Refusal;
 
-// The order of kinds is broken: `last` is the kind of the line before, 0 on the first line.
+// The order of kinds is broken: `last` is the kind of the line before, 0 on the first line. Kinds stay the bytes of the frames: they are compared
+// as numbers ("kinds never fall"), and so an enum would be turned into them again.
 pub fn is_out_of_order(last: u8, kind: u8) -> bool
     ensures { result ≡ out_of_order last kind }
 {
@@ -21,20 +22,17 @@ pub fn is_out_of_order(last: u8, kind: u8) -> bool
     (kind == crate::KIND_VERSION) | (kind < last)
 }
 
-// The first refusal from 5 on whose flag is set. p is the number of the frame's path.
-pub fn number(p: u8, five: bool, six: bool, eight: bool, nine: bool) -> Result<(), Refusal>
-    ensures { code result ≡ merged p five six eight nine }
+// The first refusal from 5 on whose flag is set; 7 is of paths alone, and joins by `refusal::smaller`.
+pub fn number(five: bool, six: bool, eight: bool, nine: bool) -> Result<(), Refusal>
+    ensures { code result ≡ merged clear five six eight nine }
 {
-    if five | (p == 5) {
+    if five {
         return Err(Refusal::LimitPassed);
     }
-    if six | (p == 6) {
+    if six {
         return Err(Refusal::StrayByte);
     }
-    if p == 7 {
-        return Err(Refusal::MisplacedWildcard);
-    }
-    if eight | (p == 8) {
+    if eight {
         return Err(Refusal::Repeated);
     }
     if nine {
@@ -69,26 +67,16 @@ pub fn version_number(f: &[u8], last: u8) -> Result<(), Refusal>
     let version = &f[start..end];
     let five = is_unsized(limits::MAX_SHORT_STRING, version.len());
     let six = !text::string::all_print(version);
-    number(limits::CLEAR, five, six, false, false)
+    number(five, six, false, false)
 }
 
-// The number that a check answers with, or CLEAR.
-fn code_of(r: Result<(), Refusal>) -> u8
-    ensures { result ≡ code r }
-{
-    match r {
-        Ok(()) => limits::CLEAR,
-        Err(refusal) => refusal.number(),
-    }
-}
-
-// Where the strings of a rule end, and the number of its path.
+// Where the strings of a rule end, and what refuses its path.
 #[derive(Clone, Copy)]
 pub struct RuleFrame {
     pub subject: usize,
     pub id: usize,
     pub origin: usize,
-    pub fault: u8,
+    pub fault: Result<(), Refusal>,
 }
 
 // Reads the frame of a rule, if it is one.
@@ -121,6 +109,6 @@ pub fn read_rule(f: &[u8]) -> Option<RuleFrame>
         subject,
         id,
         origin,
-        fault: code_of(path.refusal),
+        fault: path.refusal,
     })
 }

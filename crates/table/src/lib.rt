@@ -71,13 +71,6 @@ pub struct GroupNumber(pub u8);
 #[derive(Clone, Copy)]
 pub struct RuleNumber(pub u16);
 
-// The answer of a table check.
-#[derive(Clone, Copy)]
-pub enum Checked {
-    Accepted,
-    Refused { number: u8, line: usize },
-}
-
 // How many groups a user has, at least one, and the first of them.
 #[derive(Clone, Copy)]
 pub struct Groups {

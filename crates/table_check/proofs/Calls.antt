@@ -14,7 +14,8 @@ use Rattle.text.specs.String.{Str}
 use Rattle.table_rows.proofs.Grow.{rows_length, strings_length}
 use Rattle.table.specs.Text.{check, table_of}
 use Rattle.table.specs.Group.{memberships, groups_of, counted, bad_user, count_for, group_count}
-use Rattle.table.specs.declared.Checked.TheVariants as checked
+use Rattle.table.specs.Checked as checked
+use Rattle.table.specs.Checked.{checked_as}
 use Rattle.table.specs.Counted.{Counted, Count, NoGroup, Declined}
 use Rattle.table_keep.specs.Held.{member_in, members_in, Owned}
 use Rattle.table_load.specs.declared.row.Counts.{Counts}
@@ -37,8 +38,10 @@ module _ (text : Str) (r : Result (Unit {0}) Fault) (t : Table) (o : Outcome tex
   unfolding Outcome
   outcome_kept e = subst (λ (x : Result (Unit {0}) Fault). Outcome text x t) e o
 
-  pub outcome_accepted : {u : Unit {0}} → r ≡ Ok u → checked.Accepted ≡ check text
-  outcome_accepted e = sym (outcome_kept e).accepts
+pub outcome_checked : (text : Str) (r : Result (Unit {0}) Fault) (t : Table) → Outcome text r t → checked_as r ≡ check text
+unfolding Outcome
+outcome_checked text (Ok u) t o = sym o.accepts
+outcome_checked text (Err f) t o = sym o
 
 -- ---- the answers of a look
 

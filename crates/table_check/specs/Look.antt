@@ -4,7 +4,7 @@ use Rattle.limits.specs.Limits.{max_groups}
 use Rattle.text.specs.String.{Str}
 use Rattle.table.specs.Text.{check, table_of}
 use Rattle.table.specs.Group.{group_count}
-use Rattle.table.specs.declared.Checked.TheVariants as checked
+use Rattle.table.specs.Checked as checked
 use Rattle.table_load.specs.declared.row.Counts.{Counts}
 use Rattle.table_membership.specs.Set.{UserGroups, count_in}
 use Rattle.table_check.specs.declared.Seen.{Seen}

@@ -7,8 +7,8 @@ use Rattle.table.specs.Table as rule
 use Rattle.table_rows.specs.Strings.{rows_of}
 use Rattle.table_rows.specs.Rules.{id_at, origin_at}
 use Rattle.table_place.specs.Place.{str_in}
-use Rattle.table.specs.declared.Checked.{Checked}
-use Rattle.table.specs.declared.Checked.TheVariants as checked
+use Rattle.table.specs.Checked.{Checked}
+use Rattle.table.specs.Checked as checked
 use Rattle.table_facts.specs.declared.Row.{Row}
 use Rattle.table_facts.specs.declared.Row.TheVariants.{Group, Rule}
 

@@ -10,6 +10,7 @@ use lib.Dec.{eqb, ltb, leb}
 use lib.ListN.{length, take, drop, get_or, set, length-append, length-drop}
 use lib.Seq.{take_at}
 use Rattle.limits.specs.Limits.{max_members, max_string}
+use Rattle.limits.specs.Sizes.{max_table_bytes}
 use Rattle.text.specs.Test.{◌and◌, ◌or◌, any, all}
 use Rattle.text.specs.Byte.{is_print}
 use Rattle.text.specs.String.{Str, same}
@@ -109,6 +110,10 @@ listed_is name groups p n e l h = let k : p ≡ n → ⊥ = eqb-false _ _ h in o
 pub place_small : (name : Str) (f starts : List ℕ) (n p : ℕ) → p ≡ place name (strings_in f starts n 0) → p ≤ n
 place_small name f starts n p e = omega (arith, place_le name (strings_in f starts n 0), strings_length f starts n)
 
+-- the groups are those of the same bytes
+pub place_same : (name : Str) (old old' starts : List ℕ) (n p : ℕ) → old ≡ old' → p ≡ place name (strings_in old' starts n 0) → p ≡ place name (strings_in old starts n 0)
+place_same name old old' starts n p e h = rw e h
+
 -- ---- the frame does not read
 
 module _ (f : Str) (kind : OfKind kind_member f) (b : Earlier) where
@@ -129,32 +134,32 @@ pub record Read : Type 0 where
   pub old : List ℕ
   pub f : List ℕ
   pub starts : List ℕ
-  pub names : List ℕ
   pub count : ℕ
   pub users : List ℕ
   pub owners : List ℕ
   pub keys : List ℕ
   pub n : ℕ
-  pub ready : MemberReady old f starts names count users owners keys n
+  pub ready : MemberReady old f starts count users owners keys n
+  pub room : length old + length f ≤ max_table_bytes
   pub middle : ℕ
   pub end : ℕ
   pub group : StringAt f 1 middle
   pub user : StringAt f middle end
   pub whole : end ≡ length f
 
-abbrev pub reading : {old f starts names users owners keys : List ℕ} {count n middle end : ℕ} → MemberReady old f starts names count users owners keys n
-    → StringAt f 1 middle → StringAt f middle end → end ≡ length f → Read
-reading {old} {f} {starts} {names} {users} {owners} {keys} {count} {n} {middle} {end} ready group user whole = record {
+abbrev pub reading : {old f starts users owners keys : List ℕ} {count n middle end : ℕ} → MemberReady old f starts count users owners keys n
+    → length old + length f ≤ max_table_bytes → StringAt f 1 middle → StringAt f middle end → end ≡ length f → Read
+reading {old} {f} {starts} {users} {owners} {keys} {count} {n} {middle} {end} ready room group user whole = record {
   old = old;
   f = f;
   starts = starts;
-  names = names;
   count = count;
   users = users;
   owners = owners;
   keys = keys;
   n = n;
   ready = ready;
+  room = room;
   middle = middle;
   end = end;
   group = group;
@@ -300,7 +305,7 @@ module _ (J : Judged) where
     member_kept keys' q =
         let w = R.user in
         let a : 1 ≤ R.end = omega (arith, w.1) in
-        let small = R.ready.room in
+        let small = R.room in
         record {
           group = name R;
           user = user R;

@@ -2,7 +2,6 @@
 use Rattle.std.specs.Prelude.{ℕ, ◌+◌, ◌*◌, ◌%◌, ◌≤◌, ◌<◌, ◌≡◌, List, [], ◌∷◌, ◌++◌, length, get_or, set}
 use Rattle.std.proofs.Math.Option.{some}
 use Rattle.limits.specs.Limits.{max_groups, max_members}
-use Rattle.limits.specs.Sizes.{max_table_bytes}
 use Rattle.text.specs.Test.{any}
 use Rattle.text.specs.String.{Str, same}
 use Rattle.text.specs.Frame.{got, string, string_bytes}
@@ -79,14 +78,11 @@ InSet f starts count users owners keys n = Holds member_place f keys max_members
 
 pub record GroupReady (old f starts names : List ℕ) (n : ℕ) : Type 0 where
   pub kind : OfKind kind_group f
-  pub room : length old + length f ≤ max_table_bytes
   pub few : n ≤ max_groups
   pub named : Named old names n (strings_in old starts n 0)
 
-pub record MemberReady (old f starts names : List ℕ) (count : ℕ) (users owners keys : List ℕ) (n : ℕ) : Type 0 where
+pub record MemberReady (old f starts : List ℕ) (count : ℕ) (users owners keys : List ℕ) (n : ℕ) : Type 0 where
   pub kind : OfKind kind_member f
-  pub room : length old + length f ≤ max_table_bytes
-  pub groups : Groups old starts names count
   pub long : length keys ≡ member_keys
   pub held : InSet old starts count users owners keys n
 

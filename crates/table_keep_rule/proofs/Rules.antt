@@ -9,6 +9,7 @@ use borrow.Author.Tests.{leb-false}
 use lib.Dec.{eqb, ltb, leb}
 use lib.ListN.{length, get_or, set}
 use Rattle.limits.specs.Limits.{max_rules, max_string, max_short_string}
+use Rattle.limits.specs.Sizes.{max_table_bytes}
 use Rattle.text.specs.Test.{◌and◌, ◌or◌, whether◌then◌else◌, any, all}
 use Rattle.text.specs.Byte.{is_print}
 use Rattle.text.specs.String.{Str, same}
@@ -49,6 +50,11 @@ held_is : (bg : Bool) (name : Str) (groups : List Str) (g count : ℕ) → g ≡
 unfolding whether◌then◌else◌
 held_is true name groups g count e l n t = let h : place name groups < length groups = listed_is name groups g count e l n in rw e (h, place_at name groups h)
 held_is false name groups g count e l n t = clash t refl
+
+-- the groups are those of the same bytes
+pub holder_same : (bg : Bool) (name : Str) (old old' starts : List ℕ) (n g : ℕ) → old ≡ old' → g ≡ (whether bg then place name (strings_in old' starts n 0) else 0)
+    → g ≡ (whether bg then place name (strings_in old starts n 0) else 0)
+holder_same bg name old old' starts n g e h = rw e h
 
 -- ---- ids
 
@@ -122,28 +128,28 @@ pub record Read : Type 0 where
   pub old : List ℕ
   pub f : List ℕ
   pub starts : List ℕ
-  pub names : List ℕ
   pub count : ℕ
   pub keys : List ℕ
   pub n : ℕ
-  pub ready : RuleReady old f starts names count keys n
+  pub ready : RuleReady old f keys n
+  pub room : length old + length f ≤ max_table_bytes
   pub subject_end : ℕ
   pub id_end : ℕ
   pub origin_end : ℕ
   pub path_refusal_lem : ℕ
   pub at : RuleAt f subject_end id_end origin_end path_refusal_lem
 
-abbrev pub told_so_far : {old f starts names keys : List ℕ} {count n : ℕ} → RuleReady old f starts names count keys n
-    → {subject_end id_end origin_end path_refusal_lem : ℕ} → RuleAt f subject_end id_end origin_end path_refusal_lem → Read
-told_so_far {old} {f} {starts} {names} {keys} {count} {n} ready {subject_end} {id_end} {origin_end} {path_refusal_lem} at = record {
+abbrev pub told_so_far : {old f keys : List ℕ} {n : ℕ} → RuleReady old f keys n
+    → length old + length f ≤ max_table_bytes → (starts : List ℕ) (count : ℕ) → {subject_end id_end origin_end path_refusal_lem : ℕ} → RuleAt f subject_end id_end origin_end path_refusal_lem → Read
+told_so_far {old} {f} {keys} {n} ready room starts count {subject_end} {id_end} {origin_end} {path_refusal_lem} at = record {
   old = old;
   f = f;
   starts = starts;
-  names = names;
   count = count;
   keys = keys;
   n = n;
   ready = ready;
+  room = room;
   subject_end = subject_end;
   id_end = id_end;
   origin_end = origin_end;
@@ -277,7 +283,7 @@ module _ (J : Judged) where
     rule_kept tops holders tops' holders' keys' stored e =
         let a = R.at in
         let w = a.long in
-        let small = R.ready.room in
+        let small = R.room in
         let d : R.id_end ≤ length R.f = omega (arith, w.2, w.3) in
         let span = span_of (length R.old + (R.subject_end + 1)) (length R.old + R.id_end) in
         record {

@@ -2,7 +2,6 @@
 use Rattle.std.specs.Prelude.{ℕ, ◌+◌, ◌*◌, ◌%◌, ◌≤◌, ◌<◌, ◌≡◌, true, List, [], ◌∷◌, ◌++◌, map, length, get_or, set}
 use Rattle.std.proofs.Math.Option.{some}
 use Rattle.limits.specs.Limits.{max_rules}
-use Rattle.limits.specs.Sizes.{max_table_bytes}
 use Rattle.text.specs.String.{Str}
 use Rattle.text.specs.Frame.{got}
 use Rattle.text_set.specs.Set.{Holds}
@@ -11,7 +10,6 @@ use Rattle.table.specs.Table.{Rule}
 use Rattle.table.specs.Layout.{kind_rule, after_kind}
 use Rattle.table.specs.Frame.{rule, rule_body, entry_of}
 use Rattle.table.specs.Walk.{OfKind}
-use Rattle.table_keep.specs.Held.{Groups}
 
 -- the ids of rules, in order
 unfoldable pub ids_of : List Rule → List Str
@@ -37,12 +35,10 @@ pub record Ids (f keys : List ℕ) (n : ℕ) (ids : List Str) : Type 0 where
   pub held : Holds id_place f keys max_rules ids
   pub counted : length ids ≡ n
 
--- ---- what taking a rule needs: `groups`, `names` and `count` are of the groups
+-- ---- what taking a rule needs
 
-pub record RuleReady (old f groups names : List ℕ) (count : ℕ) (keys : List ℕ) (n : ℕ) : Type 0 where
+pub record RuleReady (old f keys : List ℕ) (n : ℕ) : Type 0 where
   pub kind : OfKind kind_rule f
-  pub room : length old + length f ≤ max_table_bytes
-  pub lookup : Groups old groups names count
   pub long : length keys ≡ id_keys
   pub before : List Str
   pub ids : Ids old keys n before

@@ -1,8 +1,7 @@
 #![tactic(auto)]
 
-// A rule of the table, judged against the rows before it, and kept: its places are stored where it is not refused. `old` are the decoded frames
-// before it, f is its own frame, which follows them, `last` the kind of the frame before, and n the rules before it.
-ghost use Rattle.std.specs.Prelude.{◌≡◌, ◌≤◌, ◌<◌, length, set};
+// A rule of the table, judged against the rows before it, and kept: its places are stored where it is not refused. n are the rules before it.
+ghost use Rattle.std.specs.Prelude.{◌≡◌, ◌<◌, set};
 ghost use Rattle.limits.specs.Limits.{max_rules};
 ghost use Rattle.text.specs.Test.{whether◌then◌else◌};
 ghost use Rattle.text.specs.Refusal.{clear};
@@ -10,11 +9,11 @@ ghost use Rattle.refusal.specs.Refusal.{code};
 ghost use Rattle.table_rows.specs.Strings.{strings_in, place};
 ghost use Rattle.table.specs.Frame.{entry_of};
 ghost use Rattle.table.specs.Refusal.{Earlier, framed, refusal};
-ghost use Rattle.table_keep.specs.Held.{hint_places, Groups};
 ghost use Rattle.table_keep_rule.specs.Kept.{ids_of, Ids, RuleReady, RuleKept};
 
 use refusal::Refusal;
 use table::{GroupNumber, RuleNumber};
+use table_keep::{Lookup, Row};
 
 // The set of ids: sorted keys, their count, and a place for each hash.
 const ID_PLACES: usize = 8 * limits::MAX_RULES;
@@ -23,21 +22,13 @@ const FIRST_ID_PLACE: usize = limits::MAX_RULES + 1;
 
 pub const ID_KEYS: usize = FIRST_ID_PLACE + ID_PLACES;
 
-// The number of the subject among the groups, as `table_keep::number_of` gives it; 0 where it is a user.
-fn holder_of(
-    old: &[u8],
-    groups: &[u16],
-    count: usize,
-    hints: &[u8],
-    names: &[u32],
-    by_group: bool,
-    subject: &[u8],
-) -> GroupNumber
-    requires { Groups old.now groups.now names.now count × (hint_places ≤ length hints.now) }
-    ensures { result.0 ≡ (whether by_group then place subject.now (strings_in old.now groups.now count 0) else 0) }
+// The number of the subject among the groups. A user has none: 0 fills its place among the holders, where only rules of groups are looked up.
+fn holder_of(groups: Lookup, by_group: bool, subject: &[u8]) -> GroupNumber
+    ensures { result.0 ≡ (whether by_group
+        then place subject.now (strings_in groups.entry.bytes.now groups.entry.starts.now groups.entry.count 0) else 0) }
 {
     if by_group {
-        return table_keep::number_of(old, groups, count, hints, names, subject);
+        return groups.number_of(subject);
     }
     GroupNumber(0)
 }
@@ -61,27 +52,28 @@ fn store(
 
 // What refuses a rule's frame. Where nothing does, the rule is kept.
 pub fn take_rule(
-    old: &[u8],
-    f: &[u8],
-    last: u8,
-    groups: &[u16; limits::MAX_GROUPS],
-    count: usize,
-    hints: &[u8; table_keep::HINT_PLACES],
-    names: &[u32; limits::MAX_GROUPS],
+    row: Row,
+    groups: Lookup,
     starts: &mut [u16; limits::MAX_RULES],
     holders: &mut [u8; limits::MAX_RULES],
     n: usize,
     keys: &mut [u32; ID_KEYS],
 ) -> Result<(), Refusal>
-    requires { RuleReady old.now f.now groups.now names.now count keys.old n }
-    ensures value { (b : Earlier) → b.kind ≡ last
-        → b.groups ≡ strings_in old.now groups.now count 0
-        → Ids old.now keys.old n (ids_of b.rules)
-        → code result ≡ refusal b (framed (entry_of f.now)) }
+    requires of_row { row.old.now ≡ groups.bytes.now }
+    requires ready { RuleReady row.old.now row.frame.now keys.old n }
+    ensures value { (b : Earlier) → b.kind ≡ row.entry.last
+        → b.groups ≡ strings_in row.entry.old.now groups.entry.starts.now groups.entry.count 0
+        → Ids row.entry.old.now keys.old n (ids_of b.rules)
+        → code result ≡ refusal b (framed (entry_of row.entry.frame.now)) }
     ensures rule_kept { code result ≡ clear
-        → RuleKept (strings_in old.now groups.now count 0) old.now f.now
+        → RuleKept (strings_in row.entry.old.now groups.entry.starts.now groups.entry.count 0) row.entry.old.now row.entry.frame.now
         starts.old holders.old keys.old n starts.new holders.new keys.new }
 {
+    let Row {
+        old,
+        frame: f,
+        last,
+    } = row;
     let Some(r) = table::frame::read_rule(f) else {
         return Err(Refusal::BadFrame);
     };
@@ -95,7 +87,7 @@ pub fn take_rule(
     let id = &f[from..r.id];
     let origin = &f[then..r.origin];
     let by_group = f[table::FRAME_SUBJECT_KIND] == table::SUBJECT_GROUP;
-    let g = holder_of(old, groups, count, hints, names, by_group, subject);
+    let g = holder_of(groups, by_group, subject);
     let p = FIRST_ID_PLACE + table_rows::hash(id) % ID_PLACES;
     let t = text_set::find(old, keys, limits::MAX_RULES, p, id);
     let five = (table::frame::is_unsized(limits::MAX_STRING, subject.len())
@@ -103,8 +95,8 @@ pub fn take_rule(
         | ((limits::MAX_SHORT_STRING < origin.len()) | (limits::MAX_RULES <= n));
     let six = !text::string::all_print(subject)
         | (!text::string::all_print(id) | !text::string::all_print(origin));
-    let nine = by_group & (g.0 as usize == count);
-    table::frame::number(r.fault, five, six, t.again, nine)?;
+    let nine = by_group & (g.0 as usize == groups.count);
+    refusal::smaller(r.fault, table::frame::number(five, six, t.again, nine))?;
     store(
         starts,
         holders,

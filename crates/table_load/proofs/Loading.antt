@@ -23,8 +23,8 @@ use Rattle.table_line.proofs.FirstLine.{Read, line_read, line_unhex}
 use Rattle.table.specs.Frame.{Entry, entry_of}
 use Rattle.table.specs.Refusal.{Line, not_hex, reads, framed, decoded, line_of, Earlier, first, with, after, refusal}
 use Rattle.table.specs.Text.{unless, judge, check, all_told, table, table_of}
-use Rattle.table.specs.declared.Checked.{Checked}
-use Rattle.table.specs.declared.Checked.TheVariants as checked
+use Rattle.table.specs.Checked.{Checked}
+use Rattle.table.specs.Checked as checked
 use Rattle.table_load.specs.declared.row.Counts.{Counts}
 use Rattle.table_rows.specs.Strings.{rows_of, strings_in}
 use Rattle.text_sorted.proofs.Growing.{none as none-sorted, none_there as no_name}

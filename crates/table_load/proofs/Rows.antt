@@ -50,7 +50,7 @@ module _ {b : Earlier} {old : List ℕ} {c : Counts} {groups users owners starts
   all_named : Named old names c.groups (strings_in old groups c.groups 0)
   all_named = rw H.holds.groups_are at H.named
 
-  lookup : Groups old groups names c.groups
+  pub lookup : Groups old groups names c.groups
   lookup = record {
     few = H.holds.few.0;
     distinct = record {
@@ -66,16 +66,16 @@ module _ {b : Earlier} {old : List ℕ} {c : Counts} {groups users owners starts
   ids_in_lem : Ids old is c.rules (ids_of b.rules)
   ids_in_lem = record { held = H.ids_set; counted = ids_length b.rules ∙ H.holds.rules_count }
 
-  module _ (f : List ℕ) (some' : 0 < length f) (room : length old + length f ≤ max_table_bytes) where
+  module _ (f : List ℕ) (some' : 0 < length f) where
     pub group_ready : get_or f 0 0 ≡ kind_group → GroupReady old f groups names c.groups
-    group_ready k = record { kind = (some', k); room = room; few = H.holds.few.0; named = all_named }
+    group_ready k = record { kind = (some', k); few = H.holds.few.0; named = all_named }
 
-    pub member_ready : get_or f 0 0 ≡ kind_member → MemberReady old f groups names c.groups users owners ms c.members
-    member_ready k = record { kind = (some', k); room = room; groups = lookup; long = H.sets_long.0; held = members_in_lem }
+    pub member_ready : get_or f 0 0 ≡ kind_member → MemberReady old f groups c.groups users owners ms c.members
+    member_ready k = record { kind = (some', k); long = H.sets_long.0; held = members_in_lem }
 
-    pub rule_ready : get_or f 0 0 ≡ kind_rule → RuleReady old f groups names c.groups is c.rules
+    pub rule_ready : get_or f 0 0 ≡ kind_rule → RuleReady old f is c.rules
     rule_ready k =
-        record { kind = (some', k); room = room; lookup = lookup; long = H.sets_long.1; before = ids_of b.rules; ids = ids_in_lem }
+        record { kind = (some', k); long = H.sets_long.1; before = ids_of b.rules; ids = ids_in_lem }
 
 -- ---- what is kept, by its kind
 

@@ -6,8 +6,9 @@ use Rattle.text.specs.String.{Str}
 use Rattle.table.specs.Frame.{Entry, entry_of}
 use Rattle.table.specs.Refusal.{Earlier, with}
 use Rattle.table.specs.Text.{check, table_of}
-use Rattle.table.specs.declared.Checked.TheVariants as checked
+use Rattle.table.specs.Checked as checked
 use Rattle.table_load.specs.declared.row.Counts.{Counts}
+use Rattle.table_load.specs.declared.row.Sets.{Sets}
 use Rattle.table_load.specs.declared.loaded.Table.{Table}
 use Rattle.refusal.specs.Refusal.{number}
 use Rattle.refusal.specs.declared.fault.Fault.{Fault}
@@ -22,6 +23,14 @@ pub record Grown (b : Earlier) (old f : List ℕ) (c : Counts) (groups users own
 -- the bytes that were decoded
 abbrev pub bytes : Table → List ℕ
 bytes t = take t.used t.frames
+
+-- the same of a table that is being loaded, and its sets
+abbrev pub HeldBy : Earlier → Table → Sets → Type 0
+HeldBy b t s = Held b (bytes t) t.counts t.groups t.users t.owners t.starts t.holders s.names.sorted s.members s.ids
+
+-- t with the row f more, which is not counted yet
+abbrev pub GrownBy : Earlier → Table → List ℕ → Table → Sets → Type 0
+GrownBy b t f t' s' = Grown b (bytes t) f t.counts t'.groups t'.users t'.owners t'.starts t'.holders s'.names.sorted s'.members s'.ids
 
 -- the text is accepted, and t holds its table
 pub record Kept (text : Str) (t : Table) : Type 0 where

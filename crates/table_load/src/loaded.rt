@@ -30,12 +30,7 @@ impl Table {
             owners: [0; limits::MAX_MEMBERS],
             starts: [0; limits::MAX_RULES],
             holders: [0; limits::MAX_RULES],
-            counts: Counts {
-                kind: 0,
-                groups: 0,
-                members: 0,
-                rules: 0,
-            },
+            counts: Counts::NONE,
         }
     }
 

@@ -56,11 +56,9 @@ pub fn memberships(f: &[u8], users: &[u16], owners: &[u8], n: usize, user: &[u8]
     ensures { result ≡ set_in user.now f.now users.now owners.now n 0 0 }
 {
     let mut set: u64 = 0;
-    let mut i = 0;
-    while i < n {
+    for i in 0..n {
         let at = users[i] as usize;
         set = join(set, GroupNumber(owners[i]), f, at, user);
-        i += 1;
     }
     set
 }

@@ -24,13 +24,11 @@ pub fn find(f: &[u8], starts: &[u16], n: usize, name: &[u8]) -> usize
     requires { Listed f.now starts.now n }
     ensures { result ≡ place name.now (strings_in f.now starts.now n 0) }
 {
-    let mut i = 0;
-    while i < n {
+    for i in 0..n {
         let at = starts[i] as usize;
         if is_at(f, at, name) {
             return i;
         }
-        i += 1;
     }
     n
 }

@@ -16,7 +16,7 @@ use Rattle.table_rows.specs.Rules.{rule_in, rules_in}
 use Rattle.verdict_judge.specs.Rules.{RulesLaid}
 use Rattle.table.specs.Table as model
 use Rattle.table.specs.Text.{check}
-use Rattle.table.specs.declared.Checked.TheVariants as checked
+use Rattle.table.specs.Checked as checked
 use Rattle.verdict.specs.Verdict.{decider, tree}
 use Rattle.verdict_judge.specs.Rules.{Safe}
 use Rattle.verdict_judge.specs.declared.rules.Rules.{Rules}

@@ -26,7 +26,7 @@ use Rattle.path_read.specs.Filled as filled
 use Rattle.path_read.proofs.RoundTrip.{no_key_twice, text_reader}
 use Rattle.path_read.proofs.Longest.{bytes_length}
 use Rattle.table.specs.Group.{bad_user}
-use Rattle.table.specs.declared.Checked.TheVariants.{Accepted}
+use Rattle.table.specs.Checked.{Accepted}
 use Rattle.verdict.specs.Order.{Numbered}
 use Rattle.verdict.specs.Verdict.{Tree}
 use Rattle.table_place.specs.Place.{path_end, path_in}

@@ -57,7 +57,8 @@ pub fn path_verdict(
     crate::loaded::path_answer(rules_of(&loaded), asker, path)
 }
 
-// ALL, NONE or MIXED for the paths at or beneath, and the rule that MIXED names.
+// ALL, NONE or MIXED for the paths at or beneath, and the rule that MIXED names. It loads and asks as `path_verdict` does; one function of both would
+// take the call that is made as a closure, and its contract the answer of either as a parameter.
 pub fn tree_verdict(
     table: &[u8],
     user: &[u8],

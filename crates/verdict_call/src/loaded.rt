@@ -1,7 +1,7 @@
 // The verdicts on the rules of a loaded table. Required is only what keeps all reading within the arrays: so they serve rules of any origin.
 ghost use Rattle.std.specs.Prelude.{◌≡◌, ◌≤◌, length};
 ghost use Rattle.limits.specs.Sizes.{max_path_bytes};
-ghost use Rattle.table.specs.declared.Checked.TheVariants.{Accepted};
+ghost use Rattle.table.specs.Checked.{Accepted};
 ghost use Rattle.verdict.specs.Verdict.{decider, tree};
 ghost use Rattle.verdict_request.specs.Calls.{request, request_refusal, path_answer, tree_answer};
 ghost use Rattle.verdict_request.specs.Answers.{path_answer_of, tree_answer_of};

@@ -15,7 +15,7 @@ use Rattle.text.proofs.Tests.{clash, by, and_l, and_r, both, on_cons}
 use Rattle.table.specs.Frame.{Entry}
 use Rattle.table.specs.Refusal.{Line, not_hex, unreadable, reads, line_of, Earlier, refusal, after, with}
 use Rattle.table.specs.Text.{judge, unless}
-use Rattle.table.specs.declared.Checked.TheVariants.{Accepted}
+use Rattle.table.specs.Checked.{Accepted}
 use Rattle.verdict_order.specs.Reordering.{read, entries}
 
 entries_cons : (l : Str) (ls : List Str) (e : Entry) → line_of l ≡ reads e → entries (l ∷ ls) ≡ e ∷ entries ls

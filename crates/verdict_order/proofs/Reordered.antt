@@ -20,7 +20,7 @@ use Rattle.table.specs.Table.{Rule}
 use Rattle.table.specs.Frame.{Entry, version, group, member, rule}
 use Rattle.table.specs.Refusal.{Line, not_hex, unreadable, reads, line_of, Earlier, with, after, kind_of, out_of_order, listed, first, strays, same_member, same_id}
 use Rattle.table.specs.Text.{check, all_told, table, table_of}
-use Rattle.table.specs.declared.Checked.TheVariants.{Accepted}
+use Rattle.table.specs.Checked.{Accepted}
 use Rattle.path.specs.Refusal.{key_twice}
 use Rattle.verdict.specs.Laws.{of_bytes, Reordered}
 use Rattle.verdict.specs.Orderly.{Orderly}

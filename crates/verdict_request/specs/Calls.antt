@@ -10,8 +10,8 @@ use Rattle.path_read.specs.TextReader.{read_text}
 use Rattle.table.specs.Refusal.{stray}
 use Rattle.table.specs.Text.{check, table_of}
 use Rattle.table.specs.Group.{bad_user}
-use Rattle.table.specs.declared.Checked.{Checked}
-use Rattle.table.specs.declared.Checked.TheVariants as checked
+use Rattle.table.specs.Checked.{Checked}
+use Rattle.table.specs.Checked as checked
 use Rattle.verdict.specs.Order.{Numbered}
 use Rattle.verdict.specs.Verdict.{Request, decider, Tree, ALL, NONE, MIXED, tree}
 use Rattle.verdict_request.specs.PathAnswer.{PathAnswer}

@@ -39,7 +39,7 @@ pub insert-requires : goal.insert-requires
 insert-requires c =
     let h = string_ends _ _ _ c.string_end.ensures _ c.in-Some.is in
     let l : c.args.n < max_groups = below clear max_groups c.args.n _ _ _ _ _ _ c.is_unsized.ensures c.in_ok-number.ensures refl in
-    (c.find-s.ensures.placed.fits, omega arith, omega (arith, c.requires.room), omega (arith, h.1, h.2, c.requires.room))
+    (c.find-s.ensures.placed.fits, omega arith, omega (arith, c.args.row.room), omega (arith, h.1, h.2, c.args.row.room))
 
 pub bounds-starts-n : goal.bounds-starts-n
 bounds-starts-n c = below clear max_groups c.args.n _ _ _ _ _ _ c.is_unsized.ensures c.in_ok-number.ensures refl
@@ -53,7 +53,7 @@ returns-clause-value c =
 pub returns-clause-group_kept : goal.returns-clause-group_kept
 returns-clause-group_kept c =
     λ x. group_kept _ c.requires.kind _ c.string_end.ensures
-    (record { kind = c.args.last; groups = []; members = []; rules = [] }) _ refl _ c.in-Some.is
+    (record { kind = c.args.row.last; groups = []; members = []; rules = [] }) _ refl _ c.in-Some.is
     c.if-end-f.false _ c.is_out_of_order.ensures _ _ _
-    (below clear max_groups c.args.n _ _ _ _ _ _ c.is_unsized.ensures c.in_ok-number.ensures refl) c.requires.room c.args.names.now
+    (below clear max_groups c.args.n _ _ _ _ _ _ c.is_unsized.ensures c.in_ok-number.ensures refl) c.args.row.room c.args.names.now.sorted
     (omega arith) c.requires.named _ _ _ _ c.in_ok-number.ensures refl c.find-s.ensures _ c.insert.ensures

@@ -2,8 +2,9 @@
 use native.Mathlib.Omega.{arith}
 use mathlib.Core.Path.{refl, sym, ◌∙◌}
 use Rattle.std.proofs.lemmas.Result.{err_from_is_err_and}
+use Rattle.table.proofs.Numbers.{least_merged}
 use Rattle.table.proofs.Rules.{rule_told}
-use Rattle.table_keep_rule.proofs.Rules.{rule_short, told_so_far, rule_four, judging, rule_graded, rule_ready, rule_kept}
+use Rattle.table_keep_rule.proofs.Rules.{holder_same, rule_short, told_so_far, rule_four, judging, rule_graded, rule_ready, rule_kept}
 use Rattle.table_keep_rule.proofs.take_rule.Goals as goal
 
 pub returns-in_default-clause-value : goal.returns-in_default-clause-value
@@ -12,7 +13,7 @@ returns-in_default-clause-value c =
 
 pub returns-then-is_out_of_order-clause-value : goal.returns-then-is_out_of_order-clause-value
 returns-then-is_out_of_order-clause-value c =
-    λ b w g d. rule_four (told_so_far c.requires (rule_told _ _ c.read_rule.ensures _ c.in-Some.is)) (sym c.is_out_of_order.ensures ∙ c.if-is_out_of_order.true) b w
+    λ b w g d. rule_four (told_so_far c.requires.ready c.args.row.room c.args.groups.starts.now c.args.groups.count (rule_told _ _ c.read_rule.ensures _ c.in-Some.is)) (sym c.is_out_of_order.ensures ∙ c.if-is_out_of_order.true) b w
 
 pub overflow_add-from : goal.overflow_add-from
 overflow_add-from c =
@@ -62,61 +63,61 @@ pub bounds-f-3 : goal.bounds-f-3
 bounds-f-3 c =
     omega (arith, (rule_told _ _ c.read_rule.ensures _ c.in-Some.is).long)
 
-pub returns-in_err-number-clause-value : goal.returns-in_err-number-clause-value
-returns-in_err-number-clause-value c =
+pub returns-in_err-smaller-clause-value : goal.returns-in_err-smaller-clause-value
+returns-in_err-smaller-clause-value c =
     let p = err_from_is_err_and c.from_residual.result c.from_residual.ensures.1 in
-    λ b w g d. rw (p.1, p.2) (rule_graded (judging (told_so_far c.requires (rule_told _ _ c.read_rule.ensures _ c.in-Some.is)) _
-    c.is_out_of_order.ensures c.if-is_out_of_order.false c.holder_of-g.ensures c.hash.ensures c.find-t.ensures
-    c.is_unsized.ensures c.is_unsized-2.ensures c.all_print.ensures c.all_print-2.ensures c.all_print-3.ensures c.in_err-number.ensures) b w g d)
+    λ b w g d. rw (p.1, p.2) (rule_graded (judging (told_so_far c.requires.ready c.args.row.room c.args.groups.starts.now c.args.groups.count (rule_told _ _ c.read_rule.ensures _ c.in-Some.is)) _
+    c.is_out_of_order.ensures c.if-is_out_of_order.false (holder_same _ _ _ _ _ _ _ c.requires.of_row c.holder_of-g.ensures) c.hash.ensures c.find-t.ensures
+    c.is_unsized.ensures c.is_unsized-2.ensures c.all_print.ensures c.all_print-2.ensures c.all_print-3.ensures (least_merged _ _ _ _ _ _ _ _ (rule_told _ _ c.read_rule.ensures _ c.in-Some.is).path c.number.ensures c.in_err-smaller.ensures)) b w g d)
 
 pub overflow_cast-n : goal.overflow_cast-n
 overflow_cast-n c =
     omega (
       arith,
-      (rule_ready (judging (told_so_far c.requires (rule_told _ _ c.read_rule.ensures _ c.in-Some.is)) _
-          c.is_out_of_order.ensures c.if-is_out_of_order.false c.holder_of-g.ensures c.hash.ensures c.find-t.ensures
-          c.is_unsized.ensures c.is_unsized-2.ensures c.all_print.ensures c.all_print-2.ensures c.all_print-3.ensures c.in_ok-number.ensures) refl).3,
+      (rule_ready (judging (told_so_far c.requires.ready c.args.row.room c.args.groups.starts.now c.args.groups.count (rule_told _ _ c.read_rule.ensures _ c.in-Some.is)) _
+          c.is_out_of_order.ensures c.if-is_out_of_order.false (holder_same _ _ _ _ _ _ _ c.requires.of_row c.holder_of-g.ensures) c.hash.ensures c.find-t.ensures
+          c.is_unsized.ensures c.is_unsized-2.ensures c.all_print.ensures c.all_print-2.ensures c.all_print-3.ensures (least_merged _ _ _ _ _ _ _ _ (rule_told _ _ c.read_rule.ensures _ c.in-Some.is).path c.number.ensures c.in_ok-smaller.ensures)) refl).3,
     )
 
 pub store-requires : goal.store-requires
 store-requires c = (
-  (rule_ready (judging (told_so_far c.requires (rule_told _ _ c.read_rule.ensures _ c.in-Some.is)) _
-      c.is_out_of_order.ensures c.if-is_out_of_order.false c.holder_of-g.ensures c.hash.ensures c.find-t.ensures
-      c.is_unsized.ensures c.is_unsized-2.ensures c.all_print.ensures c.all_print-2.ensures c.all_print-3.ensures c.in_ok-number.ensures) refl).3,
-  omega (arith, c.requires.room, (rule_told _ _ c.read_rule.ensures _ c.in-Some.is).long),
+  (rule_ready (judging (told_so_far c.requires.ready c.args.row.room c.args.groups.starts.now c.args.groups.count (rule_told _ _ c.read_rule.ensures _ c.in-Some.is)) _
+      c.is_out_of_order.ensures c.if-is_out_of_order.false (holder_same _ _ _ _ _ _ _ c.requires.of_row c.holder_of-g.ensures) c.hash.ensures c.find-t.ensures
+      c.is_unsized.ensures c.is_unsized-2.ensures c.all_print.ensures c.all_print-2.ensures c.all_print-3.ensures (least_merged _ _ _ _ _ _ _ _ (rule_told _ _ c.read_rule.ensures _ c.in-Some.is).path c.number.ensures c.in_ok-smaller.ensures)) refl).3,
+  omega (arith, c.args.row.room, (rule_told _ _ c.read_rule.ensures _ c.in-Some.is).long),
 )
 
 pub overflow_add-begin : goal.overflow_add-begin
 overflow_add-begin c =
-    omega (arith, c.requires.room, (rule_told _ _ c.read_rule.ensures _ c.in-Some.is).long)
+    omega (arith, c.args.row.room, (rule_told _ _ c.read_rule.ensures _ c.in-Some.is).long)
 
 pub overflow_add-to : goal.overflow_add-to
 overflow_add-to c =
-    omega (arith, c.requires.room, (rule_told _ _ c.read_rule.ensures _ c.in-Some.is).long)
+    omega (arith, c.args.row.room, (rule_told _ _ c.read_rule.ensures _ c.in-Some.is).long)
 
 pub add-requires : goal.add-requires
 add-requires c =
     let a = (rule_told _ _ c.read_rule.ensures _ c.in-Some.is) in
-    let h = rule_ready (judging (told_so_far c.requires (rule_told _ _ c.read_rule.ensures _ c.in-Some.is)) _
-    c.is_out_of_order.ensures c.if-is_out_of_order.false c.holder_of-g.ensures c.hash.ensures c.find-t.ensures
-    c.is_unsized.ensures c.is_unsized-2.ensures c.all_print.ensures c.all_print-2.ensures c.all_print-3.ensures c.in_ok-number.ensures) refl in (
+    let h = rule_ready (judging (told_so_far c.requires.ready c.args.row.room c.args.groups.starts.now c.args.groups.count (rule_told _ _ c.read_rule.ensures _ c.in-Some.is)) _
+    c.is_out_of_order.ensures c.if-is_out_of_order.false (holder_same _ _ _ _ _ _ _ c.requires.of_row c.holder_of-g.ensures) c.hash.ensures c.find-t.ensures
+    c.is_unsized.ensures c.is_unsized-2.ensures c.all_print.ensures c.all_print-2.ensures c.all_print-3.ensures (least_merged _ _ _ _ _ _ _ _ (rule_told _ _ c.read_rule.ensures _ c.in-Some.is).path c.number.ensures c.in_ok-smaller.ensures)) refl in (
       h.0,
       h.1,
       omega arith,
       omega arith,
       h.2,
-      omega (arith, a.long, c.requires.room),
-      omega (arith, a.long, c.requires.room),
+      omega (arith, a.long, c.args.row.room),
+      omega (arith, a.long, c.args.row.room),
     )
 
 pub returns-clause-value : goal.returns-clause-value
 returns-clause-value c =
-    λ b w g d. rule_graded (judging (told_so_far c.requires (rule_told _ _ c.read_rule.ensures _ c.in-Some.is)) _
-    c.is_out_of_order.ensures c.if-is_out_of_order.false c.holder_of-g.ensures c.hash.ensures c.find-t.ensures
-    c.is_unsized.ensures c.is_unsized-2.ensures c.all_print.ensures c.all_print-2.ensures c.all_print-3.ensures c.in_ok-number.ensures) b w g d
+    λ b w g d. rule_graded (judging (told_so_far c.requires.ready c.args.row.room c.args.groups.starts.now c.args.groups.count (rule_told _ _ c.read_rule.ensures _ c.in-Some.is)) _
+    c.is_out_of_order.ensures c.if-is_out_of_order.false (holder_same _ _ _ _ _ _ _ c.requires.of_row c.holder_of-g.ensures) c.hash.ensures c.find-t.ensures
+    c.is_unsized.ensures c.is_unsized-2.ensures c.all_print.ensures c.all_print-2.ensures c.all_print-3.ensures (least_merged _ _ _ _ _ _ _ _ (rule_told _ _ c.read_rule.ensures _ c.in-Some.is).path c.number.ensures c.in_ok-smaller.ensures)) b w g d
 
 pub returns-clause-rule_kept : goal.returns-clause-rule_kept
 returns-clause-rule_kept c =
-    λ x. rule_kept (judging (told_so_far c.requires (rule_told _ _ c.read_rule.ensures _ c.in-Some.is)) _
-    c.is_out_of_order.ensures c.if-is_out_of_order.false c.holder_of-g.ensures c.hash.ensures c.find-t.ensures
-    c.is_unsized.ensures c.is_unsized-2.ensures c.all_print.ensures c.all_print-2.ensures c.all_print-3.ensures c.in_ok-number.ensures) refl _ _ _ _ _ (c.store.ensures.starts_after, c.store.ensures.holders_after) c.add.ensures
+    λ x. rule_kept (judging (told_so_far c.requires.ready c.args.row.room c.args.groups.starts.now c.args.groups.count (rule_told _ _ c.read_rule.ensures _ c.in-Some.is)) _
+    c.is_out_of_order.ensures c.if-is_out_of_order.false (holder_same _ _ _ _ _ _ _ c.requires.of_row c.holder_of-g.ensures) c.hash.ensures c.find-t.ensures
+    c.is_unsized.ensures c.is_unsized-2.ensures c.all_print.ensures c.all_print-2.ensures c.all_print-3.ensures (least_merged _ _ _ _ _ _ _ _ (rule_told _ _ c.read_rule.ensures _ c.in-Some.is).path c.number.ensures c.in_ok-smaller.ensures)) refl _ _ _ _ _ (c.store.ensures.starts_after, c.store.ensures.holders_after) c.add.ensures

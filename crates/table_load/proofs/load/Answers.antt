@@ -3,6 +3,7 @@ use mathlib.Core.Path.{refl, sym, ap, ◌∙◌}
 use Prim.Native.Nat.{ℕ, ◌-◌}
 use lib.ListN.{length-replicate}
 use Rattle.refusal.specs.Refusal.{code}
+use Rattle.std.specs.Prelude.{Err}
 use Rattle.refusal.proofs.Numbers.{never_clear}
 use Rattle.table_keep.specs.Held.{member_keys}
 use Rattle.table_keep_rule.specs.Kept.{id_keys}
@@ -36,12 +37,12 @@ overflow_add-end c =
     let h = row_room c.loop-from.invariant _ c.read_line.ensures.value _ c.in-Some.is _
     c.read_line.ensures.out_after in omega (arith, h.2)
 
-pub take_row-r-requires-clause-used_lt_end : goal.take_row-r-requires-clause-used_lt_end
-take_row-r-requires-clause-used_lt_end c =
+pub take_row-requires-clause-used_lt_end : goal.take_row-requires-clause-used_lt_end
+take_row-requires-clause-used_lt_end c =
     row_fits c.loop-from.invariant _ c.read_line.ensures.value _ c.in-Some.is _ c.read_line.ensures.out_after
 
-pub take_row-r-requires-clause-held : goal.take_row-r-requires-clause-held
-take_row-r-requires-clause-held c = (
+pub take_row-requires-clause-held : goal.take_row-requires-clause-held
+take_row-requires-clause-held c = (
   c.loop-from.invariant.b,
   held_again c.loop-from.invariant _ c.read_line.ensures.value _ c.in-Some.is _ c.read_line.ensures.out_after,
 )
@@ -51,10 +52,10 @@ unfolding Outcome
 returns-in-Err c =
     rw c.at-in-Err.ensures
     (load_refused c.loop-from.invariant _ c.read_line.ensures.value _ c.in-Some.is _
-    c.read_line.ensures.out_after _ c.in-Err.ensures (never_clear _))
+    c.read_line.ensures.out_after (code (Err c.in-Err.refusal)) (rw c.in-Err.is at c.take_row.ensures.row) (never_clear _))
 
-pub bounds-table-used : goal.bounds-table-used
-bounds-table-used c =
+pub bounds-table-table : goal.bounds-table-table
+bounds-table-table c =
     let h = row_fits c.loop-from.invariant _ c.read_line.ensures.value _ c.in-Some.is _
     c.read_line.ensures.out_after in omega (arith, h.0, h.2)
 
@@ -63,10 +64,17 @@ loop-from-smaller c =
     let h = goes_on c.loop-from.invariant _ c.read_line.ensures.value _ c.in-Some.is _
     c.read_line.ensures.out_after in omega (arith, h.0, h.1)
 
+pub invariant_of-table-in-loop-from-2 : goal.invariant_of-table-in-loop-from-2
+invariant_of-table-in-loop-from-2 c =
+    let h = row_fits c.loop-from.invariant _ c.read_line.ensures.value _ c.in-Some.is _
+    c.read_line.ensures.out_after in omega (arith, h.1)
+
 pub loop-from-preserved : goal.loop-from-preserved
 loop-from-preserved c =
-    load_again c.loop-from.invariant _ c.read_line.ensures.value _ c.in-Some.is _
-    c.read_line.ensures.out_after _ c.take_row-r.ensures (ap code c.in_default-r.is) _ c.after-c.ensures
+    let u = c.take_row.ensures.unchanged in
+    rw u.0
+    (load_again c.loop-from.invariant _ c.read_line.ensures.value _ c.in-Some.is _
+    c.read_line.ensures.out_after _ c.take_row.ensures.row (ap code c.in_default-take_row.is) _ (rw (u.0, u.1, u.2) at c.after-table.ensures))
 
 pub returns : goal.returns
 unfolding Outcome

@@ -8,8 +8,8 @@ use Rattle.table_load.proofs.load.Given as goal
 
 -- what the lines so far told is held in the table, and the rest of the text is still to be judged
 abbrev pub invariant-loop-from : goal.invariant-loop-from
-invariant-loop-from l = Going l.text l.table.frames l.c l.table.groups l.table.users
-    l.table.owners l.table.starts l.table.holders l.names l.member_keys l.id_keys l.from l.used l.line
+invariant-loop-from l = Going l.text l.table.frames l.table.counts l.table.groups l.table.users
+    l.table.owners l.table.starts l.table.holders l.sets.names.sorted l.sets.members l.sets.ids l.from l.table.used l.line
 
 abbrev pub decreases-loop-from : goal.decreases-loop-from
 decreases-loop-from l = length l.text - l.from

@@ -3,10 +3,10 @@ use mathlib.Core.Path.{sym, ap, ◌∙◌}
 use Rattle.burgee.specs.Word.{checked_word}
 use Rattle.burgee.proofs.word.of_checked.Goals as goal
 
-pub returns-in-Accepted : goal.returns-in-Accepted
+pub returns-in-Ok : goal.returns-in-Ok
 unfolding checked_word
-returns-in-Accepted c = sym (ap checked_word c.in-Accepted.is)
+returns-in-Ok c = rw c.in-Ok.is
 
-pub returns-in-Refused : goal.returns-in-Refused
+pub returns-in-Err : goal.returns-in-Err
 unfolding checked_word
-returns-in-Refused c = c.of_refusal.ensures ∙ sym (ap checked_word c.in-Refused.is)
+returns-in-Err c = rw c.in-Err.is (c.of_refusal.ensures ∙ rw c.number.ensures)

@@ -46,6 +46,6 @@ returns-then-path-f c =
 pub returns : goal.returns
 unfolding walk_said
 returns c =
-    rw c.code_of.ensures (read_rule _ c.requires c.if-f-lt-FRAME_SUBJECT.false (not-false _ c.if-not-known.false-raw) _
+    read_rule _ c.requires c.if-f-lt-FRAME_SUBJECT.false (not-false _ c.if-not-known.false-raw) _
     c.string_end.ensures _ c.in_ok-subject.was _ c.string_end-2.ensures _ c.in_ok-id.was _
-    c.string_end-3.ensures _ c.in_ok-origin.was _ _ c.in-Some.ensures c.if-path-f.false)
+    c.string_end-3.ensures _ c.in_ok-origin.was _ _ c.in-Some.ensures c.if-path-f.false

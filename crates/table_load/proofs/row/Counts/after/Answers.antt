@@ -3,7 +3,7 @@ use native.Mathlib.Omega.{arith}
 use borrow.Author.Tests.{ne_eqb}
 use Rattle.text.specs.Test.{whether◌then◌else◌}
 use Rattle.table_load.specs.Held.{counts_after}
-use Rattle.table_load.proofs.row.after.Goals as goal
+use Rattle.table_load.proofs.row.Counts.after.Goals as goal
 
 pub returns-in-2 : goal.returns-in-2
 unfolding counts_after whether◌then◌else◌
