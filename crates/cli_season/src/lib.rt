@@ -27,9 +27,7 @@ pub fn page(
 
 // The page on a table, and on the log that an argument names.
 pub fn season(console: &mut Console, table: &[u8], argument: usize) {
-    let mut counts = [0u64; limits::MAX_RULES];
-    let mut grid = [[0u64; 3]; 2];
-    if cli_report::count(console, table, argument, &mut counts, &mut grid) {
-        page(console, table, &counts, &grid);
+    if let Some(tally) = cli_report::count(console, table, argument) {
+        page(console, table, &tally.rules, &tally.grid);
     }
 }
