@@ -10,10 +10,7 @@ use text_make::Text;
 // Room for the line.
 const ROOM: usize = 64;
 
-// Told at no time.
-const NEVER: u64 = u64::MAX;
-
-// The seconds since 1970 began; 0 where the system does not tell them.
+// The seconds since 1970 began. Where the system does not tell them, the clock stands at 0, and nothing is told.
 fn seconds(console: &Console) -> u64
     ensures { result + 2 ≤ 2 ^ 63 + 1 }
 {
@@ -23,25 +20,23 @@ fn seconds(console: &Console) -> u64
     }
 }
 
-// A count begins: from which second on it is told. From one second to the next but one, more than a second passes.
-pub fn begin(console: &Console) -> u64 {
+// A count begins: from which second on it is told, if it is told at all. From one second to the next but one, more than a second passes.
+pub fn begin(console: &Console) -> Option<u64> {
     if !console.rt.stderr().is_terminal() {
-        return NEVER;
+        return None;
     }
-    seconds(console) + 2
+    Some(seconds(console) + 2)
 }
 
 // Tells how many lines are counted, where it is time for that; and from which second on it is told next.
-pub fn tell(console: &mut Console, next: u64, lines: usize) -> u64 {
-    if next == NEVER {
-        return NEVER;
-    }
+pub fn tell(console: &mut Console, next: Option<u64>, lines: usize) -> Option<u64> {
+    let next = next?;
     let now = seconds(console);
     if now < next {
-        return next;
+        return Some(next);
     }
     let mut text: Text<ROOM> = Text::new();
     text.push_fact(b"burgee: lines counted so far: ", lines as u64);
     cli_show::word_to(console, Stream::Error, text.as_bytes());
-    now + 1
+    Some(now + 1)
 }

@@ -9,12 +9,17 @@ use Rattle.text.specs.Test.{whether◌then◌else◌}
 use Rattle.text.specs.String.{Str}
 use Rattle.table.specs.Text.{check, table_of}
 use Rattle.table.specs.Checked as checked
-use Rattle.table_rows.specs.Rules.{rules_in}
 use Rattle.table_load.specs.declared.loaded.Table.{Table}
 use Rattle.table_load.specs.Loaded.{Kept, bytes}
+use Rattle.limits.specs.Limits.{max_rules}
+use Rattle.verdict_judge.specs.declared.rules.Rules.{Rules}
+use Rattle.verdict_call.specs.Holding.{RulesOf}
 use Rattle.verdict_call.proofs.Holding.{holding}
+use Rattle.season_parts.specs.Grid.{FewCells}
+use Rattle.season_count.specs.declared.count.Tally.{Tally}
+use Rattle.cli_season_rules.specs.Steps.{Few, Listable}
 use Rattle.cli_season.specs.Page.{none_line, or_none, page_of, page}
-use Rattle.cli_season.specs.Steps.{none_from, MakesPage}
+use Rattle.cli_season.specs.Steps.{none_from, rules_of, MakesPage}
 use Rattle.cli_season_rules.proofs.Listing.{rules_long}
 
 -- lines, or that there are none
@@ -29,13 +34,25 @@ none_or d (x ∷ xs) d' a d'' b =
 
 -- ---- on a loaded table
 
-pub page_made : {text : List ℕ} {t : Table} → Kept text t
-    → (counts : List ℕ) (grid : List (List ℕ)) (made : List ℕ) → made ≡ page_of (rules_in (bytes t) t.starts t.counts.rules 0) (take t.counts.rules counts) grid
+pub page_made : {text : List ℕ} {t : Table} → Kept text t → (R : Rules) → RulesOf t R
+    → (counts : List ℕ) (grid : List (List ℕ)) (made : List ℕ) → made ≡ page_of (rules_of R) (take R.count counts) grid
     → MakesPage text counts grid made
 unfolding page
-page_made {text} {t} K counts grid made a accepted =
+page_made {text} {t} K R A counts grid made e accepted =
     let r : length (table_of text).rules ≡ t.counts.rules = ap length (sym (holding K).rules) ∙ rules_long (bytes t) t.starts t.counts.rules in
-    rw r (rw (holding K).rules at a)
+    rw r (rw (holding K).rules at (rw (A.bytes_are, A.starts_are, A.count_is) at e))
 
 pub no_page : (text : Str) (counts : List ℕ) (grid : List (List ℕ)) (made : List ℕ) (x l : ℕ) → checked.Refused x l ≡ check text → MakesPage text counts grid made
 no_page text counts grid made x l h accepted = let z : checked.Refused x l ≡ checked.Accepted = h ∙ accepted in let y : ◌≡◌ {A = ℕ} 0 1 = cc in absurd (omega arith)
+
+-- ---- what a tally keeps
+
+module _ (t : Tally) where
+  pub few_rules : Few t.rules
+  few_rules i = omega (arith, t.low.rules i, t.few)
+
+  pub few_cells : FewCells t.grid
+  few_cells r c = omega (arith, t.low.cells r c, t.few)
+
+pub listable : (R : Rules) (counts : List ℕ) → length counts ≡ max_rules → Few counts → Listable R.bytes.now R.starts.now R.count counts
+listable R counts l f = record { placed = R.safe.rules; counted = omega (arith, l, R.safe.few); few = f }

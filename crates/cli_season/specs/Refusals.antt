@@ -2,8 +2,8 @@
 use Rattle.std.specs.Prelude.{ℕ, [], ◌++◌}
 use Rattle.text.specs.String.{Str, bytes}
 use Rattle.cli_refusal.specs.Refusal.{place}
-use Rattle.season_sum.specs.declared.Outcome.{Outcome}
-use Rattle.season_sum.specs.declared.Outcome.TheVariants.{Good, NoFigure, LineCount, TooLarge}
+use Rattle.season_sum.specs.Outcome.{Outcome}
+use Rattle.season_sum.specs.Outcome.{Good, NoFigure, LineCount, TooLarge}
 
 -- the line that is at fault; there is no line 0
 unfoldable pub line_of : Outcome → ℕ

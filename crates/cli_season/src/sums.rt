@@ -6,7 +6,7 @@ use crate::refusals;
 use cli_console::input;
 use cli_show::console::Console;
 use cli_show::{Stream, WORD_ROOM};
-use season_sum::Outcome;
+use season_sum::BadReport;
 use season_sum::writing::{self, MAX_REPORT};
 use text_make::Text;
 
@@ -20,32 +20,31 @@ const MAX_NAME: usize = WORD_ROOM;
 const MAX_LINE: usize = MAX_NAME + refusals::MAX_WORDS;
 
 // Tells why the report in the file that argument i names is refused.
-fn refuse(console: &mut Console, i: usize, o: Outcome) {
+fn refuse(console: &mut Console, i: usize, why: BadReport) {
     let mut name = [0u8; MAX_NAME];
     let k = input::word(console, i, &mut name);
     let mut line: Text<MAX_LINE> = Text::new();
-    refusals::add_line(&name[..k], o, &mut line);
+    refusals::add_line(&name[..k], why, &mut line);
     cli_show::word_to(console, Stream::Error, line.as_bytes());
     cli_show::marks::refusal(console);
 }
 
 // And the line of its text that is at fault, where it has one of that number. `is_all` says that the text is the whole file.
-fn quote(console: &mut Console, text: &[u8], o: Outcome, is_all: bool) {
-    match o {
-        Outcome::Good => {}
-        Outcome::NoFigure { line } => cli_console::refused::quote_line(
+fn quote(console: &mut Console, text: &[u8], why: BadReport, is_all: bool) {
+    match why {
+        BadReport::NoFigure { line } => cli_console::refused::quote_line(
             console,
             Stream::Error,
             text,
             line,
             is_all,
         ),
-        Outcome::LineCount { line } => {
+        BadReport::LineCount { line } => {
             if limits::REPORT_LINES < line {
                 cli_console::refused::quote_line(console, Stream::Error, text, line, false);
             }
         }
-        Outcome::TooLarge { line } => cli_console::refused::quote_line(
+        BadReport::TooLarge { line } => cli_console::refused::quote_line(
             console,
             Stream::Error,
             text,
@@ -66,13 +65,12 @@ fn add(console: &mut Console, i: usize, sums: &mut [u64; limits::REPORT_LINES]) 
     if !got.is_good {
         return false;
     }
-    let o = season_sum::adding::add_report(&text[..n], sums);
-    if let Outcome::Good = o {
-        return true;
+    if let Err(why) = season_sum::adding::add_report(&text[..n], sums) {
+        refuse(console, i, why);
+        quote(console, &text[..n], why, n < TEXT_ROOM);
+        return false;
     }
-    refuse(console, i, o);
-    quote(console, &text[..n], o, n < TEXT_ROOM);
-    false
+    true
 }
 
 // Whether standard input is named once at most, from argument 2 on.

@@ -1,71 +1,90 @@
 -- The report of an accepted table and an accepted log is the text of the counts.
-use Prim.Native.Nat.{ℕ, zero, suc, ◌≤◌}
+use Prim.Native.Nat.{ℕ, ◌+◌}
 use native.Mathlib.Omega.{arith}
-use mathlib.Core.Path.{◌≡◌, refl, ap, subst}
-use mathlib.Core.Bool.{Bool}
-use mathlib.Core.List.{List, [], ◌++◌}
-use lib.ListN.{length, take, get_or, replicate}
-use Rattle.limits.specs.Limits.{max_rules}
+use mathlib.Core.Path.{◌≡◌, ap, subst}
+use mathlib.Core.List.{List, []}
 use Rattle.text.specs.Test.{only}
 use Rattle.text.specs.String.{Str, joined}
 use Rattle.table.specs.Text.{check, table_of}
 use Rattle.table.specs.Checked as checked
-use Rattle.table_load.specs.declared.loaded.Table.{Table as Loaded}
-use Rattle.table_load.specs.Loaded.{Kept, bytes}
+use Rattle.table_load.specs.declared.loaded.Table.{Table as Kept·Table}
+use Rattle.table_load.specs.Loaded.{Kept}
 use Rattle.table_check.proofs.Calls.{count_requires, grouped}
 use Rattle.verdict.specs.Verdict.{Request}
 use Rattle.table.specs.Table.{Table}
 use Rattle.verdict_call.proofs.Holding.{safe, holding}
-use Rattle.request_log.specs.Log.{check_log, log_of}
+use Rattle.table_line.specs.Lines.{lines}
+use Rattle.request_log.specs.Log.{check_log, log_of, judge_log}
 use Rattle.season.specs.Report.{count, for_each, rule_count, rule_counts, cell, row, grid, figures, figure_line, report}
 use Rattle.season.specs.Calls.{first_fault, fault, report_of, answered, stored, season_answer, season_lent}
 use Rattle.season.specs.declared.Reported.{Reported}
 use Rattle.season.specs.declared.Reported.TheVariants.{Refused}
-use Rattle.season_count.specs.Counts.{cell_of, UpTo}
-use Rattle.season_count.specs.Loaded.{Sound, Is, Remembered}
-use Rattle.season_count.specs.Counting.{CountsOf, Counts-lines}
-use Rattle.season_count.specs.declared.lines.Ended.{Ended}
-use Rattle.season_count.specs.declared.lines.Ended.TheVariants as ended
-use Rattle.season_call.specs.Counted.{CountedLog, CountsLog}
-use Rattle.season_call.specs.Written.{cells_in, hands_out, left_in}
+use Rattle.std.specs.Prelude.{Result, Ok, Err}
+use Rattle.refusal.specs.Refusal.{number}
+use Rattle.refusal.specs.declared.fault.Fault.{Fault}
+use Rattle.season_count.specs.Counts.{NoneIn}
+use Rattle.season_count.specs.Sound.{Sound, LoadedOf}
+use Rattle.season_count.specs.Loaded.{Is, Remembered}
+use Rattle.season_count.specs.Counting.{CountsOf, CountedLines, Counts-lines}
+use Rattle.season_count.specs.declared.count.Tally.{Tally}
+use Rattle.season_count.specs.declared.loaded.Loaded.{Loaded}
+use Rattle.season_count.specs.declared.run.Run.{Run}
+use Rattle.season_call.specs.Counted.{CountedLog}
+use Rattle.season_call.specs.Written.{figures_in, hands_out, left_in}
 
 -- ---- a loaded table
 
-module _ {text : List ℕ} {t : Loaded} (K : Kept text t) where
-  pub sound : Sound (bytes t) t.users t.owners t.counts.members t.starts t.holders t.counts.rules
+module _ {text : List ℕ} {t : Kept·Table} (K : Kept text t) where
+  pub sound : Sound t
   sound = record { members = count_requires K; rules = safe K }
 
-  pub is_table : Is (bytes t) t.users t.owners t.counts.members t.starts t.holders t.counts.rules (table_of text)
-  is_table = record { holding = holding K; groups = grouped K }
+  pub is_table : (L : Loaded) → LoadedOf t L → Is L (table_of text)
+  is_table L A =
+      record {
+        holding = rw (A.rules.bytes_are, A.rules.starts_are, A.rules.holders_are, A.rules.count_is) (holding K);
+        groups = λ user. rw (A.rules.bytes_are, A.users, A.owners, A.members) (grouped K user);
+      }
 
 -- ---- a whole log
 
-module _ (f users owners : List ℕ) (m : ℕ) (starts holders : List ℕ) (n : ℕ) (log : Str) (counts : List ℕ) (cells : List (List ℕ))
-    (key : List ℕ) (on : List Bool) (counts' : List ℕ) (cells' : List (List ℕ)) where
-  pub whole_log : (e : Ended) → Counts-lines f users owners m starts holders n log 0 counts cells key on counts' cells' e
-      → CountsLog f users owners m starts holders n log counts cells counts' cells' e
-  unfolding Counts-lines CountsLog check_log log_of
-  whole_log (ended.Lines all len) L = record { accepted = L.accepted; counts_are = λ t is c. L.counts_are t is [] c }
-  whole_log (ended.Refused number line) L = L
+-- what `count_lines` tells, by its answer
+module _ (L : Loaded) (log : Str) (tally : Tally) (run : Run) (tally' : Tally) (r : Result (Unit {0}) Fault) (C : Counts-lines L log tally run tally' r) where
+  pub lines_counted : (u : Unit {0}) → r ≡ Ok u → CountedLines L log tally run tally'
+  unfolding Counts-lines
+  lines_counted u e = subst (Counts-lines L log tally run tally') e C
 
-module _ (f users owners : List ℕ) (m : ℕ) (starts holders : List ℕ) (n : ℕ) (log : Str) (counts : List ℕ) (cells : List (List ℕ))
-    (counts' : List ℕ) (cells' : List (List ℕ)) (e : Ended) (C : CountsLog f users owners m starts holders n log counts cells counts' cells' e) where
-  pub log_refused : (number line : ℕ) → e ≡ ended.Refused number line → check_log log ≡ checked.Refused number line
-  unfolding CountsLog
-  log_refused number line i = subst (λ (x : Ended). CountsLog f users owners m starts holders n log counts cells counts' cells' x) i C
+  pub lines_refused : (f : Fault) → r ≡ Err f → judge_log (tally.lines + 1) (lines log) ≡ checked.Refused (number f.refusal) f.line
+  unfolding Counts-lines
+  lines_refused f e = subst (Counts-lines L log tally run tally') e C
 
-  pub log_counted : (all len : ℕ) → e ≡ ended.Lines all len → CountedLog f users owners m starts holders n log counts cells counts' cells'
-  unfolding CountsLog
-  log_counted all len i = subst (λ (x : Ended). CountsLog f users owners m starts holders n log counts cells counts' cells' x) i C
+pub nothing_remembered : (L : Loaded) (run : Run) → run.len ≡ 0 → Remembered L run
+nothing_remembered L run e = record { head = λ l. absurd (omega arith) }
+
+module _ (tally : Tally) (N : NoneIn tally.rules tally.grid tally.lines) where
+  pub none_counted : (t : Table) → CountsOf t [] tally
+  unfolding rule_counts for_each rule_count count only grid row cell
+  none_counted t = record { rules = N.rules; rows = N.cells }
+
+  module _ (L : Loaded) (log : Str) (run : Run) (tally' : Tally) where
+    pub whole_log : CountedLines L log tally run tally' → CountedLog L log tally'
+    unfolding check_log log_of
+    whole_log C = record {
+      accepted = rw N.none at C.accepted;
+      counts_are = λ t is. C.counts_are t is [] (none_counted t);
+    }
+
+    pub whole_refused : {n l : ℕ} → judge_log (tally.lines + 1) (lines log) ≡ checked.Refused n l → check_log log ≡ checked.Refused n l
+    unfolding check_log
+    whole_refused e = rw N.none at e
 
 -- ---- the call
 
-module _ (t : Table) (qs : List Request) (counts : List ℕ) (cells : List (List ℕ)) (c : CountsOf t qs counts cells) where
-  figures_are : figures t qs ≡ counts ++ cells_in cells
+module _ (t : Table) (qs : List Request) (tally : Tally) (c : CountsOf t qs tally) where
+  figures_are : figures t qs ≡ figures_in tally
   unfolding figures grid row
   figures_are = rw (c.rules, c.rows)
 
-  pub report_is : report t qs ≡ joined figure_line (counts ++ cells_in cells)
+  pub report_is : report t qs ≡ joined figure_line (figures_in tally)
   unfolding report
   report_is = ap (joined figure_line) figures_are
 
@@ -79,33 +98,8 @@ module _ (table log out : Str) where
     unfolding season_answer season_lent fault first_fault answered stored
     log_refusal n l e = (rw (a, e), rw (a, e))
 
-    module _ (b : check_log log ≡ checked.Accepted) (counts : List ℕ) (cells : List (List ℕ)) (c : CountsOf (table_of table) (log_of log) counts cells) where
-      pub reported : (r : Reported) (out' : List ℕ) → r ≡ hands_out (counts ++ cells_in cells) out → out' ≡ left_in (counts ++ cells_in cells) out
+    module _ (b : check_log log ≡ checked.Accepted) (tally : Tally) (c : CountsOf (table_of table) (log_of log) tally) where
+      pub reported : (r : Reported) (out' : List ℕ) → r ≡ hands_out (figures_in tally) out → out' ≡ left_in (figures_in tally) out
           → (r ≡ season_answer table log out) × (out' ≡ season_lent table log out)
       unfolding season_answer season_lent fault first_fault report_of
-      reported r out' e w = (rw (a, b, report_is (table_of table) (log_of log) counts cells c) e, rw (a, b, report_is (table_of table) (log_of log) counts cells c) w)
-
-pub nothing_remembered : (f users owners : List ℕ) (m : ℕ) (starts holders : List ℕ) (n : ℕ) (key : List ℕ) (on : List Bool) → n ≤ length on → Remembered f users owners m starts holders n key 0 on
-nothing_remembered f users owners m starts holders n key on h = record { within = omega arith; marks = h; head = λ l. absurd (omega arith) }
-
--- ---- before the first line
-
-zeros_low : (n i : ℕ) → get_or (replicate n 0) i 0 ≤ 0
-zeros_low zero i = omega arith
-zeros_low (suc n) zero = omega arith
-zeros_low (suc n) (suc i) = zeros_low n i
-
-row_low : (c : ℕ) → get_or (replicate 3 0) c 0 ≤ 0
-row_low c = zeros_low 3 c
-
-cells_low : (r c : ℕ) → cell_of (replicate 2 (replicate 3 0)) r c ≤ 0
-cells_low zero c = row_low c
-cells_low (suc zero) c = row_low c
-cells_low (suc (suc r)) c = zeros_low 0 c
-
-pub none_up_to : UpTo 0 (replicate max_rules 0) (replicate 2 (replicate 3 0))
-none_up_to = record { rules = zeros_low max_rules; cells = cells_low }
-
-pub none_counted : (t : Table) → CountsOf t [] (replicate max_rules 0) (replicate 2 (replicate 3 0))
-unfolding rule_counts for_each rule_count count only grid row cell
-none_counted t = record { rules = refl; rows = refl }
+      reported r out' e w = (rw (a, b, report_is (table_of table) (log_of log) tally c) e, rw (a, b, report_is (table_of table) (log_of log) tally c) w)

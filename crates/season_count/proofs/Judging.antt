@@ -2,10 +2,12 @@
 use mathlib.Core.Bool.{Bool}
 use Prim.Native.Nat.{ℕ, ◌≤◌, ◌<◌}
 use native.Mathlib.Omega.{arith}
-use mathlib.Core.Path.{◌≡◌, refl, ap, ◌∙◌}
+use mathlib.Core.Path.{◌≡◌, refl, ap, ◌∙◌, subst}
 use mathlib.Core.Bool.{true, false}
 use mathlib.Core.List.{List}
 use mathlib.Core.Option.{Option, none, some}
+use Rattle.std.specs.Prelude.{Some, None}
+use Rattle.std.specs.Prelude.{Option as RustOption}
 use lib.ListN.{length, get_or}
 use Rattle.limits.specs.Limits.{max_rules}
 use Rattle.text.specs.Test.{whether◌then◌else◌}
@@ -29,7 +31,9 @@ use Rattle.request_log.proofs.Headings.{no_path_there, head_mode, bad_path, good
 use Rattle.request_log.proofs.Lengths.{good_mode}
 use Rattle.season.specs.Report.{answer_to}
 use Rattle.season_count.specs.Counts.{Placed}
-use Rattle.season_count.specs.Loaded.{Headed, Answers}
+use Rattle.season_count.specs.Loaded.{Headed, GoodHead, Answers}
+use Rattle.season_count.specs.declared.run.Run.{Run}
+use Rattle.season_count.specs.declared.loaded.Loaded.{Loaded}
 
 -- ---- the path
 
@@ -48,28 +52,38 @@ decided_placed none n l h = tt
 decided_placed (some m) n l h =
     let k : m.number < max_rules = omega (arith, l m refl) in by m.rule.permit (λ p. rw p k) (λ p. rw p k)
 
+-- ---- what `turn_to` tells
+
+module _ (L : Loaded) (frame : List ℕ) (r : Run) (o : RustOption ℕ) (H : Headed L frame r o) where
+  pub no_head : o ≡ None → good_request frame ≡ none
+  unfolding Headed
+  no_head e = subst (Headed L frame r) e H
+
+  pub head_of : (e : ℕ) → o ≡ Some e → GoodHead L frame r e
+  unfolding Headed
+  head_of e i = subst (Headed L frame r) i H
+
 -- ---- the answer
 
-module _ {f users owners : List ℕ} {m : ℕ} {starts holders : List ℕ} {n : ℕ} {frame key : List ℕ} {on : List Bool} {r : ℕ}
-    (H : Headed f users owners m starts holders n frame key on r) (l : 0 < r) where
-  pub bad_end : is_path_in frame (path frame r) ≡ false → good_request frame ≡ none
-  bad_end y = let h = H.good l in bad_path frame h.0 r h.1 h.2 y
+module _ {L : Loaded} {frame : List ℕ} {r : Run} {e : ℕ} (H : GoodHead L frame r e) where
+  pub bad_end : is_path_in frame (path frame e) ≡ false → good_request frame ≡ none
+  bad_end y = bad_path frame H.head e H.reads H.good y
 
-  pub answered : is_path_in frame (path frame r) ≡ true → n ≤ max_rules → (x : Option Numbered) → NumberBelow n x
-      → ((app : Rule → Bool) → Marked app f starts on n → x ≡ choose better (matching app (path_in frame r)) 0 (rules_in f starts n 0))
-      → (a : PathAnswer) → a ≡ decided_by x → Answers f users owners m starts holders n frame key r on a
+  pub answered : is_path_in frame (path frame e) ≡ true → (x : Option Numbered) → NumberBelow L.rules.count x
+      → ((app : Rule → Bool) → Marked app L.rules.bytes.now L.rules.starts.now r.on L.rules.count
+      → x ≡ choose better (matching app (path_in frame e)) 0 (rules_in L.rules.bytes.now L.rules.starts.now L.rules.count 0))
+      → (a : PathAnswer) → a ≡ decided_by x → Answers L frame r a
   unfolding answer_to
-  answered y few x below best a e =
-      let h = H.good l in
-      let mode : h.0.mode ≡ get_or frame 0 0 = head_mode frame h.0 r h.1 in
+  answered y x below best a i =
+      let mode : H.head.mode ≡ get_or frame 0 0 = head_mode frame H.head e H.reads in
       record {
-        kept = H.kept;
-        placed = rw e (decided_placed x n below few);
-        mode = rw mode at (good_mode h.0 h.2);
-        request = with_path h.0 (path_in frame r);
-        good = good_path_lem frame h.0 r h.1 h.2 y;
+        kept = record { head = λ q. (H.head, H.bytes, H.good, H.marks) };
+        placed = rw i (decided_placed x L.rules.count below L.rules.safe.few);
+        mode = rw mode at (good_mode H.head H.good);
+        request = with_path H.head (path_in frame e);
+        good = good_path_lem frame H.head e H.reads H.good y;
         same_mode = mode;
         answer =
-            λ t is. e ∙ ap decided_by (found t f starts holders n is.holding h.0.user _ (is.groups h.0.user) h.0.mode h.0.origin
-            (path_in frame r) on h.3 x best);
+            λ t is. i ∙ ap decided_by (found t L.rules.bytes.now L.rules.starts.now L.rules.holders.now L.rules.count is.holding H.head.user _
+            (is.groups H.head.user) H.head.mode H.head.origin (path_in frame e) r.on H.marks x best);
       }

@@ -1,5 +1,4 @@
 -- One line counted: what was decoded is its frame, and what was judged is its request.
-use mathlib.Core.Bool.{Bool}
 use Prim.Native.Nat.{ℕ, ◌+◌, ◌≤◌, ◌<◌}
 use native.Mathlib.Omega.{arith}
 use mathlib.Core.Path.{◌≡◌, sym, ap, ◌∙◌, subst}
@@ -7,6 +6,8 @@ use mathlib.Core.List.{List}
 use mathlib.Core.Option.{none}
 use lib.ListN.{length, take, drop, get_or, length-drop}
 use lib.Seq.{get_or-take}
+use Rattle.std.specs.Prelude.{Some, None}
+use Rattle.std.specs.Prelude.{Option as RustOption}
 use Rattle.limits.specs.Sizes.{max_log_frame}
 use Rattle.text.specs.String.{Str}
 use Rattle.text.specs.Fill.{put}
@@ -22,21 +23,22 @@ use Rattle.request_log.specs.Request.{good_request, request_of}
 use Rattle.season_count.specs.Counts.{raised_by, cell_raised_by}
 use Rattle.season_count.specs.Loaded.{Answers, Judges}
 use Rattle.season_count.specs.Counting.{Reaches, BadLine, CountedLine}
-use Rattle.season_count.specs.declared.heading.Judged.{Judged}
-use Rattle.season_count.specs.declared.heading.Judged.TheVariants.{Bad, Answer}
-use Rattle.season_count.proofs.Raising.{rules_raised, cell_raised_lem, still_low}
+use Rattle.season_count.specs.declared.count.Tally.{Tally}
+use Rattle.season_count.specs.declared.run.Run.{Run}
+use Rattle.season_count.specs.declared.loaded.Loaded.{Loaded}
+use Rattle.season_count.proofs.Raising.{rules_raised, cell_raised_lem}
 use Rattle.season_count.proofs.Windows.{line_room_lem, next_within, first_line_lem, request_frame}
 
 -- ---- what `judge` tells
 
-module _ (f users owners : List ℕ) (m : ℕ) (starts holders : List ℕ) (n : ℕ) (frame key : List ℕ) (on : List Bool) (j : Judged) (J : Judges f users owners m starts holders n frame key on j) where
-  pub judged_bad : j ≡ Bad → good_request frame ≡ none
+module _ (L : Loaded) (frame : List ℕ) (r : Run) (j : RustOption given.PathAnswer) (J : Judges L frame r j) where
+  pub judged_bad : j ≡ None → good_request frame ≡ none
   unfolding Judges
-  judged_bad e = subst (λ (x : Judged). Judges f users owners m starts holders n frame key on x) e J
+  judged_bad e = subst (λ (x : RustOption given.PathAnswer). Judges L frame r x) e J
 
-  pub judged_answer : (len : ℕ) (a : given.PathAnswer) → j ≡ Answer len a → Answers f users owners m starts holders n frame key len on (on_path a)
+  pub judged_answer : (a : given.PathAnswer) → j ≡ Some a → Answers L frame r (on_path a)
   unfolding Judges
-  judged_answer len a e = subst (λ (x : Judged). Judges f users owners m starts holders n frame key on x) e J
+  judged_answer a e = subst (λ (x : RustOption given.PathAnswer). Judges L frame r x) e J
 
 -- ---- the line, decoded
 
@@ -73,14 +75,13 @@ module _ (text : Str) (from to : ℕ) (h : from < length text) (r : Reaches from
     pub first_of : get_or line' 0 0 ≡ get_or (take len line') 0 0
     first_of = sym (get_or-take len line' 0 0 g.some')
 
-    module _ (f users owners : List ℕ) (m : ℕ) (starts holders : List ℕ) (n : ℕ) (key : List ℕ) (path : ℕ) (on : List Bool) (a : PathAnswer)
-        (A : Answers f users owners m starts holders n (take len line') key path on a) where
+    module _ (L : Loaded) (run : Run) (a : PathAnswer) (A : Answers L (take len line') run a) where
       pub mode_fits : (1 ≤ get_or line' 0 0) × (get_or line' 0 0 ≤ 2)
       mode_fits = rw first_of A.mode
 
-      pub counted_line : (counts counts' : List ℕ) (cells cells' : List (List ℕ)) → counts' ≡ raised_by counts a → cells' ≡ cell_raised_by cells (get_or line' 0 0) a
-          → CountedLine f users owners m starts holders n text from counts cells next key path on counts' cells'
-      counted_line counts counts' cells cells' c d =
+      pub counted_line : (tally tally' : Tally) → tally'.rules ≡ raised_by tally.rules a → tally'.grid ≡ cell_raised_by tally.grid (get_or line' 0 0) a
+          → tally'.lines ≡ tally.lines + 1 → CountedLine L text from tally next run tally'
+      counted_line tally tally' c d m =
           let goes = g.goes in
           record {
             line = g.line;
@@ -88,7 +89,7 @@ module _ (text : Str) (from to : ℕ) (h : from < length text) (r : Reaches from
             first = first_line_lem text from to h r g;
             good = request_is ∙ A.good;
             goes = (omega arith, next_within text from to h r g);
-            low = λ k u. rw (c, d) (still_low k counts cells u (get_or line' 0 0) a);
+            more = m;
             kept = A.kept;
             counts_are =
                 λ t is qs C. record {

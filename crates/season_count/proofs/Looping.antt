@@ -1,5 +1,4 @@
 -- Counting line after line: what the loop keeps.
-use mathlib.Core.Bool.{Bool}
 use Prim.Native.Nat.{ℕ, ◌+◌, ◌≤◌, ◌<◌}
 use native.Mathlib.Nat.{add-zero}
 use native.Mathlib.Omega.{arith}
@@ -9,6 +8,8 @@ use mathlib.Core.List.{List, [], ◌∷◌, ◌++◌, append_assoc, append-nil}
 use mathlib.Core.Option.{Option, none, some}
 use lib.ListN.{length, drop, length-append, length-drop}
 use lib.Seq.{drop-length}
+use Rattle.std.specs.Prelude.{Some, None}
+use Rattle.std.specs.Prelude.{Option as RustOption}
 use Rattle.limits.specs.Limits.{max_log_lines}
 use Rattle.text.specs.Test.{whether◌then◌else◌, absent}
 use Rattle.text.specs.String.{Str}
@@ -19,11 +20,11 @@ use Rattle.table.specs.Checked.{Accepted, Refused}
 use Rattle.verdict.specs.Verdict.{Request}
 use Rattle.request_log.specs.Request.{request_of}
 use Rattle.request_log.specs.Log.{judge_log, before, requests_of}
-use Rattle.season_count.specs.Counts.{UpTo}
 use Rattle.season_count.specs.Loaded.{Is, Remembered}
 use Rattle.season_count.specs.Counting.{CountsOf, BadLine, CountedLine, CountedLines, Counts-line}
-use Rattle.season_count.specs.declared.lines.Step.{Step}
-use Rattle.season_count.specs.declared.lines.Step.TheVariants.{To, Bad}
+use Rattle.season_count.specs.declared.count.Tally.{Tally}
+use Rattle.season_count.specs.declared.run.Run.{Run}
+use Rattle.season_count.specs.declared.loaded.Loaded.{Loaded}
 
 -- ---- one line of a log
 
@@ -66,85 +67,73 @@ no_lines = refl
 
 -- ---- what the loop keeps
 
-module _ (f users owners : List ℕ) (m : ℕ) (starts holders : List ℕ) (n : ℕ) (text : Str) (first : ℕ) (counts : List ℕ) (cells : List (List ℕ)) where
+module _ (L : Loaded) (text : Str) (tally : Tally) where
   -- what is said of a step, by its answer
-  module _ (from : ℕ) (key : List ℕ) (on : List Bool) (counts' : List ℕ) (cells' : List (List ℕ)) (s : Step)
-      (S : Counts-line f users owners m starts holders n text from counts cells key on counts' cells' s) where
-    pub step_bad : s ≡ Bad → BadLine text from
+  module _ (from : ℕ) (tally₁ : Tally) (run : Run) (tally₂ : Tally) (s : RustOption ℕ) (S : Counts-line L text from tally₁ run tally₂ s) where
+    pub step_bad : s ≡ None → BadLine text from
     unfolding Counts-line
-    step_bad e = subst (λ (x : Step). Counts-line f users owners m starts holders n text from counts cells key on counts' cells' x) e S
+    step_bad e = subst (λ (x : RustOption ℕ). Counts-line L text from tally₁ run tally₂ x) e S
 
-    pub step_to : (next len : ℕ) → s ≡ To next len → CountedLine f users owners m starts holders n text from counts cells next key len on counts' cells'
+    pub step_to : (next : ℕ) → s ≡ Some next → CountedLine L text from tally₁ next run tally₂
     unfolding Counts-line
-    step_to next len e = subst (λ (x : Step). Counts-line f users owners m starts holders n text from counts cells key on counts' cells' x) e S
+    step_to next e = subst (λ (x : RustOption ℕ). Counts-line L text from tally₁ run tally₂ x) e S
 
-  pub record Going (all from : ℕ) (key : List ℕ) (len : ℕ) (on : List Bool) (counts' : List ℕ) (cells' : List (List ℕ)) : Type 0 where
+  pub record Going (from : ℕ) (run : Run) (tally' : Tally) : Type 0 where
     pub done : List Str
     pub split : lines text ≡ done ++ lines (drop from text)
-    pub judged : judge_log (first + 1) (lines text) ≡ judge_log (all + 1) (lines (drop from text))
-    pub all_lines : all ≡ first + length done
-    pub few : all ≤ max_log_lines
+    pub judged : judge_log (tally.lines + 1) (lines text) ≡ judge_log (tally'.lines + 1) (lines (drop from text))
+    pub all_lines : tally'.lines ≡ tally.lines + length done
     pub within : from ≤ length text
-    pub low : UpTo all counts' cells'
-    pub kept : Remembered f users owners m starts holders n key len on
-    pub counts_are : (t : Table) → Is f users owners m starts holders n t → (qs : List Request) → CountsOf t qs counts cells
-        → CountsOf t (qs ++ requests_of done) counts' cells'
+    pub kept : Remembered L run
+    pub counts_are : (t : Table) → Is L t → (qs : List Request) → CountsOf t qs tally → CountsOf t (qs ++ requests_of done) tally'
 
-  pub going_starts : {key : List ℕ} {len : ℕ} {on : List Bool} → first ≤ max_log_lines → UpTo first counts cells → Remembered f users owners m starts holders n key len on
-      → Going first 0 key len on counts cells
-  going_starts few low kept =
+  pub going_starts : {run : Run} → Remembered L run → Going 0 run tally
+  going_starts kept =
       record {
         done = [];
         split = refl;
         judged = refl;
-        all_lines = sym (add-zero first);
-        few = few;
+        all_lines = sym (add-zero tally.lines);
         within = omega arith;
-        low = low;
         kept = kept;
         counts_are = λ t is qs c. rw (requests_none, append-nil qs) c;
       }
 
-  module _ {all from : ℕ} {key : List ℕ} {len : ℕ} {on : List Bool} {counts' : List ℕ} {cells' : List (List ℕ)} (G : Going all from key len on counts' cells') where
-    pub going_over : from < length text → max_log_lines ≤ all → judge_log (first + 1) (lines text) ≡ Refused 50 0
+  module _ {from : ℕ} {run : Run} {tally' : Tally} (G : Going from run tally') where
+    pub going_over : from < length text → max_log_lines ≤ tally'.lines → judge_log (tally.lines + 1) (lines text) ≡ Refused 50 0
     going_over h l =
         let c = lines_cons (drop from text) (omega (arith, length-drop from text)) in
-        G.judged ∙ ap (judge_log (all + 1)) c.2 ∙ judge_over (all + 1) c.0 c.1 (omega arith)
+        G.judged ∙ ap (judge_log (tally'.lines + 1)) c.2 ∙ judge_over (tally'.lines + 1) c.0 c.1 (omega arith)
 
-    pub going_bad : all < max_log_lines → BadLine text from → judge_log (first + 1) (lines text) ≡ Refused 51 (all + 1)
-    going_bad l b = G.judged ∙ ap (judge_log (all + 1)) b.first ∙ judge_bad (all + 1) b.line b.others (omega arith) b.bad
+    pub going_bad : tally'.lines < max_log_lines → BadLine text from → judge_log (tally.lines + 1) (lines text) ≡ Refused 51 (tally'.lines + 1)
+    going_bad l b = G.judged ∙ ap (judge_log (tally'.lines + 1)) b.first ∙ judge_bad (tally'.lines + 1) b.line b.others (omega arith) b.bad
 
-    pub going_on : all < max_log_lines → {next : ℕ} {key'' : List ℕ} {len'' : ℕ} {on'' : List Bool} {counts'' : List ℕ} {cells'' : List (List ℕ)}
-        → CountedLine f users owners m starts holders n text from counts' cells' next key'' len'' on'' counts'' cells'' → Going (all + 1) next key'' len'' on'' counts'' cells''
-    going_on l {next} S =
+    pub going_on : tally'.lines < max_log_lines → {next : ℕ} {run'' : Run} {tally'' : Tally} → CountedLine L text from tally' next run'' tally''
+        → Going next run'' tally''
+    going_on l {next} {run''} {tally''} S =
         record {
           done = G.done ++ (S.line ∷ []);
           split = G.split ∙ ap (λ (ls : List Str). G.done ++ ls) S.first ∙ sym (append_assoc G.done (S.line ∷ []) (lines (drop next text)));
-          judged = G.judged ∙ ap (judge_log (all + 1)) S.first ∙ judge_good (all + 1) S.line _ S.request (omega arith) S.good;
-          all_lines = omega (arith, G.all_lines, length-append G.done (S.line ∷ []));
-          few = omega arith;
+          judged =
+              G.judged ∙ ap (judge_log (tally'.lines + 1)) S.first ∙ judge_good (tally'.lines + 1) S.line _ S.request (omega arith) S.good
+              ∙ ap (λ (k : ℕ). judge_log (k + 1) (lines (drop next text))) (sym S.more);
+          all_lines = omega (arith, G.all_lines, S.more, length-append G.done (S.line ∷ []));
           within = S.goes.1;
-          low = S.low all G.low;
           kept = S.kept;
           counts_are =
               λ t is qs c. rw (requests_more G.done S.line S.request S.good, ← append_assoc qs (requests_of G.done) (S.request ∷ []))
               (S.counts_are t is (qs ++ requests_of G.done) (G.counts_are t is qs c));
         }
 
-    pub going_ends : length text ≤ from → CountedLines f users owners m starts holders n text first counts cells all key len on counts' cells'
+    pub going_ends : length text ≤ from → CountedLines L text tally run tally'
     going_ends h =
         let w = G.within in
         let e : from ≡ length text = omega arith in
         let none_left : lines (drop from text) ≡ [] = ap (λ (k : ℕ). lines (drop k text)) e ∙ ap lines (drop-length text) ∙ no_lines in
         let d : lines text ≡ G.done = G.split ∙ ap (λ (ls : List Str). G.done ++ ls) none_left ∙ append-nil G.done in
         record {
-          accepted = G.judged ∙ ap (judge_log (all + 1)) none_left ∙ judge_none (all + 1);
-          all_lines = G.all_lines ∙ ap (λ (ls : List Str). first + length ls) (sym d);
-          few = G.few;
-          low = G.low;
+          accepted = G.judged ∙ ap (judge_log (tally'.lines + 1)) none_left ∙ judge_none (tally'.lines + 1);
+          all_lines = G.all_lines ∙ ap (λ (ls : List Str). tally.lines + length ls) (sym d);
           kept = G.kept;
           counts_are = λ t is qs c. rw d (G.counts_are t is qs c);
         }
-
-pub still_up_to : {n k : ℕ} {counts : List ℕ} {cells : List (List ℕ)} → UpTo n counts cells → n ≤ k → UpTo k counts cells
-still_up_to u h = record { rules = λ i. omega (arith, u.rules i); cells = λ r c. omega (arith, u.cells r c) }

@@ -8,7 +8,7 @@ use mathlib.Core.Bool.{Bool, true, false}
 use mathlib.Core.Logic.{◌⊎◌, inl, inr}
 use mathlib.Core.List.{List, [], ◌∷◌, ◌++◌}
 use lib.Dec.{eqb}
-use lib.ListN.{length, get_or, set, length-set}
+use lib.ListN.{length, get_or, set, length-set, replicate}
 use lib.Seq.{get_or-set_same, get_or-set_other, ext_get_or}
 use Rattle.limits.specs.Limits.{max_rules}
 use Rattle.text.specs.Test.{◌and◌, whether◌then◌else◌, only}
@@ -173,3 +173,18 @@ column_small (Permit r) = omega arith
 column_small (Deny r) = omega arith
 column_small Default = omega arith
 column_small (Refused n l) = omega arith
+
+-- ---- before the first line
+
+zeros_low : (n i : ℕ) → get_or (replicate n 0) i 0 ≤ 0
+zeros_low zero i = omega arith
+zeros_low (suc n) zero = omega arith
+zeros_low (suc n) (suc i) = zeros_low n i
+
+cells_low : (r c : ℕ) → cell_of (replicate 2 (replicate 3 0)) r c ≤ 0
+cells_low zero c = zeros_low 3 c
+cells_low (suc zero) c = zeros_low 3 c
+cells_low (suc (suc r)) c = zeros_low 0 c
+
+pub none_up_to : UpTo 0 (replicate max_rules 0) (replicate 2 (replicate 3 0))
+none_up_to = record { rules = zeros_low max_rules; cells = cells_low }

@@ -1,5 +1,5 @@
 -- What counting one answer does to the arrays of a report.
-use Rattle.std.specs.Prelude.{ℕ, ◌+◌, ◌-◌, ◌≤◌, ◌<◌, List, [], get_or, set}
+use Rattle.std.specs.Prelude.{ℕ, ◌+◌, ◌-◌, ◌≤◌, ◌<◌, ◌≡◌, List, [], get_or, set, replicate}
 use Rattle.limits.specs.Limits.{max_rules}
 use Rattle.verdict_request.specs.PathAnswer.{PathAnswer}
 use Rattle.verdict_request.specs.PathAnswer.{Permit, Deny, Default, Refused}
@@ -43,3 +43,9 @@ Placed (Refused n l) = ⊥
 pub record UpTo (n : ℕ) (counts : List ℕ) (grid : List (List ℕ)) : Type 0 where
   pub rules : (i : ℕ) → get_or counts i 0 ≤ n
   pub cells : (r c : ℕ) → cell_of grid r c ≤ n
+
+-- nothing is counted
+pub record NoneIn (counts : List ℕ) (grid : List (List ℕ)) (lines : ℕ) : Type 0 where
+  pub rules : counts ≡ replicate max_rules 0
+  pub cells : grid ≡ replicate 2 (replicate 3 0)
+  pub none : lines ≡ 0

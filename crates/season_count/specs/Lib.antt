@@ -1,3 +1,4 @@
 pub mod Counts
+pub mod Sound
 pub mod Loaded
 pub mod Counting

@@ -3,6 +3,7 @@
 
 use cli_show::TEXT_ROOM;
 use cli_show::console::Console;
+use season_count::Tally;
 use std::process::ExitCode;
 
 fn main(rt: HostRuntime) -> ExitCode {
@@ -10,14 +11,18 @@ fn main(rt: HostRuntime) -> ExitCode {
     let mut text = [0u8; TEXT_ROOM];
     let got = cli_console::input::file(&mut console, 1, &mut text);
     let n = got.count;
-    let mut counts = [0u64; limits::MAX_RULES];
-    counts[0] = 218;
-    counts[1] = 97;
-    counts[3] = 97;
-    counts[5] = 1;
-    let grid = [[315, 1, 11], [0, 97, 7]];
+    let mut rules = [0; limits::MAX_RULES];
+    rules[0] = 218;
+    rules[1] = 97;
+    rules[3] = 97;
+    rules[5] = 1;
+    let tally = Tally {
+        rules,
+        grid: [[315, 1, 11], [0, 97, 7]],
+        lines: 431,
+    };
     if got.is_good {
-        cli_season::page(&mut console, &text[..n], &counts, &grid);
+        cli_season::page(&mut console, &text[..n], &tally);
     }
     cli_show::marks::end(&console)
 }

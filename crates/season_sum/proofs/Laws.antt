@@ -16,8 +16,8 @@ use Rattle.season_sum.specs.Figures.{report_text}
 use Rattle.season_sum.specs.Reading.{fits, figure_of, onward, reading, figures_of}
 use Rattle.season_sum.specs.Adding.{adding, sums_of, where_good, after_report, sums_after}
 use Rattle.season_sum.specs.Laws.{AllFit, ReadsBack, OnlyReports, AddsUp}
-use Rattle.season_sum.specs.declared.Outcome.{Outcome}
-use Rattle.season_sum.specs.declared.Outcome.TheVariants.{Good, NoFigure, LineCount, TooLarge}
+use Rattle.season_sum.specs.Outcome.{Outcome}
+use Rattle.season_sum.specs.Outcome.{Good, NoFigure, LineCount, TooLarge}
 use Rattle.season_sum.proofs.Lines.{reading_some}
 use Rattle.season_sum.proofs.Spelled.{line_read, line_only}
 use Rattle.season_sum.proofs.Reports.{whole}

@@ -4,15 +4,16 @@ use native.Mathlib.Omega.{arith}
 use mathlib.Core.Path.{◌≡◌, refl, sym, ◌∙◌}
 use mathlib.Core.List.{List, [], ◌∷◌}
 use mathlib.Core.Option.{Option, none, some}
+use Rattle.std.specs.Prelude.{Some, None}
 use lib.ListN.{length, drop, set, length-drop, drop_of_length-le}
 use Rattle.text.specs.String.{Str}
 use Rattle.text.specs.Fill.{put}
 use Rattle.text.proofs.Filling.{Pending, fill_start, fill_set, fill_done}
 use Rattle.season_sum.specs.Reading.{figure_of, onward, reading, figures_of}
 use Rattle.season_sum.specs.Steps.{ReadsFigure, number, bad}
-use Rattle.season_sum.specs.declared.Outcome.{Outcome}
-use Rattle.season_sum.specs.declared.Outcome.TheVariants.{Good, NoFigure, LineCount}
-use Rattle.season_sum.specs.declared.reading.Figure.TheVariants.{Number, Bad}
+use Rattle.season_sum.specs.Outcome.{Outcome}
+use Rattle.season_sum.specs.Outcome.{Good, NoFigure, LineCount}
+use Rattle.season_sum.specs.declared.reading.Figure.{Figure}
 
 few_more : (n : ℕ) (f : Option (ℕ × Str)) → ((t : Str) → length (figures_of n t) ≤ n) → length (onward [] f (λ m t. m ∷ figures_of n t)) ≤ suc n
 unfolding onward
@@ -89,22 +90,20 @@ module _ (text : Str) (d : List ℕ) (all at i : ℕ) (out : List ℕ) (g : Read
       next_line : reading (all - i) (i + 1) (drop at text) ≡ onward (NoFigure (i + 1)) (figure_of (drop at text)) (λ m t. reading (all - (i + 1)) (i + 1 + 1) t)
       next_line = rw one_more (reading_some _ _ _ (omega (arith, rest_long)))
 
-      pub reading_stops : ReadsFigure text at Bad → Read text d all out (NoFigure (i + 1))
+      pub reading_stops : ReadsFigure text at None → Read text d all out (NoFigure (i + 1))
       unfolding figures_of onward
       reading_stops (bad e) = stopped (rw (one_more, e)) (rw (next_line, e))
 
-      module _ (m next : ℕ) where
-        next_figures : ReadsFigure text at (Number m next) → figures_of (all - i) (drop at text) ≡ m ∷ figures_of (all - (i + 1)) (drop next text)
+      module _ (r : Figure) where
+        next_figures : ReadsFigure text at (Some r) → figures_of (all - i) (drop at text) ≡ r.value ∷ figures_of (all - (i + 1)) (drop r.next text)
         unfolding figures_of onward
         next_figures (number e p w) = rw (one_more, e)
 
-        pub reading_on : ReadsFigure text at (Number m next) → (Reading text d all next (i + 1) (set out i m)) × (at < next)
+        pub reading_on : ReadsFigure text at (Some r) → Reading text d all r.next (i + 1) (set out i r.value)
         unfolding onward
-        reading_on (number e p w) = (
-          record {
-            within = w;
-            answer = g.answer ∙ next_line ∙ rw e;
-            stored = fill_set d 0 (figures_of all text) out i m _ (rw (next_figures (number e p w)) at g.stored);
-          },
-          p,
-        )
+        reading_on (number e p w) =
+            record {
+              within = w;
+              answer = g.answer ∙ next_line ∙ rw e;
+              stored = fill_set d 0 (figures_of all text) out i r.value _ (rw (next_figures (number e p w)) at g.stored);
+            }

@@ -8,6 +8,8 @@ use Rattle.text.proofs.Tests.{and_l, and_r, and_left, and_right}
 use mathlib.Core.Path.{◌≡◌, ◌∙◌}
 use mathlib.Core.Bool.{true, false}
 use mathlib.Core.Option.{none}
+use Rattle.std.specs.Prelude.{Some, None}
+use Rattle.std.specs.Prelude.{Option as RustOption}
 use lib.Dec.{leb, ltb}
 use lib.ListN.{length, drop, get_or, drop_of_length-le}
 use lib.Seq.{drop-cons}
@@ -17,7 +19,6 @@ use Rattle.text.specs.String.{Str}
 use Rattle.season_sum.specs.Reading.{fits, followed, continues, number_from, figure_of}
 use Rattle.season_sum.specs.Steps.{Reads, ReadsNumber, number, bad}
 use Rattle.season_sum.specs.declared.reading.Figure.{Figure}
-use Rattle.season_sum.specs.declared.reading.Figure.TheVariants.{Number, Bad}
 
 -- ---- digits
 
@@ -61,9 +62,9 @@ module _ (text : Str) (i v : ℕ) where
   number_none h = rw (drop_of_length-le text h)
 
   module _ (l : i < length text) where
-    pub number_ends : (at n : ℕ) → at ≤ i → number_from n (drop at text) ≡ number_from v (drop i text) → get_or text i 0 ≡ 10 → ReadsNumber text at n (Number v (i + 1))
+    pub number_ends : (at n : ℕ) → at ≤ i → number_from n (drop at text) ≡ number_from v (drop i text) → get_or text i 0 ≡ 10 → ReadsNumber text at n (Some (record { value = v; next = i + 1 }))
     unfolding number_from whether◌then◌else◌
-    number_ends at n p e h = number {n = v} {next = i + 1} (e ∙ rw (drop-cons text i 0 l, h, add-one)) (omega arith) (omega arith)
+    number_ends at n p e h = number {r = record { value = v; next = i + 1 }} (e ∙ rw (drop-cons text i 0 l, h, add-one)) (omega arith) (omega arith)
 
     pub number_stops : (get_or text i 0 ≡ 10 → ⊥) → continues v (get_or text i 0) ≡ false → number_from v (drop i text) ≡ none
     unfolding number_from whether◌then◌else◌
@@ -76,7 +77,7 @@ module _ (text : Str) (i v : ℕ) where
 -- ---- the figure of the line at a position
 
 module _ (text : Str) (at : ℕ) (l : at < length text) where
-  pub figure_none : is_digit (get_or text at 0) ≡ false → Reads text at (figure_of (drop at text)) Bad
+  pub figure_none : is_digit (get_or text at 0) ≡ false → Reads text at (figure_of (drop at text)) None
   unfolding figure_of whether◌then◌else◌
   figure_none h = bad (rw (drop-cons text at 0 l, h))
 
@@ -84,6 +85,6 @@ module _ (text : Str) (at : ℕ) (l : at < length text) where
   unfolding figure_of whether◌then◌else◌
   figure_begins h = rw (drop-cons text at 0 l, h, add-one)
 
-  pub figure_read : {r : Figure} → is_digit (get_or text at 0) ≡ true → Reads text (at + 1) (number_from (get_or text at 0 - 48) (drop (at + 1) text)) r → Reads text at (figure_of (drop at text)) r
-  figure_read h (number {n} {next} e p w) = number {n = n} {next = next} (figure_begins h ∙ e) (omega arith) w
+  pub figure_read : {r : RustOption Figure} → is_digit (get_or text at 0) ≡ true → Reads text (at + 1) (number_from (get_or text at 0 - 48) (drop (at + 1) text)) r → Reads text at (figure_of (drop at text)) r
+  figure_read h (number {r} e p w) = number {r = r} (figure_begins h ∙ e) (omega arith) w
   figure_read h (bad e) = bad (figure_begins h ∙ e)

@@ -1,6 +1,9 @@
 -- A report added to sums.
 use Prim.Native.Nat.{ℕ, zero, suc, ◌+◌}
 use native.Mathlib.Omega.{arith}
+use Rattle.std.proofs.Common.{◌≡◌, ℕ, true, false, Result, Err, IsErrAnd, refl, ap, ◌∙◌, arith}
+use Rattle.std.proofs.lemmas.Result.{err_from_is_err_and}
+use Rattle.std.specs.Prelude.{Result, Err}
 use mathlib.Core.Path.{◌≡◌, refl, sym, ap, ◌∙◌}
 use mathlib.Core.List.{List, [], ◌∷◌, append-nil}
 use mathlib.Core.Option.{Option, none, some}
@@ -13,8 +16,10 @@ use Rattle.text.specs.Fill.{put}
 use Rattle.text.proofs.Filling.{put_length}
 use Rattle.season_sum.specs.Reading.{fits, figure_of, onward, reading, figures_of}
 use Rattle.season_sum.specs.Adding.{adding, sums_of, where_good, after_report, sums_after}
-use Rattle.season_sum.specs.declared.Outcome.{Outcome}
-use Rattle.season_sum.specs.declared.Outcome.TheVariants.{Good, NoFigure, LineCount, TooLarge}
+use Rattle.season_sum.specs.Outcome.{Outcome, refused_as}
+use Rattle.season_sum.specs.declared.BadReport.{BadReport}
+use Rattle.season_sum.specs.declared.BadReport.TheVariants as bad
+use Rattle.season_sum.specs.Outcome.{Good, NoFigure, LineCount, TooLarge}
 use Rattle.season_sum.proofs.Lines.{few}
 
 -- ---- a report that reads has all its figures
@@ -41,24 +46,28 @@ module _ (text : Str) (zeros figures : List ℕ) (long : length zeros ≡ report
   pub report_long : length figures ≡ report_lines
   report_long = rw read (put_length zeros 0 _ (omega (arith, few report_lines text)) ∙ long)
 
-  module _ (sums : List ℕ) (r : Outcome) (e : r ≡ reading report_lines 1 text) where
-    pub report_added : r ≡ Good → (o : Outcome) (out : List ℕ) → (o ≡ adding 1 sums figures) × (out ≡ sums_of sums figures)
+  module _ (sums : List ℕ) where
+    pub report_added : Good ≡ reading report_lines 1 text → (o : Outcome) (out : List ℕ) → (o ≡ adding 1 sums figures) × (out ≡ sums_of sums figures)
         → (o ≡ after_report text sums) × (out ≡ sums_after text sums)
     unfolding after_report sums_after where_good
     report_added g o out a =
-        let h : reading report_lines 1 text ≡ Good = sym e ∙ g in
+        let h : reading report_lines 1 text ≡ Good = sym g in
         let f : figures ≡ figures_of report_lines text = read ∙ put_all zeros (figures_of report_lines text) (whole report_lines 1 text h ∙ sym long) in
         (rw h (rw (← f) a.0), rw h (rw (← f) a.1))
 
-    pub report_refused : (r ≡ Good → ⊥) → (r ≡ after_report text sums) × (sums ≡ sums_after text sums)
+    pub report_refused : (b : BadReport) → refused_as b ≡ reading report_lines 1 text → (refused_as b ≡ after_report text sums) × (sums ≡ sums_after text sums)
     unfolding after_report sums_after where_good
-    report_refused n = rw (← e) (go r n)
+    report_refused b e = rw (← e) (go b)
       where
-        go : (r : Outcome) → (r ≡ Good → ⊥) → (r ≡ where_good r (adding 1 sums (figures_of report_lines text)) (λ o. o)) × (sums ≡ where_good r (sums_of sums (figures_of report_lines text)) (λ o. sums))
-        go Good n = absurd (n refl)
-        go (NoFigure l) n = (refl, refl)
-        go (LineCount l) n = (refl, refl)
-        go (TooLarge l) n = (refl, refl)
+        go : (b : BadReport) → (refused_as b ≡ where_good (refused_as b) (adding 1 sums (figures_of report_lines text)) (λ o. o))
+            × (sums ≡ where_good (refused_as b) (sums_of sums (figures_of report_lines text)) (λ o. sums))
+        go (bad.NoFigure l) = (refl, refl)
+        go (bad.LineCount l) = (refl, refl)
+        go (bad.TooLarge l) = (refl, refl)
+
+-- what `?` hands out
+pub err_is : {T E : Type 0} (r : Result T E) (e : E) → IsErrAnd r (λ x. x ≡ e) → r ≡ Err e
+err_is r e h = let p = err_from_is_err_and r h in p.1 ∙ ap Err p.2
 
 -- ---- as many sums as before
 

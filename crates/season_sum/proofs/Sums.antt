@@ -13,8 +13,8 @@ use lib.Seq.{drop-cons, take-suc-set, take_all, drop-set-lt, append_snoc}
 use Rattle.text.specs.Test.{whether◌then◌else◌}
 use Rattle.season_sum.specs.Reading.{fits}
 use Rattle.season_sum.specs.Adding.{adding, sums_of}
-use Rattle.season_sum.specs.declared.Outcome.{Outcome}
-use Rattle.season_sum.specs.declared.Outcome.TheVariants.{Good, TooLarge}
+use Rattle.season_sum.specs.Outcome.{Outcome}
+use Rattle.season_sum.specs.Outcome.{Good, TooLarge}
 
 pub sum_fits : (a b : ℕ) → a < 2 ^ 64 → leb b (18446744073709551615 - a) ≡ fits (a + b)
 sum_fits a b h = go (dec_lt (a + b) (2 ^ 64))

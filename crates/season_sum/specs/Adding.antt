@@ -3,8 +3,8 @@ use Rattle.std.specs.Prelude.{ℕ, ◌+◌, List, [], ◌∷◌}
 use Rattle.limits.specs.Sizes.{report_lines}
 use Rattle.text.specs.Test.{whether◌then◌else◌}
 use Rattle.text.specs.String.{Str}
-use Rattle.season_sum.specs.declared.Outcome.{Outcome}
-use Rattle.season_sum.specs.declared.Outcome.TheVariants.{Good, NoFigure, LineCount, TooLarge}
+use Rattle.season_sum.specs.Outcome.{Outcome}
+use Rattle.season_sum.specs.Outcome.{Good, NoFigure, LineCount, TooLarge}
 use Rattle.season_sum.specs.Reading.{fits, reading, figures_of}
 
 -- all sums fit; or the line of the first that does not, l being that of the first figures

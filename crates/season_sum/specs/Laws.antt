@@ -6,7 +6,7 @@ use Rattle.text.specs.String.{Str}
 use Rattle.season_sum.specs.Figures.{report_text}
 use Rattle.season_sum.specs.Reading.{reading, figures_of}
 use Rattle.season_sum.specs.Adding.{adding, after_report, sums_after}
-use Rattle.season_sum.specs.declared.Outcome.TheVariants.{Good}
+use Rattle.season_sum.specs.Outcome.{Good}
 
 -- each figure has 64 bits at most
 abbrev pub AllFit : List ℕ → Type 0

@@ -1,3 +1,4 @@
+pub mod Outcome
 pub mod Figures
 pub mod Reading
 pub mod Adding

@@ -4,8 +4,8 @@ use Rattle.std.proofs.Math.Option.{Option, none, some}
 use Rattle.text.specs.Test.{◌and◌, whether◌then◌else◌}
 use Rattle.text.specs.Byte.{is_digit}
 use Rattle.text.specs.String.{Str}
-use Rattle.season_sum.specs.declared.Outcome.{Outcome}
-use Rattle.season_sum.specs.declared.Outcome.TheVariants.{Good, NoFigure, LineCount}
+use Rattle.season_sum.specs.Outcome.{Outcome}
+use Rattle.season_sum.specs.Outcome.{Good, NoFigure, LineCount}
 
 -- a number of 64 bits
 abbrev pub fits : ℕ → Bool

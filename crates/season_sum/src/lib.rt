@@ -5,13 +5,10 @@ pub mod adding;
 pub mod reading;
 pub mod writing;
 
-pub const MAX_U64: u64 = 18446744073709551615;
-
-// What became of a report: all went well; or the first line that is no figure, that there is not though it should be or is though it should not,
-// or whose sum has more than 64 bits.
-#[derive(Clone, Copy)]
-pub enum Outcome {
-    Good,
+// Why a report is refused: the first line that is no figure, that there is not though it should be or is though it should not, or whose sum has more
+// than 64 bits.
+#[derive(Clone, Copy, Debug, PartialEq, Eq)]
+pub enum BadReport {
     NoFigure { line: usize },
     LineCount { line: usize },
     TooLarge { line: usize },

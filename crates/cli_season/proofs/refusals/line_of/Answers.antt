@@ -2,10 +2,6 @@
 use Rattle.cli_season.specs.Refusals.{line_of}
 use Rattle.cli_season.proofs.refusals.line_of.Goals as goal
 
-pub returns-in-Good : goal.returns-in-Good
-unfolding line_of
-returns-in-Good c = rw c.in-Good.is
-
 pub returns-in-NoFigure : goal.returns-in-NoFigure
 unfolding line_of
 returns-in-NoFigure c = rw c.in-NoFigure.is

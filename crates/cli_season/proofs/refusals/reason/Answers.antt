@@ -2,10 +2,6 @@
 use Rattle.cli_season.specs.Refusals.{reason}
 use Rattle.cli_season.proofs.refusals.reason.Goals as goal
 
-pub returns-in-Good-clause-value : goal.returns-in-Good-clause-value
-unfolding reason
-returns-in-Good-clause-value c = rw c.in-Good.is
-
 pub returns-in-NoFigure-clause-value : goal.returns-in-NoFigure-clause-value
 unfolding reason
 returns-in-NoFigure-clause-value c = rw c.in-NoFigure.is
