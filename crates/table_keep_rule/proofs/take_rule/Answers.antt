@@ -120,4 +120,5 @@ pub returns-clause-rule_kept : goal.returns-clause-rule_kept
 returns-clause-rule_kept c =
     λ x. rule_kept (judging (told_so_far c.requires.ready c.args.row.room c.args.groups.starts.now c.args.groups.count (rule_told _ _ c.read_rule.ensures _ c.in-Some.is)) _
     c.is_out_of_order.ensures c.if-is_out_of_order.false (holder_same _ _ _ _ _ _ _ c.requires.of_row c.holder_of-g.ensures) c.hash.ensures c.find-t.ensures
-    c.is_unsized.ensures c.is_unsized-2.ensures c.all_print.ensures c.all_print-2.ensures c.all_print-3.ensures (least_merged _ _ _ _ _ _ _ _ (rule_told _ _ c.read_rule.ensures _ c.in-Some.is).path c.number.ensures c.in_ok-smaller.ensures)) refl _ _ _ _ _ (c.store.ensures.starts_after, c.store.ensures.holders_after) c.add.ensures
+    c.is_unsized.ensures c.is_unsized-2.ensures c.all_print.ensures c.all_print-2.ensures c.all_print-3.ensures (least_merged _ _ _ _ _ _ _ _ (rule_told _ _ c.read_rule.ensures _ c.in-Some.is).path c.number.ensures c.in_ok-smaller.ensures))
+    refl _ _ _ _ _ (c.store.ensures.starts_after, c.store.ensures.holders_after) c.add.ensures
