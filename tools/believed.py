@@ -51,7 +51,6 @@ SPOKEN = {
     ("rotation/State", "kind_number"),
     ("rotation/State", "kind_of"),
     ("rotation/State", "force_of"),
-    ("rotation_upload/Offered", "as_step"),
     ("rotation_probe/Answer", "answer_of"),
     ("rpc/Answer", "decision_of"),
     ("rpc/Answer", "answer_of"),

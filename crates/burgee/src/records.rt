@@ -36,8 +36,7 @@ pub fn burgee_upload(rec: &mut Record, store: &mut [u8], text: &[u8]) -> u64
         × (held rec.new store.new ≡ after (Upload rec.old store.old text.now)) }
 {
     let step = rotation_upload::upload(*rec, store, text);
-    *rec = step.next;
-    crate::word::of_checked(step.answer)
+    settle(rec, step)
 }
 
 // The candidate becomes the live text.

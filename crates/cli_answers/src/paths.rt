@@ -19,9 +19,9 @@ pub fn bytes_line(text: &[u8]) -> Result<Text<MAX_BYTES_LINE>, Refusal>
         Ok(n) => {
             let mut digits = [0u8; 2 * limits::MAX_PATH_BYTES];
             let end = readable_parts::hex::write_hex(&bytes[..n], &mut digits, 0);
-            let mut line = Text::of(&digits[..end]);
-            line.push_str(b"\n");
-            Ok(line)
+            let mut hex = Text::of(&digits[..end]);
+            hex.push_str(b"\n");
+            Ok(hex)
         }
         Err(refusal) => Err(refusal),
     }

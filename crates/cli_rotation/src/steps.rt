@@ -4,7 +4,6 @@ use cli_show::console::Console;
 use cli_show::{TEXT_ROOM, WORD_ROOM};
 use refusal::Fault;
 use rotation::{Kind, Record};
-use rotation_upload::Uploaded;
 
 // Writes the record and the store to the file, and behind them what is left to read of `from`; prints the record where all went well.
 fn keep(console: &mut Console, r: Record, store: &[u8], from: &mut Source) {
@@ -62,9 +61,15 @@ fn make(console: &mut Console, r: Record) {
 }
 
 // Keeps what an upload makes of record and store, or prints why it is refused.
-fn settle_upload(console: &mut Console, s: Uploaded, store: &[u8], text: &[u8], from: &mut Source) {
-    match s.answer {
-        Ok(()) => keep(console, s.next, store, from),
+fn settle_upload(
+    console: &mut Console,
+    step: Result<Record, Fault>,
+    store: &[u8],
+    text: &[u8],
+    from: &mut Source,
+) {
+    match step {
+        Ok(next) => keep(console, next, store, from),
         Err(fault) => {
             let number = fault.refusal.number();
             if number < 30 {
@@ -82,8 +87,8 @@ fn upload(console: &mut Console, r: Record, store: &mut [u8], from: &mut Source)
     let got = cli_console::input::file(console, 4, &mut text);
     let n = got.count;
     if got.is_good {
-        let s = rotation_upload::upload(r, store, &text[..n]);
-        settle_upload(console, s, store, &text[..n], from);
+        let step = rotation_upload::upload(r, store, &text[..n]);
+        settle_upload(console, step, store, &text[..n], from);
     }
 }
 

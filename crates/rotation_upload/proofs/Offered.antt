@@ -2,6 +2,8 @@
 use mathlib.Core.Path.{◌≡◌, refl, ap, ◌∙◌}
 use Rattle.refusal.specs.Refusal.{number}
 use Rattle.refusal.specs.declared.Refusal.{Refusal}
+use Rattle.refusal.specs.declared.fault.Fault.{Fault}
+use Rattle.std.specs.Prelude.{Ok, Err}
 use Rattle.refusal.proofs.Numbers.{never_clear}
 use Prim.Native.Nat.{ℕ, ◌+◌, ◌≤◌}
 use native.Mathlib.Omega.{arith}
@@ -15,12 +17,12 @@ use Rattle.text.specs.Fill.{put}
 use Rattle.text.specs.Refusal.{clear}
 use Rattle.text.proofs.Tests.{by}
 use Rattle.table.specs.Text.{unless, check}
-use Rattle.table.specs.Checked.{Checked}
+use Rattle.table.specs.Checked.{Checked, checked_as}
 use Rattle.table.specs.Checked.{Accepted, Refused}
 use Rattle.policy.specs.Policy.{policy_refusal}
 use Rattle.policy_check.specs.Answer.{check_of}
 use Rattle.rotation.specs.State.{short_store, record_refusal, slot_start, candidate_slot}
-use Rattle.rotation.specs.Calls.{off_refusal, uploaded, Stepped, stepped, upload_answer, upload, stored_by, upload_store}
+use Rattle.rotation.specs.Calls.{off_refusal, uploaded, Stepped, stepped, step_of, upload_answer, upload, stored_by, upload_store}
 use Rattle.rotation.specs.declared.Record.{Record}
 use Rattle.rotation.proofs.Follows.{candidate_low}
 use Rattle.rotation_upload.specs.Offered.{of_policy, offered_check}
@@ -98,12 +100,12 @@ module _ (r : Record) (n : ℕ) (text : Str) where
   upload_room slot start e f a = let low : slot ≤ 1 = rw e (candidate_low r) in omega (arith, f, upload_long a)
 
 -- a step, by its answer
-pub step_refused : (r : Record) (c : Checked) (number line : ℕ) → c ≡ Refused number line → ◌≡◌ {A = Stepped} (record { next = r; answer = c }) (stepped c r r)
-unfolding stepped
-step_refused r c number line e = rw e
+pub step_refused : (r : Record) (f : Fault) (c : Checked) → c ≡ checked_as (Err f) → step_of r (Err f) ≡ stepped c r r
+unfolding stepped step_of
+step_refused r f c e = rw e
 
-pub step_accepted : (r next : Record) (c : Checked) → c ≡ Accepted → ◌≡◌ {A = Stepped} (record { next = next; answer = c }) (stepped c r next)
-unfolding stepped
+pub step_accepted : (r next : Record) (c : Checked) → c ≡ Accepted → step_of r (Ok next) ≡ stepped c r next
+unfolding stepped step_of
 step_accepted r next c e = rw e
 
 -- what is left after a refusal, and after an accepted upload

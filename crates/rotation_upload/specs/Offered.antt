@@ -3,12 +3,10 @@ use Rattle.std.specs.Prelude.{ℕ, eqb}
 use Rattle.text.specs.Test.{whether◌then◌else◌}
 use Rattle.text.specs.String.{Str}
 use Rattle.table.specs.Text.{check}
-use Rattle.table.specs.Checked.{Checked, checked_as}
+use Rattle.table.specs.Checked.{Checked}
 use Rattle.table.specs.Checked as checked
 use Rattle.policy.specs.Policy.{policy_refusal}
 use Rattle.policy_check.specs.Answer.{check_of}
-use Rattle.rotation.specs.Calls.{Stepped}
-use Rattle.rotation_upload.specs.declared.Uploaded.{Uploaded}
 use Rattle.policy_check.specs.Answer.{Check}
 use Rattle.policy_check.specs.Answer as policy
 
@@ -20,7 +18,3 @@ of_policy (policy.Refused n) = checked.Refused n 0
 -- a text offered to a record of that kind
 unfoldable pub offered_check : ℕ → Str → Checked
 offered_check kind text = whether eqb kind 1 then of_policy (check_of (policy_refusal text)) else check text
-
--- an upload's answer as the programs have it
-abbrev pub as_step : Uploaded → Stepped
-as_step u = record { next = u.next; answer = checked_as u.answer }

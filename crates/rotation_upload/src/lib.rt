@@ -4,19 +4,12 @@
 ghost use Rattle.std.specs.Prelude.{◌≡◌, ◌+◌, ◌≤◌, length};
 ghost use Rattle.limits.specs.Limits.{slot_length};
 ghost use Rattle.text.specs.Fill.{put};
-ghost use Rattle.rotation.specs.Calls.{upload_answer, upload, upload_store};
+ghost use Rattle.rotation.specs.Calls.{upload_answer, upload, upload_store, step_of};
 ghost use Rattle.table.specs.Checked.{checked_as};
-ghost use Rattle.rotation_upload.specs.Offered.{offered_check, as_step};
+ghost use Rattle.rotation_upload.specs.Offered.{offered_check};
 
 use refusal::Fault;
 use rotation::Record;
-
-// What an upload makes of a record, and what it answers.
-#[derive(Clone, Copy)]
-pub struct Uploaded {
-    pub next: Record,
-    pub answer: Result<(), Fault>,
-}
 
 // The check of a text offered to a record of that kind. A policy's refusal carries no line.
 fn check_offered(kind: u32, text: &[u8]) -> Result<(), Fault>
@@ -46,18 +39,15 @@ fn store_at(start: usize, text: &[u8], store: &mut [u8])
 }
 
 // The whole text is checked, then stored to the slot that is not live.
-pub fn upload(r: Record, store: &mut [u8], text: &[u8]) -> Uploaded
-    ensures { (as_step result ≡ upload offered_check r (length store.old) text.now)
+pub fn upload(r: Record, store: &mut [u8], text: &[u8]) -> Result<Record, Fault>
+    ensures { (step_of r result ≡ upload offered_check r (length store.old) text.now)
         × (store.new ≡ upload_store offered_check r store.old text.now) }
 {
-    let answer = answer(r, store.len(), text);
-    let Ok(()) = answer else {
-        return Uploaded { next: r, answer };
-    };
+    answer(r, store.len(), text)?;
     store_at(rotation::slot_start(r.candidate_slot()), text, store);
     let next = Record {
         candidate_len: text.len() as u32,
         ..r
     };
-    Uploaded { next, answer }
+    Ok(next)
 }

@@ -35,7 +35,7 @@ pub returns-in-Ok : goal.returns-in-Ok
 returns-in-Ok c =
     rw (
       c.push_str.ensures,
-      c.of-line.ensures,
+      c.of-hex.ensures,
       hex_line_is _ _ _ _ (length-replicate {A = ℕ} max_path_bytes 0) c.read_text.ensures _ (ap filled_of c.in-Ok.is) (replicate (2 * max_path_bytes) 0) (length-replicate {A = ℕ} (2 * max_path_bytes) 0) _ _
           c.write_hex-end.ensures,
     ) (hex_made _ _ _ _ (length-replicate {A = ℕ} max_path_bytes 0) c.read_text.ensures _ (ap filled_of c.in-Ok.is))
