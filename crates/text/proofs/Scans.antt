@@ -3,7 +3,9 @@ use Rattle.std.proofs.Common.{◌≡◌, ℕ, zero, suc, ◌+◌, ◌<◌, ◌�
 use lib.Dec.{leb-zero, leb-suc-zero, leb-suc-suc}
 use Rattle.text.specs.Test.{◌and◌, ◌or◌, all, any}
 use Rattle.text.specs.String.{same, more, before}
-use Rattle.text.proofs.Tests.{and_second, or_join, or_none_lem}
+use lib.Dec.{leb}
+use borrow.Author.Tests.{leb-true, leb-false}
+use Rattle.text.proofs.Tests.{by, and_second, or_join, or_none_lem}
 
 module _ (p : ℕ → Bool) (a : List ℕ) (i : ℕ) where
   pub all_pass : i < length a → p (get_or a i 0) ≡ true → all p (drop i a) ≡ all p (drop (i + 1) a)
@@ -62,6 +64,14 @@ before_nil (y ∷ b) (suc i) = before_nil b i ∙ sym (leb-suc-suc (suc i) (leng
 
 pub before_end : (a b : List ℕ) (i : ℕ) → length a ≤ i → before (drop i a) (drop i b) ≡ ltb i (length b)
 before_end a b i p = rw (drop_of_length-le a) (before_nil b i)
+
+-- where one of two strings that are the same so far ends, their lengths decide
+pub before_lengths : (a b : List ℕ) (i : ℕ) → i ≤ length a → i ≤ length b → (i < length a → length b ≤ i)
+    → before (drop i a) (drop i b) ≡ ltb (length a) (length b)
+before_lengths a b i p q e =
+    by (leb (length a) i)
+    (λ t. let l : length a ≤ i = leb-true _ _ t in let z : i ≡ length a = omega arith in before_end a b i l ∙ ap (λ n. ltb n (length b)) z)
+    (λ t. let l : i < length a = leb-false _ _ t in let m : length b ≤ i = e l in before_short a b i l m ∙ sym (le-ltb (length a) (length b) (omega arith)))
 
 -- strings of different lengths
 pub same_lengths : (a b : List ℕ) → (length a ≡ length b → ⊥) → same a b ≡ false

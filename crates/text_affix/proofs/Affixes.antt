@@ -1,44 +1,38 @@
 -- Prefixes and suffixes as parts; an asterisk at an end stands in a string that is not empty.
-use mathlib.Core.Path.{◌≡◌, sym, ◌∙◌}
+use mathlib.Core.Path.{◌≡◌, sym, ap, ◌∙◌}
 use mathlib.Core.Bool.{Bool, true, false}
-use Prim.Native.Nat.{ℕ, ◌-◌, ◌<◌}
+use Prim.Native.Nat.{ℕ, ◌-◌, ◌≤◌, ◌<◌}
 use native.Mathlib.Omega.{arith}
-use lib.Dec.{eqb, leb}
+use lib.Dec.{eqb}
 use lib.ListN.{length, take, drop, get_or, length-drop, get_or-eq_default}
-use borrow.Author.Tests.{eqb-true, eqb-false, leb-false}
+use lib.Seq.{take_all}
+use borrow.Author.Tests.{eqb-true, eqb-false, le-leb, lt-leb}
 use Rattle.text.specs.Test.{◌and◌}
-use Rattle.text.specs.String.{Str}
+use Rattle.text.specs.String.{Str, same}
 use Rattle.text.proofs.Tests.{by, clash}
-use Rattle.text.proofs.Library.{same_is}
-use Rattle.text.proofs.Scans.{same_lengths}
-use Rattle.std.specs.Cmp.Lexicographic.{pointwise}
-use Rattle.std.proofs.Common.{nat_eq}
-use Rattle.std.proofs.lemmas.List.{length-take}
 use Rattle.text_affix.specs.Affix.{begins, ends, star_first, star_last}
 
 pub front : (n : ℕ) (v : Str) → take (n - 0) (drop 0 v) ≡ take n v
 front n v = let q : n - 0 ≡ n = omega arith in rw q
 
-unlike : (p q : Str) → (length p ≡ length q → ⊥) → false ≡ pointwise nat_eq p q
-unlike p q n = sym (sym (same_is p q) ∙ same_lengths p q n)
-
--- the library's `v.starts_with(p)` and `v.ends_with(p)`
 module _ (p v : Str) where
-  pub begins_is : begins p v ≡ pointwise nat_eq p (take (length p) v)
+  pub begins_in : (n : ℕ) (r : Bool) → n ≡ length p → n ≤ length v → r ≡ same p (take n v) → r ≡ begins p v
   unfolding begins ◌and◌
-  begins_is =
-      by (leb (length p) (length v))
-      (λ e. rw e (same_is p (take (length p) v)))
-      (λ e. let l : length v < length p = leb-false _ _ e in
-      rw e (unlike p (take (length p) v) (λ z. omega (arith, length-take (length p) v))))
+  begins_in n r e l h = rw (← e, le-leb n (length v) l) h
 
-  pub ends_is : ends p v ≡ pointwise nat_eq p (drop (length v - length p) v)
+  pub begins_out : (n : ℕ) → n ≡ length p → length v < n → false ≡ begins p v
+  unfolding begins ◌and◌
+  begins_out n e l = rw (← e, lt-leb n (length v) l)
+
+  pub ends_in : (m n from : ℕ) (r : Bool) → m ≡ length v → n ≡ length p → from ≡ m - n → n ≤ m → r ≡ same p (take (m - from) (drop from v)) → r ≡ ends p v
   unfolding ends ◌and◌
-  ends_is =
-      by (leb (length p) (length v))
-      (λ e. rw e (same_is p (drop (length v - length p) v)))
-      (λ e. let l : length v < length p = leb-false _ _ e in
-      rw e (unlike p (drop (length v - length p) v) (λ z. omega (arith, length-drop (length v - length p) v))))
+  ends_in m n from r a b c l h =
+      let q : length v - length p ≡ from = omega arith in
+      rw (le-leb (length p) (length v) (omega arith), q) (h ∙ ap (same p) (take_all (m - from) (drop from v) (omega (arith, length-drop from v))))
+
+  pub ends_out : length v < length p → false ≡ ends p v
+  unfolding ends ◌and◌
+  ends_out l = rw (lt-leb (length p) (length v) l)
 
 module _ (t : Str) where
   pub no_first : length t ≡ 0 → false ≡ star_first t
