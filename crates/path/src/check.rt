@@ -55,11 +55,10 @@ fn has_outside(s: &[u8]) -> bool
     s.iter().any(|b| !(text::byte::is_name(*b) || *b == b'*'))
 }
 
-#[tactic(auto, using(text::proofs::Library::any_is))]
 fn has_star(s: &[u8]) -> bool
     ensures { result ≡ any is_star s.now }
 {
-    s.contains(&b'*')
+    s.iter().any(|b| *b == b'*')
 }
 
 // The string is the byte b, and nothing more.
