@@ -1,7 +1,7 @@
 // Help: what the commands are, and for each what it prints, with an example. A page begins with how its commands are called, one to a line.
 #![tactic(auto)]
 
-ghost use Rattle.std.specs.Prelude.{◌≤◌, length};
+ghost use Rattle.std.specs.Prelude.{IfSome, ◌≤◌, length};
 
 use cli_show::Stream;
 use cli_show::console::Console;
@@ -21,7 +21,9 @@ struct Asked<'a> {
 }
 
 // Where the word after the one at `at` begins; none where that is another word.
-fn after(page: &[u8], at: usize, word: &[u8]) -> Option<usize> {
+fn after(page: &[u8], at: usize, word: &[u8]) -> Option<usize>
+    ensures { IfSome result (λ next. next ≤ length page.now) }
+{
     if page.len() <= at {
         return None;
     }
