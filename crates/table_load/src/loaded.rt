@@ -21,7 +21,10 @@ pub struct Table {
 
 impl Table {
     // With no row.
-    pub fn new() -> Table {
+    pub fn new() -> Table
+        ensures empty { result.used ≡ 0 }
+        ensures no_row { (result.counts.groups ≡ 0) × (result.counts.members ≡ 0) × (result.counts.rules ≡ 0) }
+    {
         Table {
             frames: [0; limits::MAX_TABLE_BYTES],
             used: 0,
