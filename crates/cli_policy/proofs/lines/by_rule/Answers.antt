@@ -6,5 +6,5 @@ use Rattle.cli_policy.proofs.lines.by_rule.Goals as goal
 pub returns : goal.returns
 unfolding by_rule
 returns c =
-    rw (← c.rule_name-name.ensures)
+    rw (← c.rule_name-name.ensures.value)
     (simp (append_assoc, c.new-text.ensures, c.push_fact.ensures.added, c.push_str.ensures, c.push_up_to.ensures.added, c.push_str-2.ensures))
