@@ -1,3 +1,4 @@
 pub mod Rules
 pub mod Place
+pub mod Placed
 pub mod Best

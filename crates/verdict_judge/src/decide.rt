@@ -17,10 +17,11 @@ fn take_match<'a>(
 ) -> Option<Best<'a>>
     ensures { Taken best.entry number.0 (rule own.entry) (elements asked.entry) result }
 {
-    if !own.path().covers(asked) {
+    let path = own.path();
+    if !path.covers(asked) {
         return best;
     }
-    let own_rank = own.rank();
+    let own_rank = own.rank_of(path);
     if !crate::best::wins(best, own, own_rank) {
         return best;
     }
@@ -38,7 +39,8 @@ pub fn decide<'a>(rules: Rules<'a>, on: &[bool], asked: Elements) -> Option<Numb
     let mut best = None;
     for i in 0..rules.count {
         if on[i] {
-            best = take_match(best, RuleNumber(i as u16), rules.rule(i), asked);
+            let number = RuleNumber(i as u16);
+            best = take_match(best, number, rules.rule(number), asked);
         }
     }
     match best {

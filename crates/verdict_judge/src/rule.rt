@@ -6,8 +6,10 @@ ghost use Rattle.verdict.specs.Rank.{rank, top_rank};
 ghost use Rattle.table_rows.specs.Rules.{id_at, origin_at, path_at};
 ghost use Rattle.verdict_compare.specs.Place.{keys, elements};
 ghost use Rattle.verdict_judge.specs.Place.{rule, nth};
+ghost use Rattle.verdict_judge.specs.Placed.{nth as nth_placed};
 
-use crate::rules::{Rule, Rules};
+use crate::rules::{PlacedRules, Rule, Rules};
+use table::RuleNumber;
 use verdict_compare::place::{Elements, Keys};
 
 // The first byte of a subject's name, from a rule's start on.
@@ -38,14 +40,38 @@ pub fn count_keys(path: Elements) -> usize
 }
 
 impl<'a> Rules<'a> {
-    // The rule with that number.
-    pub fn rule(self, number: usize) -> Rule<'a>
-        requires { number < self.count }
-        ensures { rule result ≡ nth self.entry number }
+    // Their places alone.
+    pub fn places(self) -> PlacedRules<'a>
+        ensures bytes { result.bytes.now ≡ self.entry.bytes.now }
+        ensures starts { result.starts.now ≡ self.entry.starts.now }
+        ensures count { result.count ≡ self.entry.count }
     {
+        PlacedRules {
+            bytes: self.bytes,
+            starts: self.starts,
+            count: self.count,
+        }
+    }
+
+    // The rule with that number.
+    pub fn rule(self, number: RuleNumber) -> Rule<'a>
+        requires { number.0 < self.count }
+        ensures { rule result ≡ nth self.entry number.0 }
+    {
+        self.places().rule(number)
+    }
+}
+
+impl<'a> PlacedRules<'a> {
+    // The rule with that number.
+    pub fn rule(self, number: RuleNumber) -> Rule<'a>
+        requires { number.0 < self.count }
+        ensures { rule result ≡ nth_placed self.entry number.0 }
+    {
+        let i = number.0 as usize;
         Rule {
             bytes: self.bytes,
-            at: self.starts[number] as usize,
+            at: self.starts[i] as usize,
         }
     }
 }
@@ -122,7 +148,16 @@ impl<'a> Rule<'a> {
         ensures rank { result ≡ rank (rule self.entry) }
         ensures below { result < top_rank }
     {
-        let path = self.path();
+        self.rank_of(self.path())
+    }
+
+    // The same, where its path was read already.
+    pub fn rank_of(self, path: Elements) -> usize
+        requires path { elements path ≡ (rule self).path }
+        requires few { path.count < 256 }
+        ensures rank { result ≡ rank (rule self.entry) }
+        ensures below { result < top_rank }
+    {
         verdict::rank(
             path.count,
             count_keys(path),

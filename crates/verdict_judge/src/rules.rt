@@ -1,8 +1,9 @@
 // The rules of a loaded table, and one of them: a place carries the proof that it can be read, whatever stands there.
 ghost use Rattle.std.specs.Prelude.{◌≡◌, ◌≤◌, length};
+ghost use Rattle.limits.specs.Limits.{max_rules};
 ghost use Rattle.table_rows.specs.Rules.{rule_in, rule_end};
 ghost use Rattle.verdict.specs.Rank.{rank};
-ghost use Rattle.verdict_judge.specs.Rules.{Short, Safe};
+ghost use Rattle.verdict_judge.specs.Rules.{Short, Placed, Safe};
 
 use table::RuleNumber;
 
@@ -16,6 +17,18 @@ pub struct Rules<'a> {
     pub holders: &'a [u8],
     pub count: usize,
     ghost safe: { Safe bytes.now starts.now holders.now count },
+}
+
+// Rules of which the places alone are known: what does not ask whom a rule is about needs no group's number.
+#[derive(Clone, Copy)]
+pub struct PlacedRules<'a> {
+    // The decoded bytes.
+    pub bytes: &'a [u8],
+    // Where each rule stands.
+    pub starts: &'a [u16],
+    pub count: usize,
+    ghost placed: { Placed bytes.now starts.now count },
+    ghost few: { count ≤ max_rules },
 }
 
 #[derive(Clone, Copy)]

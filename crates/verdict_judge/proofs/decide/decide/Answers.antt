@@ -28,8 +28,8 @@ loop-i-init c =
       best = λ app h. best_none better better_order (matching app (elements c.args.asked)) R.bytes.now R.starts.now R.count;
     }
 
-pub overflow_cast-i : goal.overflow_cast-i
-overflow_cast-i c = let few = c.args.rules.safe.few in omega arith
+pub overflow_cast-number : goal.overflow_cast-number
+overflow_cast-number c = let few = c.args.rules.safe.few in omega arith
 
 pub loop-i-preserved : goal.loop-i-preserved
 loop-i-preserved c =

@@ -14,7 +14,7 @@ returns-then-not-covers c =
     let also : Rule → Bool = λ w. covers w.path (elements c.args.asked) in
     record {
       below = λ n l h. h;
-      best = λ app h. step_miss better _ _ _ app also (sym (rw c.path.ensures.path at c.covers.ensures) ∙ c.if-not-covers.true);
+      best = λ app h. step_miss better _ _ _ app also (sym (rw c.path-path.ensures.path at c.covers.ensures) ∙ c.if-not-covers.true);
     }
 
 pub returns-then-not-wins : goal.returns-then-not-wins
@@ -31,6 +31,6 @@ returns c =
     let also : Rule → Bool = λ w. covers w.path (elements c.args.asked) in
     record {
       below = λ n l h. some_below n _ l;
-      best = λ app h. step_take better _ _ _ app also h (sym (rw c.path.ensures.path at c.covers.ensures) ∙ c.if-not-covers.false)
+      best = λ app h. step_take better _ _ _ app also h (sym (rw c.path-path.ensures.path at c.covers.ensures) ∙ c.if-not-covers.false)
           (sym c.wins.ensures ∙ c.if-not-wins.false);
     }
