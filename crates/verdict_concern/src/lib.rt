@@ -25,18 +25,15 @@ impl<'a> Asker<'a> {
     }
 
     // Whether the rule with that number concerns the request.
-    pub fn is_concerned(self, rules: Rules, number: usize) -> bool
-        requires { number < rules.count }
-        ensures { result ≡ applies_to self.entry rules.entry number }
+    pub fn is_concerned(self, rules: Rules, number: RuleNumber) -> bool
+        requires { number.0 < rules.count }
+        ensures { result ≡ applies_to self.entry rules.entry number.0 }
     {
         let own = rules.rule(number);
         if own.mode() as u32 != self.mode || !text::string::is_same(own.origin(), self.origin) {
             return false;
         }
-        self.is_subject(
-            own,
-            table_membership::group_of(rules.holders, RuleNumber(number as u16)),
-        )
+        self.is_subject(own, table_membership::group_of(rules.holders, number))
     }
 
     // Marks the rules that concern the request.
@@ -46,7 +43,7 @@ impl<'a> Asker<'a> {
         ensures len_unchanged { length on.new ≡ length on.old }
     {
         for i in 0..rules.count {
-            on[i] = self.is_concerned(rules, i);
+            on[i] = self.is_concerned(rules, RuleNumber(i as u16));
         }
     }
 }

@@ -13,7 +13,7 @@ use Rattle.verdict_concern.proofs.asker.Asker.is_concerned.Goals as goal
 pub returns-then-mode-self : goal.returns-then-mode-self
 returns-then-mode-self c =
     let a = c.args.self in
-    let g = get_or c.args.rules.holders.now c.args.number 0 in
+    let g = get_or c.args.rules.holders.now c.args.number.0 0 in
     let by : Rule → Bool = λ r. applies_by a.set g a.user.now a.mode a.origin.now r in
     elim c.then-mode-self.branch [
       | then-mode-self-via-then-mode-self w ↦
@@ -27,7 +27,7 @@ returns-then-mode-self c =
 pub returns : goal.returns
 returns c =
     let a = c.args.self in
-    let g = get_or c.args.rules.holders.now c.args.number 0 in
+    let g = get_or c.args.rules.holders.now c.args.number.0 0 in
     let by : Rule → Bool = λ r. applies_by a.set g a.user.now a.mode a.origin.now r in
     let own = rule c.rule-own.result in
     c.is_subject.ensures ∙ ap (λ (n : GroupNumber). concerns_by a.set n.0 a.user.now own) c.group_of.ensures

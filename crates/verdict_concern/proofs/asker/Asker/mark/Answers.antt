@@ -19,3 +19,6 @@ loop-i-preserved c = (
 
 pub returns-clause-marks : goal.returns-clause-marks
 returns-clause-marks c = λ i l. c.loop-i.invariant.1 i (omega arith)
+
+pub overflow_cast-i : goal.overflow_cast-i
+overflow_cast-i c = let few = c.args.rules.safe.few in omega arith
