@@ -10,9 +10,13 @@ use Rattle.rule_index.specs.Found.{Kept, Tried, Scanned, Probing, Probed, Probed
 use Rattle.rule_index.specs.declared.lookup.Lookup.{Lookup}
 
 module _ (l : Lookup) where
-  -- the index is that of the rules, and the place that of the user
+  -- the index is that of the rules
+  abbrev pub Indexed : Type 0
+  Indexed = Index l.seed l.rules.bytes.now l.rules.starts.now l.rules.count l.keys.now l.first.now
+
+  -- and the place that of the user
   pub record Ready : Type 0 where
-    pub index : Index l.seed l.rules.bytes.now l.rules.starts.now l.rules.count l.keys.now l.first.now
+    pub index : Indexed
     pub place : l.place ≡ place_of l.seed buckets l.asker.user.now
     pub seed : Small l.seed
 

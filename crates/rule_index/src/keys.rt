@@ -7,8 +7,10 @@ ghost use Rattle.verdict_judge.specs.Place.{rule};
 ghost use Rattle.member_index.specs.Index.{places};
 ghost use Rattle.rule_index.specs.Index.{buckets, subject_place, Keyed, AllKeyed, Bounded, Firsts, Index};
 
+use table::RuleNumber;
 use text_hash::Seed;
-use verdict_judge::rules::{Rule, Rules};
+use verdict_compare::place::Elements;
+use verdict_judge::rules::{PlacedRules, Rule};
 
 // As many as members have places, so that a user's place serves both.
 pub const BUCKETS: usize = member_index::PLACES;
@@ -32,10 +34,12 @@ fn key_of(own: Rule, i: usize, uses: &[u16], seed: Seed) -> u64
     requires { (i < max_rules) × Small seed × (length uses.now ≡ places) }
     ensures { Keyed seed (rule own.entry) i result }
 {
-    let w = own.rank();
+    let at = own.path_at();
+    let path = Elements::read(own.bytes, at);
+    let w = own.rank_of(path);
     let c = member_index::place_at(
         own.bytes,
-        crate::clue::clue_at(own.bytes, own.path_at(), uses, seed),
+        crate::clue::clue_at(own.bytes, at, uses, seed),
         seed,
     );
     let b = (subject_place(own, seed) + c) % BUCKETS;
@@ -43,13 +47,13 @@ fn key_of(own: Rule, i: usize, uses: &[u16], seed: Seed) -> u64
 }
 
 // The keys of the rules, in the order of their numbers.
-fn make(rules: Rules, uses: &[u16], seed: Seed, keys: &mut [u64])
+fn make(rules: PlacedRules, uses: &[u16], seed: Seed, keys: &mut [u64])
     requires { (rules.count ≤ length keys.old) × Small seed × (length uses.now ≡ places) }
     ensures keyed { AllKeyed seed rules.entry.bytes.now rules.entry.starts.now rules.entry.count keys.new }
     ensures len_unchanged { length keys.new ≡ length keys.old }
 {
     for i in 0..rules.count {
-        keys[i] = key_of(rules.rule(i), i, uses, seed);
+        keys[i] = key_of(rules.rule(RuleNumber(i as u16)), i, uses, seed);
     }
 }
 
@@ -67,7 +71,7 @@ fn mark_first(keys: &[u64], n: usize, first: &mut [u16])
 }
 
 // The index of the rules. `spare` is scratch.
-pub fn index(rules: Rules, seed: Seed, keys: &mut [u64], spare: &mut [u64], first: &mut [u16])
+pub fn index(rules: PlacedRules, seed: Seed, keys: &mut [u64], spare: &mut [u64], first: &mut [u16])
     requires { (rules.count ≤ length keys.old) × (rules.count ≤ length spare.old) × (length first.old ≡ buckets) × Small seed }
     ensures { Index seed rules.entry.bytes.now rules.entry.starts.now rules.entry.count keys.new first.new }
 {

@@ -6,7 +6,7 @@ ghost use Rattle.verdict_judge.specs.Place.{nth};
 ghost use Rattle.verdict_judge.specs.Best.{kept};
 ghost use Rattle.rule_index.specs.Index.{buckets};
 ghost use Rattle.rule_index.specs.Found.{weight_of};
-ghost use Rattle.rule_index.specs.Lookup.{Ready, Keeps, Tries, Scans};
+ghost use Rattle.rule_index.specs.Lookup.{Indexed, Keeps, Tries, Scans};
 
 use crate::lookup::Lookup;
 use table::RuleNumber;
@@ -38,25 +38,23 @@ impl<'t, 'a> Lookup<'t, 'a> {
         requires { (i < self.now.rules.count) × (weight ≡ rank (nth self.now.rules i)) × Keeps self.now (kept best) }
         ensures { Tries self.now i (kept best.entry) (kept result) }
     {
-        let own = self.rules.rule(i);
+        let number = RuleNumber(i as u16);
+        let own = self.rules.rule(number);
         if !verdict_judge::best::wins(best, own, weight) {
             return best;
         }
-        if !self.asker.is_concerned(self.rules, i) || !own.path().covers(self.asked) {
+        if !self.asker.is_concerned(self.rules, number) || !own.path().covers(self.asked) {
             return best;
         }
         Some(Best {
-            found: Numbered {
-                number: RuleNumber(i as u16),
-                rule: own,
-            },
+            found: Numbered { number, rule: own },
             weight,
         })
     }
 
     // The best after the rules of the bucket.
     pub fn scan(&self, best: Option<Best<'t>>, bucket: usize) -> Option<Best<'t>>
-        requires { Ready self.now × (bucket < buckets) × Keeps self.now (kept best) }
+        requires { Indexed self.now × (bucket < buckets) × Keeps self.now (kept best) }
         ensures { Scans self.now bucket (kept best.entry) (kept result) }
     {
         let from = self.first[bucket] as usize;

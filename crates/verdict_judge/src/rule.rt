@@ -40,19 +40,6 @@ pub fn count_keys(path: Elements) -> usize
 }
 
 impl<'a> Rules<'a> {
-    // Their places alone.
-    pub fn places(self) -> PlacedRules<'a>
-        ensures bytes { result.bytes.now ≡ self.entry.bytes.now }
-        ensures starts { result.starts.now ≡ self.entry.starts.now }
-        ensures count { result.count ≡ self.entry.count }
-    {
-        PlacedRules {
-            bytes: self.bytes,
-            starts: self.starts,
-            count: self.count,
-        }
-    }
-
     // The rule with that number.
     pub fn rule(self, number: RuleNumber) -> Rule<'a>
         requires { number.0 < self.count }

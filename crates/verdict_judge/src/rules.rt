@@ -31,6 +31,21 @@ pub struct PlacedRules<'a> {
     ghost few: { count ≤ max_rules },
 }
 
+impl<'a> Rules<'a> {
+    // Their places alone.
+    pub fn places(self) -> PlacedRules<'a>
+        ensures bytes { result.bytes.now ≡ self.entry.bytes.now }
+        ensures starts { result.starts.now ≡ self.entry.starts.now }
+        ensures count { result.count ≡ self.entry.count }
+    {
+        PlacedRules {
+            bytes: self.bytes,
+            starts: self.starts,
+            count: self.count,
+        }
+    }
+}
+
 #[derive(Clone, Copy)]
 pub struct Rule<'a> {
     pub bytes: &'a [u8],

@@ -6,7 +6,7 @@ use Rattle.rule_index.proofs.keys.index.Goals as goal
 pub mark_first-requires : goal.mark_first-requires
 mark_first-requires c =
     let R = c.args.rules in (
-      R.safe.few,
+      R.few,
       omega (arith, c.requires.0, c.make.ensures.len_unchanged, c.sort.ensures.0.size),
       c.requires.2,
       keys_bounded _ R.bytes.now R.starts.now _ _ _

@@ -10,7 +10,7 @@ pub loop-i-init : goal.loop-i-init
 loop-i-init c = (refl, λ i z. absurd (omega arith))
 
 pub key_of-requires : goal.key_of-requires
-key_of-requires c = let few = c.args.rules.safe.few in (omega arith, c.requires.1, c.requires.2)
+key_of-requires c = let few = c.args.rules.few in (omega arith, c.requires.1, c.requires.2)
 
 pub loop-i-preserved : goal.loop-i-preserved
 loop-i-preserved c =

@@ -18,7 +18,7 @@ pub overflow_add-about : goal.overflow_add-about
 overflow_add-about c = omega (arith, place_within _ _ 512 _ c.requires.0.place (omega arith), c.requires.1)
 
 pub scan-own-requires : goal.scan-own-requires
-scan-own-requires c = (c.requires.0, omega arith, c.requires.2.kept)
+scan-own-requires c = (c.requires.0.index, omega arith, c.requires.2.kept)
 
 pub returns-then-self-eq0-clause-probed : goal.returns-then-self-eq0-clause-probed
 returns-then-self-eq0-clause-probed c =
@@ -30,7 +30,7 @@ returns-then-self-eq0-clause-probed c =
     (omega (arith, c.requires.3, c.requires.1)) c.scan-own.ensures
 
 pub scan-requires : goal.scan-requires
-scan-requires c = (c.requires.0, c.requires.1, c.scan-own.ensures.after.kept)
+scan-requires c = (c.requires.0.index, c.requires.1, c.scan-own.ensures.after.kept)
 
 pub returns-clause-probed : goal.returns-clause-probed
 returns-clause-probed c =
