@@ -50,6 +50,6 @@ pub fn tree_answer(rules: Rules, asker: Asker, text: &[u8]) -> Result<TreeAnswer
     asker.mark(rules, &mut on);
     let found = verdict_judge::decide::decide(rules, &on, asked);
     let v = verdict_judge::best::is_permitted(found);
-    let opposing = verdict_tree::witness::witness(rules, &on, asked, v);
+    let opposing = verdict_tree::witness::witness(rules.places(), &on, asked, v);
     Ok(verdict_request::answer::spread_of(v, opposing))
 }

@@ -22,8 +22,8 @@ use Rattle.verdict.proofs.Order.{better_order, better_rank, rank_permit}
 use Rattle.verdict.proofs.Choose.{Chosen, chosen}
 use Rattle.verdict.proofs.Paths.{covers_both_lem, covers_join_left}
 use Rattle.verdict_judge.specs.Rules.{Placed}
-use Rattle.verdict_judge.specs.Place.{nth, of_rules}
-use Rattle.verdict_judge.specs.declared.rules.Rules.{Rules}
+use Rattle.verdict_judge.specs.Placed.{nth, of_rules}
+use Rattle.verdict_judge.specs.declared.rules.PlacedRules.{PlacedRules}
 use Rattle.verdict_judge.proofs.Parts.{keys_below}
 use Rattle.verdict_judge.proofs.Numbers.{rule_there, rule_number}
 use Rattle.verdict_tree.specs.Tree.{matching_both, permits_both, Weights, Heaviest}
@@ -33,12 +33,12 @@ use Rattle.verdict_tree.proofs.Weights.{fit, ranked}
 pub own_join : (r p : Path) → covers_both r r p ≡ true
 own_join r p = sym (covers_both_lem r r p) ∙ covers_join_left r p
 
-module _ (R : Rules) (weights : List ℕ) (test : Rule → Bool) (ws : Weights test R weights R.count) where
+module _ (R : PlacedRules) (weights : List ℕ) (test : Rule → Bool) (ws : Weights test R weights R.count) where
   abbrev rs : Placed R.bytes.now R.starts.now R.count
-  rs = R.safe.rules
+  rs = R.placed
 
   few : R.count ≤ max_rules
-  few = R.safe.few
+  few = R.few
 
   abbrev rule : ℕ → Rule
   rule j = nth R j

@@ -11,8 +11,8 @@ use Rattle.limits.specs.Limits.{max_rules}
 use Rattle.text.proofs.Tests.{clash}
 use Rattle.path.specs.Path.{Path}
 use Rattle.verdict.specs.Pair.{covers_both}
-use Rattle.verdict_judge.specs.Place.{nth}
-use Rattle.verdict_judge.specs.declared.rules.Rules.{Rules}
+use Rattle.verdict_judge.specs.Placed.{nth}
+use Rattle.verdict_judge.specs.declared.rules.PlacedRules.{PlacedRules}
 use Rattle.verdict_tree.specs.Tree.{Packed, top_weight, Fits, Below, Heaviest}
 
 -- ---- the greatest below a limit
@@ -49,7 +49,7 @@ module _ (weights : List ℕ) (limit : ℕ) where
 
 -- ---- the walk
 
-module _ (R : Rules) (weights : List ℕ) (packed : (i : ℕ) → i < R.count → Packed (get_or weights i 0) i) where
+module _ (R : PlacedRules) (weights : List ℕ) (packed : (i : ℕ) → i < R.count → Packed (get_or weights i 0) i) where
   -- x is the weight of the rule whose number it has
   abbrev pub At : ℕ → Type 0
   At x = 0 < x → (x % max_rules < R.count) × (get_or weights (x % max_rules) 0 ≡ x)

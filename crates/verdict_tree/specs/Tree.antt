@@ -13,8 +13,8 @@ use Rattle.verdict.specs.Verdict.{action}
 use Rattle.verdict_filter.specs.declared.Filter.{Filter}
 use Rattle.text_hash.specs.declared.Seed.{Seed}
 use Rattle.verdict_filter.specs.Bloom.{none, beyond}
-use Rattle.verdict_judge.specs.Place.{nth}
-use Rattle.verdict_judge.specs.declared.rules.Rules.{Rules}
+use Rattle.verdict_judge.specs.Placed.{nth}
+use Rattle.verdict_judge.specs.declared.rules.PlacedRules.{PlacedRules}
 
 -- ---- the tests
 
@@ -41,7 +41,7 @@ unfoldable pub weight : (Rule → Bool) → Rule → ℕ
 weight test r = whether test r then suc (rank r) else 0
 
 -- of each of the first n rules its weight and its number, as one number
-abbrev pub Weights : (Rule → Bool) → Rules → List ℕ → ℕ → Type 0
+abbrev pub Weights : (Rule → Bool) → PlacedRules → List ℕ → ℕ → Type 0
 Weights test R weights n = (i : ℕ) → i < n → get_or weights i 0 ≡ weight test (nth R i) * max_rules + i
 
 -- more than any of these numbers
@@ -63,7 +63,7 @@ pub record Below (weights : List ℕ) (n limit r : ℕ) : Type 0 where
   pub less : 0 < r → r < limit
 
 -- those of the first n rules that fit have what their paths have beyond p
-abbrev pub Filters : Seed → Rules → List ℕ → Path → List Filter → ℕ → Type 0
+abbrev pub Filters : Seed → PlacedRules → List ℕ → Path → List Filter → ℕ → Type 0
 Filters s R weights p filters n = (i : ℕ) → i < n → Fits (get_or weights i 0) → get_or filters i none ≡ beyond s 0 (nth R i).path p
 
 -- after each of the first k that fits the next in weight
@@ -71,7 +71,7 @@ abbrev pub Nexts : List ℕ → List ℕ → ℕ → ℕ → Type 0
 Nexts weights next n k = (i : ℕ) → i < k → Fits (get_or weights i 0) → Below weights n (get_or weights i 0) (get_or next i 0)
 
 -- what is kept of the rules, p being asked; the first in weight is `first`
-pub record Prepared (R : Rules) (weights next : List ℕ) (filters : List Filter) (first : ℕ) (p : Path) : Type 0 where
+pub record Prepared (R : PlacedRules) (weights next : List ℕ) (filters : List Filter) (first : ℕ) (p : Path) : Type 0 where
   pub each_weight : R.count ≤ length weights
   pub each_next : R.count ≤ length next
   pub each_filter : R.count ≤ length filters
@@ -83,7 +83,7 @@ pub record Prepared (R : Rules) (weights next : List ℕ) (filters : List Filter
 -- ---- the deciding rule
 
 -- rule d covers the joined path of rule i's and p, and none that covers it weighs more
-pub record Heaviest (R : Rules) (weights : List ℕ) (p : Path) (i d : ℕ) : Type 0 where
+pub record Heaviest (R : PlacedRules) (weights : List ℕ) (p : Path) (i d : ℕ) : Type 0 where
   pub inside : d < R.count
   pub fits : Fits (get_or weights d 0)
   pub covering : covers_both (nth R d).path (nth R i).path p ≡ true

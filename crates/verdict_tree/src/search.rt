@@ -2,11 +2,11 @@
 // which a ghost field may not have.
 use verdict_compare::place::Elements;
 use verdict_filter::Filter;
-use verdict_judge::rules::Rules;
+use verdict_judge::rules::PlacedRules;
 
 #[derive(Clone, Copy)]
 pub struct Search<'t, 'a> {
-    pub rules: Rules<'t>,
+    pub rules: PlacedRules<'t>,
     // Of each rule its weight and its number, as one number.
     pub weights: &'a [usize],
     // After each that fits the next in weight; the heaviest of all is `first`.

@@ -40,10 +40,12 @@ returns c =
     let p = elements c.read-asked.result in
     let here = c.read-asked.ensures.path ∙ (path_bytes_lem _ r.path r.read).1 in
     let there = here ∙ sym (spelled_is c.args.text.now r.path r.reads) in
+    let same = c.places.ensures in
+    let opposes = rw (same.bytes, same.starts, same.count) at c.witness-opposing.ensures in
     λ t holding groups. c.spread_of.ensures
     ∙ ap spread
     (spread_is t R.bytes.now R.starts.now R.holders.now R.count holding a.user.now a.set groups a.mode a.origin.now p
-    c.mark.new.on c.mark.ensures.marks _ (held c.witness-opposing.result) c.witness-opposing.ensures (ap key_twice here ∙ r.once)
+    c.mark.new.on c.mark.ensures.marks _ (held c.witness-opposing.result) opposes (ap key_twice here ∙ r.once)
     (verdict_is t R.bytes.now R.starts.now R.holders.now R.count holding a.user.now a.set groups a.mode a.origin.now p
     c.mark.new.on c.mark.ensures.marks (held c.decide-found.result) _ c.decide-found.ensures.best c.is_permitted-v.ensures))
     ∙ ap (λ (p : Path). spread (tree t (asked a.user.now a.mode a.origin.now p))) there

@@ -8,7 +8,7 @@ use Rattle.table.specs.Table.{Rule}
 use Rattle.verdict_compare.specs.Place.{elements}
 use Rattle.verdict_filter.specs.declared.Filter.{Filter}
 use Rattle.verdict_filter.specs.Bloom.{none, beyond}
-use Rattle.verdict_judge.specs.Place.{nth}
+use Rattle.verdict_judge.specs.Placed.{nth}
 use Rattle.verdict_judge.proofs.Storing.{stored_in}
 use Rattle.verdict_tree.specs.Tree.{Fits}
 use Rattle.verdict_tree.proofs.filter.fill.Goals.{then-weights-i-ge-MAX_RULES, else-weights-i-ge-MAX_RULES}

@@ -4,7 +4,7 @@ use Prim.Native.Nat.{ℕ, ◌+◌, ◌*◌}
 use lib.ListN.{get_or, length-set}
 use Rattle.limits.specs.Limits.{max_rules}
 use Rattle.verdict_compare.specs.Place.{elements}
-use Rattle.verdict_judge.specs.Place.{nth}
+use Rattle.verdict_judge.specs.Placed.{nth}
 use Rattle.verdict_judge.proofs.Storing.{stored_in}
 use Rattle.verdict_tree.specs.Tree.{Packed, weight, fitting}
 use Rattle.verdict_tree.proofs.Weights.{pack}
@@ -17,7 +17,7 @@ pub overflow_mul-weights : goal.overflow_mul-weights
 overflow_mul-weights c = let e = c.weight_of.ensures.light in omega arith
 
 pub overflow_add-weights : goal.overflow_add-weights
-overflow_add-weights c = let e = c.weight_of.ensures.light in let few = c.args.rules.safe.few in omega arith
+overflow_add-weights c = let e = c.weight_of.ensures.light in let few = c.args.rules.few in omega arith
 
 pub loop-i-preserved : goal.loop-i-preserved
 loop-i-preserved c =
@@ -28,7 +28,7 @@ loop-i-preserved c =
     let room = c.loop-i.invariant.0 in (
       length-set c.loop-i.weights i _ ∙ c.loop-i.invariant.0,
       stored_in 0 (λ (j v : ℕ). Packed v j) c.loop-i.weights i x (omega arith) c.loop-i.invariant.1
-          (pack _ _ w.light (let few = R.safe.few in omega arith)),
+          (pack _ _ w.light (let few = R.few in omega arith)),
       λ app h. stored_in 0 (λ (j v : ℕ). v ≡ weight (fitting app (elements c.args.asked)) (nth R j) * max_rules + j)
           c.loop-i.weights i x (omega arith) (c.loop-i.invariant.2 app h)
           (ap (λ (y : ℕ). y * max_rules + i) (w.weighs app (h _ c.loop-i-test.true))),

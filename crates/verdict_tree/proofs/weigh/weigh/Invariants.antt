@@ -4,7 +4,7 @@ use Prim.Native.Nat.{ℕ, ◌<◌}
 use lib.ListN.{length, get_or}
 use Rattle.table.specs.Table.{Rule}
 use Rattle.verdict_compare.specs.Place.{elements}
-use Rattle.verdict_judge.specs.Place.{marked}
+use Rattle.verdict_judge.specs.Placed.{marked}
 use Rattle.verdict_tree.specs.Tree.{Weights, Packed, fitting}
 use Rattle.verdict_tree.proofs.weigh.weigh.Given as goal
 

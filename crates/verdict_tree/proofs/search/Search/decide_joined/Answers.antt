@@ -10,7 +10,7 @@ pub loop-x-init : goal.loop-x-init
 loop-x-init c =
     let s = c.args.self.now in let k = c.requires.0 in (
       at_below s.rules s.weights.now k.packed _ _ k.start,
-      past_start s.rules s.weights.now k.packed (elements s.asked) c.args.i _ k.start,
+      past_start s.rules s.weights.now k.packed (elements s.asked) c.args.i.0 _ k.start,
     )
 
 pub covers_joined-requires-clause-inside : goal.covers_joined-requires-clause-inside
@@ -26,7 +26,7 @@ pub returns-then-covers_joined : goal.returns-then-covers_joined
 returns-then-covers_joined c =
     let s = c.args.self.now in
     let e = c.loop-x.invariant.0 (omega arith) in
-    found s.rules s.weights.now c.requires.0.packed (elements s.asked) c.args.i _ c.loop-x.x e.0 (omega arith)
+    found s.rules s.weights.now c.requires.0.packed (elements s.asked) c.args.i.0 _ c.loop-x.x e.0 (omega arith)
     (sym c.covers_joined.ensures ∙ c.if-covers_joined.true) (omega arith) c.loop-x.invariant.1
 
 pub bounds-self-j : goal.bounds-self-j
@@ -45,7 +45,7 @@ loop-x-preserved c =
     let b = c.requires.0.nexts _ e.0 (omega arith) in
     let packed = c.requires.0.packed in (
       at_below s.rules s.weights.now packed _ _ b,
-      past_next s.rules s.weights.now packed (elements s.asked) c.args.i
+      past_next s.rules s.weights.now packed (elements s.asked) c.args.i.0
           c.loop-x.x _ c.loop-x.invariant.0 (omega arith) c.loop-x.invariant.1
           (sym c.covers_joined.ensures ∙ c.if-covers_joined.false) b,
     )
@@ -53,5 +53,5 @@ loop-x-preserved c =
 pub returns : goal.returns
 returns c =
     let s = c.args.self.now in
-    found s.rules s.weights.now c.requires.0.packed (elements s.asked) c.args.i _ c.loop-x.x c.requires.1 c.requires.2
+    found s.rules s.weights.now c.requires.0.packed (elements s.asked) c.args.i.0 _ c.loop-x.x c.requires.1 c.requires.2
     (own_join _ _) (omega arith) c.loop-x.invariant.1

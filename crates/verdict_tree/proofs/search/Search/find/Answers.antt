@@ -4,7 +4,7 @@ use Rattle.table.specs.Table.{Rule}
 use Rattle.verdict.specs.Order.{earlier}
 use Rattle.verdict.proofs.Order.{earlier_order}
 use Rattle.verdict_compare.specs.Place.{elements}
-use Rattle.verdict_judge.specs.Place.{of_rules}
+use Rattle.verdict_judge.specs.Placed.{of_rules}
 use Rattle.verdict_judge.specs.Best.{held}
 use Rattle.verdict_judge.proofs.Steps.{best_none, best_turn, best_end}
 use Rattle.verdict_tree.specs.Tree.{opposing}

@@ -5,7 +5,7 @@ use Rattle.table.specs.Table.{Rule}
 use Rattle.verdict.specs.Order.{earlier, choose, prefer}
 use Rattle.table_rows.specs.Rules.{rules_in}
 use Rattle.verdict_compare.specs.Place.{elements}
-use Rattle.verdict_judge.specs.Place.{of_rules}
+use Rattle.verdict_judge.specs.Placed.{of_rules}
 use Rattle.verdict_judge.specs.Best.{held}
 use Rattle.verdict_tree.specs.Tree.{opposing, Weights}
 use Rattle.verdict_tree.proofs.search.Search.find.Given as goal
