@@ -18,16 +18,27 @@ shape() {
     sed -n "s/^$2: *//p" "$1" | sed 's/[A-Za-z0-9_]\+/w/g'
 }
 
-# CRATE PLACE: whether the function at this place, FILE:LINE:.., has answers of its own.
+# FILE LINE: the type in whose `impl` this line stands; nothing where it stands in none. What stands in an item is indented.
+impl_of() {
+    head -n "$2" "$1" | sed -n '/^impl\|^}/h; ${g; s/^impl\(<[^>]*>\)\? *\(.* for \)\?\([A-Za-z0-9_]*\).*/\3/p}'
+}
+
+# CRATE PLACE: whether the function at this place, FILE:LINE:.., has answers of its own, in a folder of its name: in that of its type, or else of its module.
 has_answers() {
-    local crate=$1 file line name module
+    local crate=$1 file line name module type
     IFS=: read -r file line _ <<<"$2"
     [ -f "crates/$crate/$file" ] || return 1
     name=$(head -n "$line" "crates/$crate/$file" | grep -o '\bfn [a-z_0-9]*' | tail -n 1 | cut -d ' ' -f 2)
+    [ -n "$name" ] || return 1
+    type=$(impl_of "crates/$crate/$file" "$line")
+    if [ -n "$type" ]; then
+        [ -d "crates/$crate/proofs/$type/$name" ]
+        return
+    fi
     module=${file#src/}
     module=${module%.rt}
     case $module in lib | main) module=. ;; esac
-    [ -n "$name" ] && { [ -d "crates/$crate/proofs/$module/$name" ] || ls -d "crates/$crate"/proofs/*/"$name" >"$work/found" 2>&1 || ls -d "crates/$crate"/proofs/+*/"$module/$name" "crates/$crate"/proofs/+*/"$name" >"$work/found" 2>&1; }
+    [ -d "crates/$crate/proofs/$module/$name" ] || ls -d "crates/$crate"/proofs/+*/"$module/$name" "crates/$crate"/proofs/+*/"$name" >"$work/found" 2>&1
 }
 
 status=0

@@ -38,7 +38,7 @@ command_line cli_probe/src/lib.rt rotate rpc judges though its headers cannot be
 command_line cli/src/main.rt rpc judges though its headers cannot be read: in rpc s/ & also.is_good//
 command_line cli/src/main.rt rpc judges though its policy cannot be read: in rpc s/got.is_good & //
 command_line cli_rotation/src/steps.rt rotate upload takes a text that cannot be read: in upload s/if got.is_good/if true/
-rotation cli_record/src/lib.rt rotate show of a short store: in tell s/refusal(r, n,/refusal(r, limits::STORE_LENGTH,/
+rotation cli_record/src/lib.rt rotate show of a short store: in tell s/r.check(n)/r.check(limits::STORE_LENGTH)/
 rotation cli_rotation/src/steps.rt a file that is shorter than a record: in open s/got.count != cli_record::LENGTH/false/
 command_line cli_record/src/lines.rt rotating 2 shown as off: in add_rotation s/n == 0/n != 1/
 command_line cli_record/src/lines.rt rotating 256 shown as off: in add_rotation s/n == 0/n % 256 == 0/
@@ -54,17 +54,17 @@ lines cli_console/src/quote.rt bytes that do not print are printed: in add_byte 
 readable cli/src/main.rt a long readable text is cut: s/TEXT_ROOM: usize = 131073/TEXT_ROOM: usize = 40000/
 command_line cli/src/main.rt a long table is cut: s/TEXT_ROOM: usize = 131073/TEXT_ROOM: usize = 32768/
 rotation cli_readable/src/lib.rt pack saves nothing: in pack_table s/words == 4/false/
-log cli/src/main.rt log pack shows: in log s/convert(console, true, 3)/convert(console, false, 3)/
+log cli/src/main.rt log pack shows: in log s/Direction::Pack, 3/Direction::Show, 3/
 log cli_readable/src/logs.rt a log of 1,000,000 lines is refused: in print_lines s/from < text.len()) \&/from <= text.len()) \&/
 log cli_readable/src/logs.rt one line too many is converted: in print_lines s/MAX_LOG_LINES + 1 - number/MAX_LOG_LINES + 2 - number/
 log cli_readable/src/logs.rt bytes after the last LF are passed over: in convert s/if from < to/if false/
 log cli_readable/src/logs.rt a line is numbered within its part: in convert s/\[..from\], number)/[..from], 1)/
-log cli_readable/src/logs.rt a line that is too long is kept: in convert s/longest(packing) <= to - from/false/
-log cli_readable/src/logs.rt a line that is too long is quoted: in quote s/if longest(packing) <= .* {/if false {/
-log cli_readable/src/logs.rt a refused line of a log is told as one of readable text: in refuse s/if packing {/if true {/
+log cli_readable/src/logs.rt a line that is too long is kept: in convert s/longest(direction) <= to - from/false/
+log cli_readable/src/logs.rt a line that is too long is quoted: in quote s/if longest(direction) <= .* {/if false {/
+log cli_readable/src/logs.rt a refused line of a log is told as one of readable text: in refuse s/match direction/match Direction::Pack/
 log cli_readable/src/logs.rt one line too many is told as a bad one: in refuse s/limits::MAX_LOG_LINES < number/false/
 log cli_parts/src/lib.rt an unfinished line is lost: in more s/keep(buf, from, to)/keep(buf, to, to)/
-log cli_parts/src/lib.rt an unfinished line is used before it ends: in whole_length s/let mut n = text.len();/let mut n = text.len();\n    return n;/
+log cli_parts/src/lib.rt an unfinished line is used before it ends: in whole_length s/^    for n in/    return text.len();\n    for n in/
 command_line cli_answers/src/rows.rt group 63 not listed: in add_groups s/0\.\.n/0..n.min(63)/
 command_line cli_explained/src/lib.rt two rules explained at most: in add_ranking s/0\.\.m/0..m.min(2)/
 command_line cli_explained/src/lib.rt 255 rules explained at most: in add_ranking s/0\.\.m/0..m.min(255)/
@@ -86,7 +86,7 @@ rotation cli_readable/src/lib.rt a table saved as a file named -: in save s/cli_
 command_line cli_rotation/src/steps.rt start, finalize, close and show take more words: in takes s/words == 4/3 < words/
 command_line cli_rotation/src/steps.rt upload and new take more words: in takes s/words == 5/4 < words/
 command_line cli_rotation/src/steps.rt probes of a table take more words: in takes s/words == 8/7 < words/
-command_line cli_rotation/src/steps.rt rotate rpc takes more words: in takes s/(words == 6) | (words == 7)/5 < words/
+command_line cli_rotation/src/steps.rt rotate rpc takes more words: in takes s/words == 6 || words == 7/5 < words/
 command_line cli_rotation/src/steps.rt start, finalize, close and show take fewer words: in takes s/words == 4/words < 5/
 command_line cli_rotation/src/steps.rt probes of a table take fewer words: in takes s/words == 8/(words == 7) | (words == 8)/
 command_line cli/src/main.rt table, show and policy take more words: in takes s/=> words == 3/=> 2 < words/
@@ -105,34 +105,34 @@ slips cli_table/src/tables.rt tree says nothing of a user who is not named: in t
 slips cli_table/src/explanation.rt explain says nothing of a user who is not named: in all s/cli_names::tell(console, text, user);//
 slips cli_probe/src/lib.rt the probes say nothing of a user who is not named: in answer_table s/cli_names::tell(console, text, user);//
 reports cli_season/src/sums.rt the last report is left out: in run s/2\.\.words/2..words - 1/
-reports cli_season/src/sums.rt a report that cannot be read is passed over: in add s/        return false;/        return true;/
-reports cli_season/src/sums.rt a report that is refused is passed over: in add s/    false$/    true/
+reports cli_season/src/sums.rt a report that cannot be read is passed over: in add {/is_good/,/}/s/return false/return true/}
+reports cli_season/src/sums.rt a report that is refused is passed over: in add {/quote(/,$s/return false/return true/}
 reports cli_season/src/sums.rt a longer text is cut to the longest report: s/TEXT_ROOM: usize = MAX_REPORT + 1/TEXT_ROOM: usize = MAX_REPORT/
 reports cli_season/src/sums.rt refusals on standard output: in refuse s/Stream::Error/Stream::Output/
 reports cli_season/src/sums.rt a refused report is not marked: in refuse s/cli_show::marks::refusal(console);//
 reports cli_season/src/sums.rt the line of a refused report is not shown: in add s/quote(.*);//
 reports cli_season/src/sums.rt a missing line is shown: in quote s/limits::REPORT_LINES < line/true/
 reports cli_season/src/sums.rt a missing LF is not told: in quote s/^            is_all,/            false,/
-reports cli_season/src/sums.rt standard input read twice: in is_read_once s/is_named & is_standard/false/
-reports cli_season/src/refusals.rt reasons exchanged: in reason {s/Outcome::LineCount/Outcome::Swap/; s/Outcome::TooLarge/Outcome::LineCount/; s/Outcome::Swap/Outcome::TooLarge/}
+reports cli_season/src/sums.rt standard input read twice: in is_read_once s/is_named && is_standard/false/
+reports cli_season/src/refusals.rt reasons exchanged: in reason {s/BadReport::LineCount/BadReport::Swap/; s/BadReport::TooLarge/BadReport::LineCount/; s/BadReport::Swap/BadReport::TooLarge/}
 reports cli/src/main.rt report-sum without a report: in takes s/2 < words/1 < words/
 season cli/src/main.rt season prints the report: in on_log s/cli_season::season(console, table, 3)/cli_report::report(console, table, 3)/
 season cli/src/main.rt report prints the page: in on_log s/cli_report::report(console, table, 3)/cli_season::season(console, table, 3)/
 season cli/src/main.rt standard input read twice for a report: in report s/input::is_standard(console, 2) & input::is_standard(console, 3)/false/
 season cli/src/main.rt report and season take more words: in takes s/Season => words == 4/Season => 3 < words/
 season cli/src/main.rt a table that cannot be read is counted on: in report s/if got.is_good/if true/
-season cli_report/src/lib.rt a report though the log is refused: in report s/if \(count(.*)\) {/if \1 | true {/
-season cli_season/src/lib.rt a page though the log is refused: in season s/if \(cli_report::count(.*)\) {/if \1 | true {/
+season cli_report/src/lib.rt a report though the log is refused: in report s/if let Some(tally) = \(count(.*)\) {/let tally = \1.unwrap_or(Tally::new());\n    if true {/
+season cli_season/src/lib.rt a page though the log is refused: in season s/if let Some(tally) = \(cli_report::count(.*)\) {/let tally = \1.unwrap_or(Tally::new());\n    if true {/
 season cli_season/src/lib.rt no page is printed: in page s/cli_show::word(.*);//
-season cli_season/src/making.rt rules that never decided are left out: in add_never s/cli_season_rules::never_lines(.*)/b/
-season cli_report/src/lib.rt a log that cannot be read taken as one that ends: in count_parts s/!got.is_good/false/
+season cli_season/src/making.rt rules that never decided are left out: in add_never s/cli_season_rules::add_never(.*);//
+season cli_report/src/lib.rt a log that cannot be read taken as one that ends: in count_file s/!got.is_good/false/
 season cli_report/src/lib.rt a refused log on standard output: in refuse s/Stream::Error, number/Stream::Output, number/
 season cli_report/src/lib.rt a refused table on standard output: in refuse_table s/Stream::Error, number/Stream::Output, number/
-season cli_report/src/lib.rt the line of a refused log is not shown: in refuse s/if before < line/if false/
+season cli_report/src/lib.rt the line of a refused log is not shown: in refuse s/if before < fault.line/if false/
 season cli_report/src/lib.rt another line of a refused log is shown: in refuse s/line - before/line/
 season cli_report/src/lib.rt a missing LF of a log is not told: in refuse s/line - before, true/line - before, false/
-season cli_report/src/lib.rt the lines of each part are numbered anew: in count_parts s/^            all,$/            0,/
-season cli_report/src/lib.rt the first part alone is counted: in count_parts s/^        if to < part.len() {/        if to <= part.len() {/
+season cli_report/src/lib.rt the lines of each part are numbered anew: in count_file s/let before = tally.lines;/let before = tally.lines; tally.lines = 0;/
+season cli_report/src/lib.rt the first part alone is counted: in count_file s/if to < part.len() {/if to <= part.len() {/
 season cli_report/src/lib.rt an unfinished line is counted: in lines_end s/input::within(n, part)/to/
 season cli_parts/src/lib.rt an unfinished line of a report is lost: in more s/keep(buf, from, to)/keep(buf, to, to)/
 season cli_report/src/progress.rt told where standard error is no terminal: in begin s/!console.rt.stderr().is_terminal()/false/
