@@ -5,5 +5,6 @@ pub mod input;
 pub mod lines;
 mod quote;
 pub mod refused;
+pub mod rows;
 pub mod say;
 pub mod source;
