@@ -31,7 +31,7 @@ fn raise(counts: &mut [u64; limits::MAX_RULES], rule: RuleNumber)
 }
 
 // The place of the rule that decided is raised, if one did.
-fn count_rule(counts: &mut [u64; limits::MAX_RULES], a: PathAnswer)
+pub fn count_rule(counts: &mut [u64; limits::MAX_RULES], a: PathAnswer)
     requires { Placed (on_path a) × ((i : Prim.Native.Nat.ℕ) → get_or counts.old i 0 ≤ max_log_lines) }
     ensures { counts.new ≡ raised_by counts.old (on_path a) }
 {
@@ -53,7 +53,7 @@ fn column(a: PathAnswer) -> usize
 }
 
 // One cell is raised, in the row of the mode.
-fn count_cell(grid: &mut [[u64; 3]; 2], mode: u8, a: PathAnswer)
+pub fn count_cell(grid: &mut [[u64; 3]; 2], mode: u8, a: PathAnswer)
     requires { (1 ≤ mode) × (mode ≤ 2) × ((r c : Prim.Native.Nat.ℕ) → cell_of grid.old r c ≤ max_log_lines) }
     ensures { grid.new ≡ cell_raised_by grid.old mode (on_path a) }
 {
