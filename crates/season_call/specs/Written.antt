@@ -1,6 +1,5 @@
 -- What the programs that make the text of a report answer.
-use Rattle.std.specs.Prelude.{ℕ, ◌*◌, List, [], ◌∷◌, ◌++◌, Result, Ok, Err}
-use Rattle.limits.specs.Sizes.{report_lines}
+use Rattle.std.specs.Prelude.{ℕ, List, [], ◌∷◌, ◌++◌, Result, Ok, Err}
 use Rattle.text.specs.String.{joined}
 use Rattle.table.specs.Checked.{Accepted}
 use Rattle.refusal.specs.Refusal.{number}
@@ -15,10 +14,6 @@ use Rattle.season_count.specs.declared.count.Tally.{Tally}
 -- room for the line of any number of 64 bits
 abbrev pub line_room : ℕ
 line_room = 21
-
--- and for those of a report
-abbrev pub report_room : ℕ
-report_room = report_lines * line_room
 
 -- the six cells, row after row
 abbrev pub cells_in : List (List ℕ) → List ℕ

@@ -23,7 +23,7 @@ fn report(table: &[u8], log: &[u8], out: &mut [u8]) -> Result<usize, Fault>
     let mut run = Run::new();
     let mut tally = Tally::new();
     count_lines(Loaded::of(&loaded), log, &mut run, &mut tally)?;
-    crate::written::hand_out(&tally, out)
+    crate::written::hand_out(&tally.rules, &tally.grid, out)
 }
 
 // The same, answered as `season_answer` has it.
