@@ -101,7 +101,7 @@ pub fn count(console: &mut Console, table: &[u8], argument: usize) -> Option<Tal
 // Prints the report.
 fn print(console: &mut Console, tally: &Tally) {
     let mut text: Text<MAX_REPORT> = Text::new();
-    season_call::written::add_report(tally, &mut text);
+    season_call::written::add_report(&tally.rules, &tally.grid, &mut text);
     cli_show::word(console, text.as_bytes());
 }
 
