@@ -28,7 +28,7 @@ use Rattle.readable_parts.specs.Parts.{Parts, part_of}
 use Rattle.readable_lines.specs.Form.{parts, form_by, request_form, printed, shown_by, shown_frame, kind_by, packed_by, packed_frame}
 use Rattle.readable_parts.specs.Steps.{longest, Puts, puts, stops}
 use Rattle.readable_parts.specs.declared.Direction.TheVariants.{Show, Pack}
-use Rattle.readable_lines.specs.Steps.{max_made_frame, parts_by, room_for, Fills, fills, nothing, closed, kind_said}
+use Rattle.readable_lines.specs.Steps.{max_made_frame, parts_by, room_for, Fills, fills, nothing, stored_end, closed, kind_said}
 use Rattle.readable_parts.proofs.Stored.{put_to, put_not, front}
 
 -- ---- parts
@@ -158,36 +158,27 @@ room_request = omega arith
 -- ---- frames, shown
 
 module _ (r : Reader Str) (f : Str) (at : ℕ) where
-  module _ {d d' : List ℕ} {q : MaybeStored} (e : Puts max_readable_line r f at d 0 d' q) where
-    pub shown_unread : q ≡ None → shown_by r at f ≡ none
-    unfolding shown_by whole printed
-    shown_unread g = rw (put_not e g)
+  pub shown_room : {d d' : List ℕ} {q : MaybeStored} → Puts max_readable_line r f at d 0 d' q → max_made_frame ≤ length d → stored_end q ≤ length d'
+  unfolding stored_end
+  shown_room (puts {w = w} {d = d} {d' = d'} {end = end} i v b l) h = omega (arith, v.ends, wrote_long d 0 w d' end v (omega (arith, b)), b)
+  shown_room (stops i) h = omega arith
 
-    module _ {o : Stored} (g : q ≡ Some o) where
-      pub shown_room : max_made_frame ≤ length d → o.end ≤ length d'
-      shown_room h = let u = put_to e g in omega (arith, u.2.ends, wrote_long d 0 u.0 d' o.end u.2 (omega (arith, u.3)), u.3)
-
-      pub shown_fills : Fills (shown_by r at f) d d' (closed (length f) d' o)
-      unfolding shown_by whole printed closed ◌and◌ whether◌then◌else◌
-      shown_fills =
-          let u = put_to e g in
-          let k : take o.end d' ≡ u.0 = front d u.0 d' o.end u.2 in
-          by (eqb o.next (length f))
-          (λ x. by (all is_print u.0) (λ p. rw (u.1, x, k, p) (fills u.2 (omega (arith, u.2.ends, u.3)))) (λ p. rw (u.1, x, k, p) nothing))
-          (λ x. rw (u.1, x) nothing)
+  pub shown_fills : {d d' : List ℕ} {q : MaybeStored} → Puts max_readable_line r f at d 0 d' q → Fills (shown_by r at f) d d' (closed (length f) d' q)
+  unfolding shown_by whole printed closed ◌and◌ whether◌then◌else◌
+  shown_fills (puts {w = w} {t = t} {d = d} {d' = d'} {end = end} i v b l) =
+      let k : take end d' ≡ w = front d w d' end v in
+      by (eqb t (length f))
+      (λ u. by (all is_print w) (λ p. rw (i, u, k, p) (fills v (omega (arith, v.ends, b)))) (λ p. rw (i, u, k, p) nothing))
+      (λ u. rw (i, u) nothing)
+  shown_fills (stops i) = rw i nothing
 
 pub frame_empty : (f : Str) → length f ≤ 0 → shown_frame f ≡ none
 frame_empty [] h = unfold shown_frame shown_by form_by whether◌then◌else◌ unknown whole printed in refl
 frame_empty (x ∷ f) h = absurd (omega arith)
 
-module _ (f : Str) {d d' : List ℕ} {q : MaybeStored} (e : Puts max_readable_line (form_by (parts_by Show) (get_or f 0 0)) f 1 d 0 d' q) where
-  pub frame_unread : q ≡ None → shown_frame f ≡ none
-  unfolding shown_frame parts_by whether◌then◌else◌
-  frame_unread g = shown_unread _ f 1 e g
-
-  pub frame_fills : {o : Stored} → q ≡ Some o → Fills (shown_frame f) d d' (closed (length f) d' o)
-  unfolding shown_frame parts_by whether◌then◌else◌
-  frame_fills g = shown_fills _ f 1 e g
+pub frame_fills : (f : Str) {d d' : List ℕ} {q : MaybeStored} → Puts max_readable_line (form_by (parts_by Show) (get_or f 0 0)) f 1 d 0 d' q → Fills (shown_frame f) d d' (closed (length f) d' q)
+unfolding shown_frame parts_by whether◌then◌else◌
+frame_fills f e = shown_fills _ f 1 e
 
 -- ---- readable lines, packed
 

@@ -7,7 +7,6 @@ use Rattle.text.specs.Byte.{is_print}
 use Rattle.text.specs.String.{Str}
 use Rattle.text.specs.Steps.{Wrote}
 use Rattle.table_line.specs.Lines.{lines}
-use Rattle.path_read.specs.declared.reader.Stored.{Stored}
 use Rattle.path_read.specs.Steps.{MaybeStored, reached}
 use Rattle.std.specs.Prelude as program
 use Rattle.readable_parts.specs.Parts.{Parts, shown, packed}
@@ -38,9 +37,15 @@ pub data Fills : Option Str → List ℕ → List ℕ → program.Option ℕ →
   fills : {w : Str} {d d' : List ℕ} {end : ℕ} → Wrote d 0 w d' end → end ≤ max_made_frame → Fills (some w) d d' (Some end)
   nothing : {d d' : List ℕ} → Fills none d d' None
 
+-- where what was stored ends
+unfoldable pub stored_end : MaybeStored → ℕ
+stored_end (Some r) = r.end
+stored_end None = 0
+
 -- where a reading ended that took all of `size` bytes and stored printable text at the start of `out`
-unfoldable pub closed : ℕ → List ℕ → Stored → program.Option ℕ
-closed size out r = whether eqb r.next size and all is_print (take r.end out) then Some r.end else None
+unfoldable pub closed : ℕ → List ℕ → MaybeStored → program.Option ℕ
+closed size out (Some r) = whether eqb r.next size and all is_print (take r.end out) then Some r.end else None
+closed size out None = None
 
 -- the number of a kind, 0 for none
 abbrev pub kind_said : program.Option ℕ → ℕ

@@ -4,7 +4,7 @@ ghost use Rattle.limits.specs.Sizes.{max_readable_line};
 ghost use Rattle.readable_parts.specs.Parts.{part_of};
 ghost use Rattle.readable_lines.specs.Form.{parts, form_by, shown_frame, kind_by, packed_frame};
 ghost use Rattle.readable_parts.specs.Steps.{longest, Puts};
-ghost use Rattle.readable_lines.specs.Steps.{max_made_frame, parts_by, room_for, Fills, closed, kind_said};
+ghost use Rattle.readable_lines.specs.Steps.{max_made_frame, parts_by, room_for, Fills, stored_end, closed, kind_said};
 
 use path_read::reader::Stored;
 use readable_parts::Direction;
@@ -69,15 +69,16 @@ fn by_kind(
 }
 
 // The length of what was shown of a frame of `size` bytes, where it is all of the frame, and printable.
-pub fn close_shown(shown: Stored, size: usize, out: &[u8]) -> Option<usize>
-    requires { shown.end ≤ length out.now }
+pub fn close_shown(shown: Option<Stored>, size: usize, out: &[u8]) -> Option<usize>
+    requires { stored_end shown ≤ length out.now }
     ensures { result ≡ closed size out.now shown }
 {
-    if shown.next != size {
+    let stored = shown?;
+    if stored.next != size {
         return None;
     }
-    if text::string::all_print(&out[..shown.end]) {
-        Some(shown.end)
+    if text::string::all_print(&out[..stored.end]) {
+        Some(stored.end)
     } else {
         None
     }
@@ -91,7 +92,7 @@ pub fn show_frame(f: &[u8], out: &mut [u8]) -> Option<usize>
     if f.len() == 0 {
         return None;
     }
-    let shown = by_kind(Direction::Show, f[0], f, 1, out, 0)?;
+    let shown = by_kind(Direction::Show, f[0], f, 1, out, 0);
     close_shown(shown, f.len(), out)
 }
 

@@ -27,7 +27,7 @@ pub fn show_request(f: &[u8], out: &mut [u8]) -> Option<usize>
     if !is_good(f) {
         return None;
     }
-    let shown = form::convert_parts(Direction::Show, b"M S origin S P", f, 0, out, 0)?;
+    let shown = form::convert_parts(Direction::Show, b"M S origin S P", f, 0, out, 0);
     form::close_shown(shown, f.len(), out)
 }
 
