@@ -204,8 +204,8 @@ others() {
 1,500,000 3,000,000          how many requests were tried
 26,915          the bytes of a table that was timed
 1,553 1,438     lines of proofs
-62,168          measured: the stack of an upload (rust/tests/stack.rs)
-60,648          measured: the stack of a season report (rust/tests/stack.rs)
+62,040          measured: the stack of an upload (rust/tests/stack.rs)
+60,520          measured: the stack of a season report (rust/tests/stack.rs)
 1,000,001       the first line of a log that is one too many, in the customer's words
 END
 }
